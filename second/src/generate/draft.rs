@@ -1,0 +1,250 @@
+//! Messages in the making, whose fields may be outside what the rules allow.
+
+use super::random::Random;
+
+/// A field by what it may hold.
+#[derive(Clone, Copy, Debug, PartialEq, Eq)]
+pub enum Slot {
+    Any4,
+    Any2,
+    Flags,
+    Enabled,
+    Command,
+    Start,
+    MoveType,
+    ExecResult,
+    Padding,
+    // Lengths of the strings that follow the fields.
+    Program,
+    Directory,
+    Arguments,
+    Echo,
+    Id,
+}
+
+use Slot::*;
+
+/// Each type with its fields.
+pub const KINDS: [(u16, &[Slot]); 13] = [
+    (0x0001, &[Flags, Program, Directory, Arguments]),
+    (0x0002, &[Any4, Enabled]),
+    (0x0004, &[Any4, Command]),
+    (0x0005, &[Any4]),
+    (0x0006, &[Any4, Any4, Any4]),
+    (0x0008, &[Any4, Any2, Any2, Any2, Any2]),
+    (0x0009, &[Any4, Start, MoveType, Any2, Any2]),
+    (
+        0x000A,
+        &[Any4, Any2, Any2, Any2, Any2, Any2, Any2, Any2, Any2],
+    ),
+    (0x000B, &[Any4]),
+    (0x000C, &[Any4, Any2, Any2]),
+    (0x000E, &[Any4]),
+    (APPLICATION_ID, &[Any4, Id]),
+    (0x0080, &[Any2, ExecResult, Any4, Padding, Echo]),
+];
+
+const APPLICATION_ID: u16 = 0x000F;
+const APPLICATION_ID_MESSAGE: usize = 528;
+
+impl Slot {
+    /// Bytes in a message and in a `P` item.
+    fn widths(self) -> (usize, usize) {
+        match self {
+            Any4 => (4, 4),
+            Enabled => (1, 1),
+            Start => (2, 1),
+            Padding => (2, 0),
+            Id => (0, 2),
+            _ => (2, 2),
+        }
+    }
+
+    fn is_length(self) -> bool {
+        matches!(self, Program | Directory | Arguments | Echo | Id)
+    }
+
+    /// A number that the rules allow.
+    fn usual(self, random: &mut Random) -> u32 {
+        match self {
+            Any4 => any_number(random, 0xFFFF_FFFF),
+            Any2 => any_number(random, 0xFFFF),
+            Flags => random.pick(&[0, 1, 4, 5, 6, 7, 8, 9, 12, 14, 15, 16, 20, 24, 30, 31]),
+            Enabled => random.pick(&[0, 1]),
+            Command => random.pick(&[
+                0xF000, 0xF010, 0xF020, 0xF030, 0xF060, 0xF100, 0xF120, 0xF160,
+            ]),
+            Start => random.pick(&[0, 1, 2, 0x100, 0xFFFF]),
+            MoveType => 1 + random.below(11) as u32,
+            ExecResult => random.pick(&[0, 1, 2, 3, 5, 6, 7]),
+            Padding => random.pick(&[0, 0, 1, 0x100, 0xFFFF]),
+            Program => 2 + 2 * random.below(20) as u32,
+            Directory => 2 * random.below(20) as u32,
+            Arguments if random.chance(2) => 2 * random.below(1000) as u32,
+            Arguments => 2 * random.below(30) as u32,
+            Echo => 1 + random.below(40) as u32,
+            Id => random.below(60) as u32,
+        }
+    }
+
+    /// The numbers at the limits of the field and beside them.
+    fn edges(self) -> &'static [u32] {
+        match self {
+            Any4 | Any2 => &[],
+            Flags => &FLAG_EDGES,
+            Enabled => &[0, 1, 2, 3, 0x80, 0xFF],
+            Command => &COMMAND_EDGES,
+            Start => &[0, 1, 2, 0xFF, 0x100, 0x8000, 0xFFFF],
+            MoveType => &[0, 1, 2, 9, 10, 11, 12, 13, 0x100, 0x10B, 0xFFFF],
+            ExecResult => &[0, 1, 2, 3, 4, 5, 6, 7, 8, 0x100, 0x105, 0xFFFF],
+            Padding => &[0, 1, 0x100, 0xFFFF],
+            Program => &[0, 1, 2, 3, 518, 519, 520, 521, 522],
+            Directory => &[0, 1, 2, 3, 518, 519, 520, 521, 522],
+            Arguments => &[0, 1, 2, 3, 520, 522, 15_998, 15_999, 16_000, 16_001, 16_002],
+            Echo => &[0, 1, 2, 3, 518, 519, 520, 521, 522],
+            Id => &[0, 1, 2, 511, 512, 513, 518, 519, 520, 521, 522, 600],
+        }
+    }
+}
+
+/// 0 to 20 (hex), then some flags above.
+const FLAG_EDGES: [u32; 40] = {
+    let mut edges = [0; 40];
+    let mut i = 0;
+    while i <= 0x20 {
+        edges[i] = i as u32;
+        i += 1;
+    }
+    let above = [0x24, 0x30, 0x40, 0x80, 0x100, 0x8000, 0xFFFF];
+    while i < 40 {
+        edges[i] = above[i - 0x21];
+        i += 1;
+    }
+    edges
+};
+
+/// Each command with its neighbours, and the gaps in their row.
+#[rustfmt::skip]
+const COMMAND_EDGES: [u32; 31] = [
+    0xEFFF, 0xF000, 0xF001, 0xF00F, 0xF010, 0xF011, 0xF01F, 0xF020, 0xF021, 0xF02F, 0xF030,
+    0xF031, 0xF040, 0xF050, 0xF05F, 0xF060, 0xF061, 0xF0FF, 0xF100, 0xF101, 0xF110, 0xF11F,
+    0xF120, 0xF121, 0xF15F, 0xF160, 0xF161, 0x0000, 0x00F0, 0x20F0, 0xFFFF,
+];
+
+fn any_number(random: &mut Random, most: u32) -> u32 {
+    match random.below(8) {
+        0 => 0,
+        1 => most,
+        2 => most / 2 + 1,
+        3 => random.below(256) as u32,
+        _ => random.next() as u32 & most,
+    }
+}
+
+/// A message in the making.
+pub struct Draft {
+    pub kind: u16,
+    fields: Vec<(Slot, u32)>,
+    strings: Vec<Vec<u8>>,
+}
+
+impl Draft {
+    /// A message of any kind that the rules allow.
+    pub fn usual(random: &mut Random) -> Self {
+        let (kind, slots) = random.pick(&KINDS);
+        Self::new(kind, slots, None, random)
+    }
+
+    /// A message with one field at or beside a limit, all others allowed.
+    pub fn at_edge(random: &mut Random) -> Self {
+        let all: Vec<(u16, &[Slot], Slot, u32)> = KINDS
+            .iter()
+            .flat_map(|&(kind, slots)| slots.iter().map(move |&slot| (kind, slots, slot)))
+            .flat_map(|(kind, slots, slot)| {
+                slot.edges().iter().map(move |&edge| (kind, slots, slot, edge))
+            })
+            .collect();
+        loop {
+            let (kind, slots, slot, edge) = random.pick(&all);
+            // Big strings are kept rare.
+            if edge < 2_000 || !slot.is_length() || random.chance(35) {
+                return Self::new(kind, slots, Some((slot, edge)), random);
+            }
+        }
+    }
+
+    fn new(kind: u16, slots: &[Slot], fixed: Option<(Slot, u32)>, random: &mut Random) -> Self {
+        let mut draft = Self {
+            kind,
+            fields: Vec::new(),
+            strings: Vec::new(),
+        };
+        for &slot in slots {
+            let value = match fixed {
+                Some((at, edge)) if at == slot => edge,
+                _ => slot.usual(random),
+            };
+            draft.fields.push((slot, value));
+            if slot.is_length() {
+                draft.strings.push(random.bytes(value as usize));
+            }
+        }
+        draft
+    }
+
+    /// Changes a length without its string; says whether the message has one.
+    pub fn missay_length(&mut self, random: &mut Random) -> bool {
+        let lengths: Vec<usize> = (0..self.fields.len())
+            .filter(|&at| self.fields[at].0.is_length() && self.fields[at].0 != Id)
+            .collect();
+        if lengths.is_empty() {
+            return false;
+        }
+        let value = &mut self.fields[random.pick(&lengths)].1;
+        *value = match random.below(8) {
+            0 => any_number(random, 0xFFFF),
+            1..=3 => value.wrapping_add(1),
+            _ => value.wrapping_sub(1),
+        } & 0xFFFF;
+        true
+    }
+
+    /// The message's bytes, its header's length that of the whole.
+    pub fn message(&self) -> Vec<u8> {
+        let mut message = Vec::new();
+        message.extend_from_slice(&self.kind.to_le_bytes());
+        message.extend_from_slice(&[0; 2]);
+        self.push_fields(&mut message, |slot| slot.widths().0);
+        if self.kind == APPLICATION_ID {
+            message.resize(APPLICATION_ID_MESSAGE, 0);
+        }
+        declare_length(&mut message);
+        message
+    }
+
+    /// A `P` item's payload: the size of the memory lent, type and fields.
+    pub fn payload(&self, size: u16) -> Vec<u8> {
+        let mut payload = Vec::new();
+        payload.extend_from_slice(&size.to_le_bytes());
+        payload.extend_from_slice(&self.kind.to_le_bytes());
+        self.push_fields(&mut payload, |slot| slot.widths().1);
+        payload
+    }
+
+    fn push_fields(&self, bytes: &mut Vec<u8>, width: impl Fn(Slot) -> usize) {
+        for &(slot, value) in &self.fields {
+            bytes.extend_from_slice(&value.to_le_bytes()[..width(slot)]);
+        }
+        for string in &self.strings {
+            bytes.extend_from_slice(string);
+        }
+    }
+}
+
+/// Sets the length in a message's header to that of its bytes.
+pub fn declare_length(message: &mut [u8]) {
+    let length = message.len() as u16;
+    if let Some(declared) = message.get_mut(2..4) {
+        declared.copy_from_slice(&length.to_le_bytes());
+    }
+}

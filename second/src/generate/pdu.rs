@@ -1,0 +1,208 @@
+//! Scripts of control messages.
+
+use super::draft::{declare_length, Draft};
+use super::random::Random;
+use crate::script::push_item;
+
+/// The most output memory that an item may ask for.
+const MOST_MEMORY: u16 = 17_408;
+
+/// Types that have no kind here, the four absent ones first.
+const OTHER_TYPES: [u16; 14] = [
+    0x0003, 0x0007, 0x000D, 0x0013, 0x0000, 0x0010, 0x0011, 0x0012, 0x007F, 0x0081, 0x0100, 0x0500,
+    0x8000, 0xFFFF,
+];
+
+/// One seed in this many gives a script that ends with a bad item.
+const BAD_END_EVERY: u64 = 20;
+
+/// A script of that many items. In one of twenty the last item is a bad one.
+pub fn script(seed: u64, items: usize) -> Vec<u8> {
+    let mut random = Random::new(seed);
+    let mut script = Vec::new();
+    let bad_end = seed % BAD_END_EVERY == BAD_END_EVERY - 1;
+    for left in (0..items).rev() {
+        if left == 0 && bad_end {
+            push_bad_end(&mut script, seed / BAD_END_EVERY, &mut random);
+        } else if random.chance(50) {
+            push_item(&mut script, b'R', &read_payload(&mut random));
+        } else {
+            push_item(&mut script, b'P', &write_payload(&mut random));
+        }
+    }
+    script
+}
+
+/// A message to be read, good or not.
+fn read_payload(random: &mut Random) -> Vec<u8> {
+    match random.below(100) {
+        0..=24 => Draft::usual(random).message(),
+        25..=54 => Draft::at_edge(random).message(),
+        55..=66 => misdeclared(random),
+        67..=81 => unfilled(random),
+        82..=87 => other_type(random),
+        88..=91 => short(random),
+        92..=96 => damaged(random),
+        _ => noise(random),
+    }
+}
+
+/// The header's length is not that of the bytes.
+fn misdeclared(random: &mut Random) -> Vec<u8> {
+    let mut message = Draft::usual(random).message();
+    let length = message.len();
+    match random.below(6) {
+        0 => declare(&mut message, length + 1),
+        1 => declare(&mut message, length - 1),
+        2 => declare(&mut message, random.next() as usize),
+        3 => message.truncate(4 + random.below(length - 4)),
+        4 => message.truncate(length - 1),
+        _ => message.extend(random_tail(random)),
+    }
+    message
+}
+
+fn declare(message: &mut [u8], length: usize) {
+    message[2..4].copy_from_slice(&(length as u16).to_le_bytes());
+}
+
+/// The header's length is right, but the fields do not fill it.
+fn unfilled(random: &mut Random) -> Vec<u8> {
+    let mut draft = if random.chance(80) {
+        Draft::usual(random)
+    } else {
+        Draft::at_edge(random)
+    };
+    if random.chance(70) && draft.missay_length(random) {
+        return draft.message();
+    }
+    let mut message = draft.message();
+    let length = message.len();
+    match random.below(4) {
+        0 => message.truncate(length - 1),
+        1 => message.push(random.next() as u8),
+        2 => message.truncate(4 + random.below(length - 4)),
+        _ => message.extend(random_tail(random)),
+    }
+    declare_length(&mut message);
+    message
+}
+
+fn random_tail(random: &mut Random) -> Vec<u8> {
+    let length = 1 + random.below(16);
+    random.bytes(length)
+}
+
+/// The type of no kind, the rest as it was.
+fn other_type(random: &mut Random) -> Vec<u8> {
+    let mut message = Draft::usual(random).message();
+    let kind = if random.chance(80) {
+        random.pick(&OTHER_TYPES)
+    } else {
+        random.next() as u16
+    };
+    message[..2].copy_from_slice(&kind.to_le_bytes());
+    message
+}
+
+/// 0 to 4 bytes, the beginning of a message or any.
+fn short(random: &mut Random) -> Vec<u8> {
+    let length = random.below(5);
+    let mut message = Draft::usual(random).message();
+    message.truncate(length);
+    if random.chance(30) {
+        message = random.bytes(length);
+    }
+    if random.chance(40) {
+        declare_length(&mut message);
+    }
+    message
+}
+
+/// A good message with one bit or one byte changed.
+fn damaged(random: &mut Random) -> Vec<u8> {
+    let mut message = Draft::usual(random).message();
+    // The beginning, where the numbers stand, is hit more often.
+    let reach = if random.chance(70) {
+        message.len().min(16)
+    } else {
+        message.len()
+    };
+    let at = random.below(reach);
+    if random.chance(50) {
+        message[at] ^= 1 << random.below(8);
+    } else {
+        message[at] = random.next() as u8;
+    }
+    message
+}
+
+/// Random bytes, with a right length or a low type in some.
+fn noise(random: &mut Random) -> Vec<u8> {
+    let length = 4 + random.below(40);
+    let mut message = random.bytes(length);
+    if random.chance(70) {
+        declare_length(&mut message);
+    }
+    if random.chance(50) {
+        message[0] &= 0x0F;
+        message[1] = 0;
+    }
+    message
+}
+
+/// A record to be written, good or not, and the memory lent for it.
+fn write_payload(random: &mut Random) -> Vec<u8> {
+    let (draft, roomy) = if random.chance(45) {
+        (Draft::usual(random), 25)
+    } else {
+        (Draft::at_edge(random), 70)
+    };
+    let needed = draft.message().len() as u16;
+    let size = if random.chance(roomy) {
+        MOST_MEMORY
+    } else {
+        match random.below(6) {
+            0 | 1 => needed,
+            2 | 3 => needed - 1,
+            4 => 0,
+            _ => random.below(usize::from(MOST_MEMORY) + 1) as u16,
+        }
+    };
+    draft.payload(size.min(MOST_MEMORY))
+}
+
+/// An item without a listed form; `sort` chooses which fault it has.
+fn push_bad_end(script: &mut Vec<u8>, sort: u64, random: &mut Random) {
+    let draft = Draft::usual(random);
+    let good = draft.payload(MOST_MEMORY);
+    match sort % 6 {
+        0 => {
+            let header = [b'R', 8, 0];
+            script.extend_from_slice(&header[..1 + random.below(2)]);
+        }
+        1 => {
+            push_item(script, b'P', &good);
+            script.truncate(script.len() - 1 - random.below(good.len()));
+        }
+        2 => push_item(script, random.pick(b"ABrpZ\0\xff"), &draft.message()),
+        3 => {
+            let mut payload = good;
+            payload[2..4].copy_from_slice(&random.pick(&OTHER_TYPES).to_le_bytes());
+            push_item(script, b'P', &payload);
+        }
+        4 => {
+            let mut payload = good;
+            if random.chance(50) {
+                payload.push(0);
+            } else {
+                payload.truncate(random.below(payload.len()));
+            }
+            push_item(script, b'P', &payload);
+        }
+        _ => {
+            let size = random.pick(&[MOST_MEMORY + 1, MOST_MEMORY + 2, 0x8000, 0xFFFF]);
+            push_item(script, b'P', &draft.payload(size));
+        }
+    }
+}
