@@ -24,7 +24,10 @@ fn item(content: &str) -> Result<(u8, Vec<u8>), &'static str> {
     if !matches!(kind, b'R' | b'P') {
         return Err("a line begins with R or P");
     }
-    if digits.first().is_some_and(|byte| !byte.is_ascii_whitespace()) {
+    if digits
+        .first()
+        .is_some_and(|byte| !byte.is_ascii_whitespace())
+    {
         return Err("a space follows the kind");
     }
     let payload = bytes(digits)?;
@@ -41,10 +44,13 @@ pub fn bytes(text: &[u8]) -> Result<Vec<u8>, &'static str> {
         .filter(|byte| !byte.is_ascii_whitespace())
         .map(|&byte| digit(byte).ok_or("not a hex digit"))
         .collect::<Result<_, _>>()?;
-    if digits.len() % 2 != 0 {
+    if digits.len() & 1 == 1 {
         return Err("a byte has two hex digits");
     }
-    Ok(digits.chunks(2).map(|pair| pair[0] << 4 | pair[1]).collect())
+    Ok(digits
+        .chunks(2)
+        .map(|pair| pair[0] << 4 | pair[1])
+        .collect())
 }
 
 fn digit(byte: u8) -> Option<u8> {

@@ -203,3 +203,17 @@ fits2 n h = eq-eqb (n / 256 / 256) 0 (omega arith)
 pub fits4 : (n : ℕ) → n < 4294967296 → fitsIn 4 n ≡ true
 unfolding fitsIn
 fits4 n h = eq-eqb (n / 256 / 256 / 256 / 256) 0 (omega arith)
+
+-- a row of numbers that fit, number by number
+pub data Fit : List ℕ → List ℕ → Type 0 where
+  fit0 : Fit [] []
+  fit1 : {n : ℕ} {ws ns : List ℕ} → n < 256 → Fit ws ns → Fit (1 ∷ ws) (n ∷ ns)
+  fit2 : {n : ℕ} {ws ns : List ℕ} → n < 65536 → Fit ws ns → Fit (2 ∷ ws) (n ∷ ns)
+  fit4 : {n : ℕ} {ws ns : List ℕ} → n < 4294967296 → Fit ws ns → Fit (4 ∷ ws) (n ∷ ns)
+
+pub all-fit : (ws ns : List ℕ) → Fit ws ns → allFit ws ns ≡ true
+unfolding allFit
+all-fit [] [] fit0 = refl
+all-fit (w ∷ ws) (n ∷ ns) (fit1 h r) = rw (fits1 n h) (all-fit ws ns r)
+all-fit (w ∷ ws) (n ∷ ns) (fit2 h r) = rw (fits2 n h) (all-fit ws ns r)
+all-fit (w ∷ ws) (n ∷ ns) (fit4 h r) = rw (fits4 n h) (all-fit ws ns r)

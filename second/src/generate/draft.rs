@@ -4,7 +4,7 @@ use super::random::Random;
 
 /// A field by what it may hold.
 #[derive(Clone, Copy, Debug, PartialEq, Eq)]
-pub enum Slot {
+enum Slot {
     Any4,
     Any2,
     Flags,
@@ -25,7 +25,7 @@ pub enum Slot {
 use Slot::*;
 
 /// Each type with its fields.
-pub const KINDS: [(u16, &[Slot]); 13] = [
+const KINDS: [(u16, &[Slot]); 13] = [
     (0x0001, &[Flags, Program, Directory, Arguments]),
     (0x0002, &[Any4, Enabled]),
     (0x0004, &[Any4, Command]),
@@ -137,13 +137,13 @@ fn any_number(random: &mut Random, most: u32) -> u32 {
         1 => most,
         2 => most / 2 + 1,
         3 => random.below(256) as u32,
-        _ => random.next() as u32 & most,
+        _ => random.bits() as u32 & most,
     }
 }
 
 /// A message in the making.
 pub struct Draft {
-    pub kind: u16,
+    kind: u16,
     fields: Vec<(Slot, u32)>,
     strings: Vec<Vec<u8>>,
 }
@@ -152,7 +152,7 @@ impl Draft {
     /// A message of any kind that the rules allow.
     pub fn usual(random: &mut Random) -> Self {
         let (kind, slots) = random.pick(&KINDS);
-        Self::new(kind, slots, None, random)
+        Self::new(kind, slots, &[], random)
     }
 
     /// A message with one field at or beside a limit, all others allowed.
@@ -161,28 +161,42 @@ impl Draft {
             .iter()
             .flat_map(|&(kind, slots)| slots.iter().map(move |&slot| (kind, slots, slot)))
             .flat_map(|(kind, slots, slot)| {
-                slot.edges().iter().map(move |&edge| (kind, slots, slot, edge))
+                slot.edges()
+                    .iter()
+                    .map(move |&edge| (kind, slots, slot, edge))
             })
             .collect();
         loop {
             let (kind, slots, slot, edge) = random.pick(&all);
             // Big strings are kept rare.
-            if edge < 2_000 || !slot.is_length() || random.chance(35) {
-                return Self::new(kind, slots, Some((slot, edge)), random);
+            if edge < 2_000 || !slot.is_length() || random.chance(22) {
+                return Self::new(kind, slots, &[(slot, edge)], random);
             }
         }
     }
 
-    fn new(kind: u16, slots: &[Slot], fixed: Option<(Slot, u32)>, random: &mut Random) -> Self {
+    /// An Execute with strings of these lengths.
+    pub fn execute(lengths: [u32; 3], random: &mut Random) -> Self {
+        let (kind, slots) = KINDS[0];
+        let [program, directory, arguments] = lengths;
+        let fixed = [
+            (Program, program),
+            (Directory, directory),
+            (Arguments, arguments),
+        ];
+        Self::new(kind, slots, &fixed, random)
+    }
+
+    fn new(kind: u16, slots: &[Slot], fixed: &[(Slot, u32)], random: &mut Random) -> Self {
         let mut draft = Self {
             kind,
             fields: Vec::new(),
             strings: Vec::new(),
         };
         for &slot in slots {
-            let value = match fixed {
-                Some((at, edge)) if at == slot => edge,
-                _ => slot.usual(random),
+            let value = match fixed.iter().find(|(at, _)| *at == slot) {
+                Some(&(_, value)) => value,
+                None => slot.usual(random),
             };
             draft.fields.push((slot, value));
             if slot.is_length() {
@@ -199,6 +213,12 @@ impl Draft {
             .collect();
         if lengths.is_empty() {
             return false;
+        }
+        if lengths.len() > 1 && random.chance(15) {
+            // The sum is 65,536 too many, and right if taken in 16 bits.
+            self.fields[lengths[0]].1 ^= 0x8000;
+            self.fields[lengths[1]].1 ^= 0x8000;
+            return true;
         }
         let value = &mut self.fields[random.pick(&lengths)].1;
         *value = match random.below(8) {

@@ -35,16 +35,26 @@ pub fn script(seed: u64, items: usize) -> Vec<u8> {
 
 /// A message to be read, good or not.
 fn read_payload(random: &mut Random) -> Vec<u8> {
-    match random.below(100) {
-        0..=24 => Draft::usual(random).message(),
-        25..=54 => Draft::at_edge(random).message(),
-        55..=66 => misdeclared(random),
-        67..=81 => unfilled(random),
-        82..=87 => other_type(random),
-        88..=91 => short(random),
-        92..=96 => damaged(random),
+    if random.below(4_000) == 0 {
+        // As long as an item can be.
+        return Draft::execute([520, 520, 64_483], random).message();
+    }
+    match random.below(800) {
+        0 => largest(random).message(),
+        1..=199 => Draft::usual(random).message(),
+        200..=439 => Draft::at_edge(random).message(),
+        440..=535 => misdeclared(random),
+        536..=655 => unfilled(random),
+        656..=703 => other_type(random),
+        704..=735 => short(random),
+        736..=775 => damaged(random),
         _ => noise(random),
     }
+}
+
+/// The longest message that the rules allow.
+fn largest(random: &mut Random) -> Draft {
+    Draft::execute([520, 520, 16_000], random)
 }
 
 /// The header's length is not that of the bytes.
@@ -54,7 +64,7 @@ fn misdeclared(random: &mut Random) -> Vec<u8> {
     match random.below(6) {
         0 => declare(&mut message, length + 1),
         1 => declare(&mut message, length - 1),
-        2 => declare(&mut message, random.next() as usize),
+        2 => declare(&mut message, random.bits() as usize),
         3 => message.truncate(4 + random.below(length - 4)),
         4 => message.truncate(length - 1),
         _ => message.extend(random_tail(random)),
@@ -80,7 +90,7 @@ fn unfilled(random: &mut Random) -> Vec<u8> {
     let length = message.len();
     match random.below(4) {
         0 => message.truncate(length - 1),
-        1 => message.push(random.next() as u8),
+        1 => message.push(random.bits() as u8),
         2 => message.truncate(4 + random.below(length - 4)),
         _ => message.extend(random_tail(random)),
     }
@@ -99,7 +109,7 @@ fn other_type(random: &mut Random) -> Vec<u8> {
     let kind = if random.chance(80) {
         random.pick(&OTHER_TYPES)
     } else {
-        random.next() as u16
+        random.bits() as u16
     };
     message[..2].copy_from_slice(&kind.to_le_bytes());
     message
@@ -132,7 +142,7 @@ fn damaged(random: &mut Random) -> Vec<u8> {
     if random.chance(50) {
         message[at] ^= 1 << random.below(8);
     } else {
-        message[at] = random.next() as u8;
+        message[at] = random.bits() as u8;
     }
     message
 }
@@ -153,10 +163,10 @@ fn noise(random: &mut Random) -> Vec<u8> {
 
 /// A record to be written, good or not, and the memory lent for it.
 fn write_payload(random: &mut Random) -> Vec<u8> {
-    let (draft, roomy) = if random.chance(45) {
-        (Draft::usual(random), 25)
-    } else {
-        (Draft::at_edge(random), 70)
+    let (draft, roomy) = match random.below(800) {
+        0 => (largest(random), 25),
+        1..=360 => (Draft::usual(random), 25),
+        _ => (Draft::at_edge(random), 70),
     };
     let needed = draft.message().len() as u16;
     let size = if random.chance(roomy) {

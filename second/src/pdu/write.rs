@@ -36,8 +36,7 @@ fn execute(r: &Execute<'_>, out: &mut [u8]) -> Result<usize, u8> {
     let program = r.exe_or_file.len();
     let directory = r.working_dir.len();
     let arguments = r.arguments.len();
-    let (head, strings) =
-        frame::<12>(order_type::EXECUTE, program + directory + arguments, out)?;
+    let (head, strings) = frame::<12>(order_type::EXECUTE, program + directory + arguments, out)?;
     put_u16(head, 4, r.flags);
     put_u16(head, 6, program as u16);
     put_u16(head, 8, directory as u16);
@@ -127,8 +126,11 @@ fn system_menu(r: &SystemMenu, out: &mut [u8]) -> Result<usize, u8> {
 fn application_id_response(r: &ApplicationIdResponse<'_>, out: &mut [u8]) -> Result<usize, u8> {
     let length = r.application_id.len();
     allowed(rules::application_id_length(length))?;
-    let (head, string) =
-        frame::<8>(order_type::APPLICATION_ID_RESPONSE, APPLICATION_ID_SIZE, out)?;
+    let (head, string) = frame::<8>(
+        order_type::APPLICATION_ID_RESPONSE,
+        APPLICATION_ID_SIZE,
+        out,
+    )?;
     put_u32(head, 4, r.window_id.0);
     let (id, zeros) = string.split_at_mut(length);
     id.copy_from_slice(r.application_id);

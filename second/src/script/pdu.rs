@@ -162,9 +162,9 @@ impl<'a> Fields<'a> {
                 pos_y: self.u16()?,
             }),
             order_type::MIN_MAX_INFO => Record::MinMaxInfo(self.min_max_info()?),
-            order_type::CLIENT_INFORMATION => Record::ClientInformation(ClientInformation {
-                flags: self.u32()?,
-            }),
+            order_type::CLIENT_INFORMATION => {
+                Record::ClientInformation(ClientInformation { flags: self.u32()? })
+            }
             order_type::SYSTEM_MENU => Record::SystemMenu(SystemMenu {
                 window_id: self.window()?,
                 left: self.u16()?,

@@ -1,0 +1,5 @@
+pub mod Strings
+pub mod Writing
+pub mod ReadBack
+pub mod WriteBack
+pub mod RoundTrip

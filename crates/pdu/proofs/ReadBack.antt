@@ -1,0 +1,304 @@
+-- A written record reads back equal. Assumes nothing.
+use mathlib.Core.Path.{_≡_, refl, sym, ap, _∙_}
+use mathlib.Core.Bool.{Bool, true, false, not}
+use mathlib.Core.List.{List, [], _∷_, _++_, map}
+use Prim.Native.Nat.{ℕ, _+_, _/_, _%_, _≤_, _<_}
+use native.Mathlib.Omega.{arith}
+use lib.ListN.{length, getD, take, drop}
+use lib.Dec.{leb, ltb, eqb}
+use borrow.Author.Tests.{leb-true, le-ltb, eq-eqb}
+use Rattle.wire.specs.Tests.{pick, both}
+use Rattle.wire.specs.Parts.{splice}
+use Rattle.wire.specs.Numbers.{numAt, numsAt, putAll, total, fitsIn, allFit}
+use Rattle.wire.proofs.Tests.{both-left, both-right}
+use Rattle.wire.proofs.Numbers.{nums-put, length-put, fits2}
+use Rattle.pdu.specs.declared.Pdu.{Pdu}
+use Rattle.pdu.specs.declared.Pdu.the-variants.{Execute, Activate, SystemCommand, Handshake, NotifyEvent, WindowMove, MoveSize, MinMaxInfo, ClientInformation, SystemMenu, GetApplicationId, ApplicationIdResponse, ExecuteResult}
+use Rattle.pdu.specs.declared.Span.{Span}
+use Rattle.pdu.specs.declared.Execute as E
+use Rattle.pdu.specs.declared.ExecuteResult as X
+use Rattle.pdu.specs.declared.Read.the-variants.{Message, Refused}
+use Rattle.pdu.specs.Layout.{oneOf, known, widths}
+use Rattle.pdu.specs.Records.{span, isYes, yesNumber, recordOf, kindOf, numsOf, sizeOf, spansOf}
+use Rattle.pdu.specs.Rules.{textOk, executeFlagsOk, execResults, executeAllowed, executeResultAllowed, allowed}
+use Rattle.pdu.specs.Reading.{recordAs, readOf}
+use Rattle.pdu.specs.Writing.{partOf, zeros, filled, stringsOf, joined, row, line, encode, grants}
+use Rattle.pdu.specs.RoundTrip.{rebased, typed, ReadsBack}
+use Rattle.pdu.proofs.Strings.{spansFrom, parts, parts-back, filled-whole}
+use Rattle.pdu.proofs.Writing.{allowed-of, lie-of, stringLengths, string-lengths, size-is, length-encode}
+
+-- ---- the record
+
+is-yes : (b : Bool) → isYes (yesNumber b) ≡ b
+is-yes true = refl
+is-yes false = refl
+
+-- the numbers of a record make the record
+record-back : (p : Pdu) → recordOf (kindOf p) (numsOf p) ≡ rebased p
+unfolding recordOf kindOf numsOf rebased
+record-back (Execute e) = refl
+record-back (Activate e) = refl
+record-back (SystemCommand e) = refl
+record-back (Handshake e) = refl
+record-back (NotifyEvent e) = refl
+record-back (WindowMove e) = refl
+record-back (MoveSize e) =
+    ap (λ (b : Bool). MoveSize (record { «window_id» = e .«window_id»; «is_start» = b; «move_size_type» = e .«move_size_type»; «pos_x» = e .«pos_x»; «pos_y» = e .«pos_y» })) (is-yes (e .«is_start»))
+record-back (MinMaxInfo e) = refl
+record-back (ClientInformation e) = refl
+record-back (SystemMenu e) = refl
+record-back (GetApplicationId e) = refl
+record-back (ApplicationIdResponse e) = refl
+record-back (ExecuteResult e) = refl
+
+size-back : (p : Pdu) → sizeOf (rebased p) ≡ sizeOf p
+unfolding sizeOf rebased
+size-back (Execute e) = refl
+size-back (Activate e) = refl
+size-back (SystemCommand e) = refl
+size-back (Handshake e) = refl
+size-back (NotifyEvent e) = refl
+size-back (WindowMove e) = refl
+size-back (MoveSize e) = refl
+size-back (MinMaxInfo e) = refl
+size-back (ClientInformation e) = refl
+size-back (SystemMenu e) = refl
+size-back (GetApplicationId e) = refl
+size-back (ApplicationIdResponse e) = refl
+size-back (ExecuteResult e) = refl
+
+allowed-back : (p : Pdu) → allowed p ≡ true → allowed (rebased p) ≡ true
+unfolding allowed rebased
+allowed-back (Execute e) a = a
+allowed-back (Activate e) a = a
+allowed-back (SystemCommand e) a = a
+allowed-back (Handshake e) a = a
+allowed-back (NotifyEvent e) a = a
+allowed-back (WindowMove e) a = a
+allowed-back (MoveSize e) a = a
+allowed-back (MinMaxInfo e) a = a
+allowed-back (ClientInformation e) a = a
+allowed-back (SystemMenu e) a = a
+allowed-back (GetApplicationId e) a = a
+allowed-back (ApplicationIdResponse e) a = refl
+allowed-back (ExecuteResult e) a = a
+
+known-kind : (p : Pdu) → known (kindOf p) ≡ true
+unfolding known kindOf
+known-kind (Execute e) = refl
+known-kind (Activate e) = refl
+known-kind (SystemCommand e) = refl
+known-kind (Handshake e) = refl
+known-kind (NotifyEvent e) = refl
+known-kind (WindowMove e) = refl
+known-kind (MoveSize e) = refl
+known-kind (MinMaxInfo e) = refl
+known-kind (ClientInformation e) = refl
+known-kind (SystemMenu e) = refl
+known-kind (GetApplicationId e) = refl
+known-kind (ApplicationIdResponse e) = refl
+known-kind (ExecuteResult e) = refl
+
+-- ---- the numbers of a granted record fit their widths
+
+text-high : (low high n : ℕ) → textOk low high n ≡ true → n ≤ high
+text-high low high n h = leb-true n high (both-right (leb low n) (leb n high) (both-left (both (leb low n) (leb n high)) (eqb (n % 2) 0) h))
+
+pub record ExecuteSmall (e : E.Execute) : Type 0 where
+  pub file : e .«exe_or_file» .len ≤ 520
+  pub directory : e .«working_dir» .len ≤ 520
+  pub arguments-small : e .arguments .len ≤ 16000
+
+pub execute-small : (e : E.Execute) → executeAllowed e ≡ true → ExecuteSmall e
+execute-small e h =
+    let a = textOk 1 520 (e .«exe_or_file» .len) in
+    let b = textOk 0 520 (e .«working_dir» .len) in
+    let c = textOk 0 16000 (e .arguments .len) in
+    let abc = both-left (both (both a b) c) (executeFlagsOk (e .flags)) h in
+    let ab = both-left (both a b) c abc in
+    record {
+      file = text-high 1 520 (e .«exe_or_file» .len) (both-left a b ab);
+      directory = text-high 0 520 (e .«working_dir» .len) (both-right a b ab);
+      arguments-small = text-high 0 16000 (e .arguments .len) (both-right (both a b) c abc);
+    }
+
+pub result-small : (e : X.ExecuteResult) → executeResultAllowed e ≡ true → e .«exe_or_file» .len ≤ 520
+result-small e h =
+    let n = e .«exe_or_file» .len in
+    leb-true n 520 (both-right (both (oneOf (e .«exec_result») execResults) (leb 1 n)) (leb n 520) h)
+
+size-small : (p : Pdu) → allowed p ≡ true → sizeOf p < 65536
+unfolding sizeOf allowed
+size-small (Execute e) a = let s = execute-small e a in omega (arith, s .file, s .directory, s .arguments-small)
+size-small (Activate e) a = omega arith
+size-small (SystemCommand e) a = omega arith
+size-small (Handshake e) a = omega arith
+size-small (NotifyEvent e) a = omega arith
+size-small (WindowMove e) a = omega arith
+size-small (MoveSize e) a = omega arith
+size-small (MinMaxInfo e) a = omega arith
+size-small (ClientInformation e) a = omega arith
+size-small (SystemMenu e) a = omega arith
+size-small (GetApplicationId e) a = omega arith
+size-small (ApplicationIdResponse e) a = omega arith
+size-small (ExecuteResult e) a = omega (arith, result-small e a)
+
+kind-small : (p : Pdu) → kindOf p < 65536
+unfolding kindOf
+kind-small (Execute e) = omega arith
+kind-small (Activate e) = omega arith
+kind-small (SystemCommand e) = omega arith
+kind-small (Handshake e) = omega arith
+kind-small (NotifyEvent e) = omega arith
+kind-small (WindowMove e) = omega arith
+kind-small (MoveSize e) = omega arith
+kind-small (MinMaxInfo e) = omega arith
+kind-small (ClientInformation e) = omega arith
+kind-small (SystemMenu e) = omega arith
+kind-small (GetApplicationId e) = omega arith
+kind-small (ApplicationIdResponse e) = omega arith
+kind-small (ExecuteResult e) = omega arith
+
+header-within : (p : Pdu) → 4 ≤ sizeOf p
+unfolding sizeOf
+header-within (Execute e) = omega arith
+header-within (Activate e) = omega arith
+header-within (SystemCommand e) = omega arith
+header-within (Handshake e) = omega arith
+header-within (NotifyEvent e) = omega arith
+header-within (WindowMove e) = omega arith
+header-within (MoveSize e) = omega arith
+header-within (MinMaxInfo e) = omega arith
+header-within (ClientInformation e) = omega arith
+header-within (SystemMenu e) = omega arith
+header-within (GetApplicationId e) = omega arith
+header-within (ApplicationIdResponse e) = omega arith
+header-within (ExecuteResult e) = omega arith
+
+row-fits : (k n : ℕ) (ws ns : List ℕ) → fitsIn 2 k ≡ true → fitsIn 2 n ≡ true → allFit ws ns ≡ true → allFit (2 ∷ 2 ∷ ws) (k ∷ n ∷ ns) ≡ true
+unfolding allFit
+row-fits k n ws ns a b c = rw (a, b) c
+
+-- ---- reading what was written
+
+-- a message that no line of the ladder refuses
+pub granted : (s : List ℕ) (p : Pdu) → ltb (length s) 4 ≡ false → eqb (numAt 2 s 2) (length s) ≡ true → known (numAt 2 s 0) ≡ true → recordAs (numAt 2 s 0) s ≡ p
+    → eqb (sizeOf p) (length s) ≡ true → allowed p ≡ true → readOf s ≡ Message p
+unfolding readOf
+granted s p a b c r z w = rw (a, b, c, r, z, w)
+
+module _ (p : Pdu) (src : List ℕ) (g : grants p src ≡ true) (t : typed p ≡ true) where
+  fits : allFit (row p) (line p) ≡ true
+  unfolding typed
+  fits = row-fits (kindOf p) (sizeOf p) (widths (kindOf p)) (numsOf p) (fits2 (kindOf p) (kind-small p)) (fits2 (sizeOf p) (size-small p (allowed-of p src g))) t
+
+  nums : numsAt (row p) (encode p src) 0 ≡ line p
+  unfolding encode
+  nums = nums-put (row p) (line p) (joined (stringsOf p src)) fits
+
+  kind : numAt 2 (encode p src) 0 ≡ kindOf p
+  unfolding numsAt
+  kind = ap (λ (l : List ℕ). getD l 0 0) nums
+
+  size : numAt 2 (encode p src) 2 ≡ sizeOf p
+  unfolding numsAt
+  size = ap (λ (l : List ℕ). getD l 1 0) nums
+
+  body : numsAt (widths (kindOf p)) (encode p src) 4 ≡ numsOf p
+  unfolding numsAt
+  body = ap (drop 2) nums
+
+  seen : recordAs (numAt 2 (encode p src) 0) (encode p src) ≡ rebased p
+  unfolding recordAs
+  seen = rw (kind, body) (record-back p)
+
+  message-back : readOf (encode p src) ≡ Message (rebased p)
+  message-back =
+      let l = length-encode p src g in
+      granted (encode p src) (rebased p)
+      (le-ltb (length (encode p src)) 4 (omega (arith, header-within p, l)))
+      (eq-eqb (numAt 2 (encode p src) 2) (length (encode p src)) (size ∙ sym l))
+      (rw kind (known-kind p))
+      seen
+      (eq-eqb (sizeOf (rebased p)) (length (encode p src)) (size-back p ∙ sym l))
+      (allowed-back p (allowed-of p src g))
+
+-- ---- the strings
+
+-- writing puts the strings one after the other behind the numbers
+spans-back : (p : Pdu) → spansOf (rebased p) ≡ spansFrom (total (row p)) (stringLengths p)
+unfolding spansOf rebased total widths kindOf stringLengths
+spans-back (Execute e) = refl
+spans-back (Activate e) = refl
+spans-back (SystemCommand e) = refl
+spans-back (Handshake e) = refl
+spans-back (NotifyEvent e) = refl
+spans-back (WindowMove e) = refl
+spans-back (MoveSize e) = refl
+spans-back (MinMaxInfo e) = refl
+spans-back (ClientInformation e) = refl
+spans-back (SystemMenu e) = refl
+spans-back (GetApplicationId e) = refl
+spans-back (ApplicationIdResponse e) = refl
+spans-back (ExecuteResult e) = refl
+
+kind-back : (p : Pdu) → kindOf (rebased p) ≡ kindOf p
+unfolding kindOf rebased
+kind-back (Execute e) = refl
+kind-back (Activate e) = refl
+kind-back (SystemCommand e) = refl
+kind-back (Handshake e) = refl
+kind-back (NotifyEvent e) = refl
+kind-back (WindowMove e) = refl
+kind-back (MoveSize e) = refl
+kind-back (MinMaxInfo e) = refl
+kind-back (ClientInformation e) = refl
+kind-back (SystemMenu e) = refl
+kind-back (GetApplicationId e) = refl
+kind-back (ApplicationIdResponse e) = refl
+kind-back (ExecuteResult e) = refl
+
+-- filling out again changes nothing
+filled-again : (p : Pdu) (src : List ℕ) → grants p src ≡ true → map (filled (kindOf p)) (stringsOf p src) ≡ stringsOf p src
+unfolding stringsOf filled kindOf spansOf stringLengths
+filled-again (Execute e) src g = refl
+filled-again (Activate e) src g = refl
+filled-again (SystemCommand e) src g = refl
+filled-again (Handshake e) src g = refl
+filled-again (NotifyEvent e) src g = refl
+filled-again (WindowMove e) src g = refl
+filled-again (MoveSize e) src g = refl
+filled-again (MinMaxInfo e) src g = refl
+filled-again (ClientInformation e) src g = refl
+filled-again (SystemMenu e) src g = refl
+filled-again (GetApplicationId e) src g = refl
+filled-again (ApplicationIdResponse e) src g =
+    ap (λ (x : List ℕ). x ∷ []) (filled-whole (splice zeros 0 (partOf src (e .«application_id»))) (ap (λ (l : List ℕ). getD l 0 0) (string-lengths (ApplicationIdResponse e) src g)))
+filled-again (ExecuteResult e) src g = refl
+
+map-map : (f : List ℕ → List ℕ) (b : List ℕ) (ts : List Span) → map (λ (t : Span). f (partOf b t)) ts ≡ map f (parts b ts)
+map-map f b [] = refl
+map-map f b (t ∷ ts) = ap (λ (xs : List (List ℕ)). f (partOf b t) ∷ xs) (map-map f b ts)
+
+encode-is : (p : Pdu) (src : List ℕ) → encode p src ≡ putAll (row p) (line p) ++ joined (stringsOf p src)
+unfolding encode
+encode-is p src = refl
+
+found : (p : Pdu) (src : List ℕ) → grants p src ≡ true → parts (encode p src) (spansOf (rebased p)) ≡ stringsOf p src
+found p src g =
+    rw (encode-is p src, spans-back p, ← string-lengths p src g)
+    (parts-back (stringsOf p src) (putAll (row p) (line p)) (total (row p)) (length-put (row p) (line p)))
+
+strings-are : (p : Pdu) (b : List ℕ) → stringsOf p b ≡ map (filled (kindOf p)) (parts b (spansOf p))
+unfolding stringsOf
+strings-are p b = map-map (filled (kindOf p)) b (spansOf p)
+
+strings-back : (p : Pdu) (src : List ℕ) → grants p src ≡ true → stringsOf (rebased p) (encode p src) ≡ stringsOf p src
+strings-back p src g =
+    strings-are (rebased p) (encode p src)
+    ∙ ap (λ (k : ℕ). map (filled k) (parts (encode p src) (spansOf (rebased p)))) (kind-back p)
+    ∙ ap (map (filled (kindOf p))) (found p src g)
+    ∙ filled-again p src g
+
+pub reads-back : (p : Pdu) (src : List ℕ) → grants p src ≡ true → typed p ≡ true → ReadsBack (encode p src) p src
+reads-back p src g t = record { message = message-back p src g t; strings = strings-back p src g }

@@ -1,0 +1,220 @@
+-- A read record is written as the same bytes, but for Padding and start. Assumes nothing.
+use mathlib.Core.Path.{_≡_, refl, sym, ap, _∙_, subst}
+use mathlib.Core.Bool.{Bool, true, false, not}
+use mathlib.Core.List.{List, [], _∷_, _++_, append-nil, map}
+use Prim.Native.Nat.{ℕ, _+_, _-_, _/_, _%_, _≤_, _<_}
+use native.Mathlib.Nat.{add-zero}
+use native.Mathlib.Omega.{arith}
+use lib.ListN.{length, getD, take, drop, take-append-drop}
+use lib.Seq.{drop-length}
+use lib.Dec.{leb, ltb, eqb}
+use borrow.Author.Tests.{le-leb, eqb-true}
+use Rattle.wire.specs.Tests.{pick, both}
+use Rattle.wire.specs.Parts.{slice, splice}
+use Rattle.wire.specs.Numbers.{numAt, numsAt, bytesOf, putAll, total}
+use Rattle.wire.proofs.Tests.{Each, one-of}
+use Rattle.wire.proofs.Parts.{length-slice, slice-last, splice-append}
+use Rattle.wire.proofs.Numbers.{Bytes, put-nums, length-put}
+use Rattle.pdu.specs.declared.Pdu.{Pdu}
+use Rattle.pdu.specs.declared.Pdu.the-variants.{Execute, Activate, SystemCommand, Handshake, NotifyEvent, WindowMove, MoveSize, MinMaxInfo, ClientInformation, SystemMenu, GetApplicationId, ApplicationIdResponse, ExecuteResult}
+use Rattle.pdu.specs.declared.Span.{Span}
+use Rattle.pdu.specs.declared.Read.{Read}
+use Rattle.pdu.specs.declared.Read.the-variants.{Message, Refused}
+use Rattle.pdu.specs.Layout.{types, known, widths}
+use Rattle.pdu.specs.Records.{span, isYes, yesNumber, recordOf, kindOf, numsOf, sizeOf, spansOf}
+use Rattle.pdu.specs.Rules.{allowed}
+use Rattle.pdu.specs.Reading.{recordAs, readOf}
+use Rattle.pdu.specs.Writing.{partOf, lies, allLie, zeros, filled, stringsOf, joined, row, line, encode, grants}
+use Rattle.pdu.specs.RoundTrip.{tidyAs, tidy, WritesBack}
+use Rattle.pdu.proofs.Strings.{spansFrom, sum, parts, parts-join, all-lie, filled-whole}
+
+-- ---- what a granted reading says
+
+abbrev recordIn : Read → Pdu → Pdu
+recordIn (Message p) d = p
+recordIn (Refused n) d = d
+
+message-inj : (p q : Pdu) → Message p ≡ Message q → p ≡ q
+message-inj p q e = ap (λ (r : Read). recordIn r p) e
+
+-- a line of the ladder that was passed
+passed : (t : Bool) (x : Read) (n : ℕ) (p : Pdu) → pick t (Refused n) x ≡ Message p → (t ≡ false) × (x ≡ Message p)
+passed false x n p e = (refl, e)
+passed true x n p e = let z : _≡_ {A = ℕ} 0 1 = cc in absurd (omega arith)
+
+not-not : (b : Bool) → not b ≡ false → b ≡ true
+not-not true e = refl
+not-not false e = sym e
+
+record Granted (b : List ℕ) (p : Pdu) : Type 0 where
+  pub length-told : numAt 2 b 2 ≡ length b
+  pub kind-known : known (numAt 2 b 0) ≡ true
+  pub fills : sizeOf (recordAs (numAt 2 b 0) b) ≡ length b
+  pub fine : allowed (recordAs (numAt 2 b 0) b) ≡ true
+  pub same-record : recordAs (numAt 2 b 0) b ≡ p
+
+reading : (b : List ℕ) (p : Pdu) → readOf b ≡ Message p → Granted b p
+unfolding readOf
+reading b p e =
+    let r = recordAs (numAt 2 b 0) b in
+    let x8 = pick (not (allowed r)) (Refused 8) (Message r) in
+    let x7 = pick (not (eqb (sizeOf r) (length b))) (Refused 7) x8 in
+    let x4 = pick (not (known (numAt 2 b 0))) (Refused 4) x7 in
+    let x3 = pick (not (eqb (numAt 2 b 2) (length b))) (Refused 3) x4 in
+    let a = passed (ltb (length b) 4) x3 2 p e in
+    let c = passed (not (eqb (numAt 2 b 2) (length b))) x4 3 p (a .1) in
+    let d = passed (not (known (numAt 2 b 0))) x7 4 p (c .1) in
+    let f = passed (not (eqb (sizeOf r) (length b))) x8 7 p (d .1) in
+    let g = passed (not (allowed r)) (Message r) 8 p (f .1) in
+    record {
+      length-told = eqb-true (numAt 2 b 2) (length b) (not-not (eqb (numAt 2 b 2) (length b)) (c .0));
+      kind-known = not-not (known (numAt 2 b 0)) (d .0);
+      fills = eqb-true (sizeOf r) (length b) (not-not (eqb (sizeOf r) (length b)) (f .0));
+      fine = not-not (allowed r) (g .0);
+      same-record = message-inj r p (g .1);
+    }
+
+-- ---- the two numbers that change
+
+swap-start : (n0 n1 n2 n3 n4 n5 n6 : ℕ) (y : Bool)
+    → putAll (2 ∷ 2 ∷ 4 ∷ 2 ∷ 2 ∷ 2 ∷ 2 ∷ []) (n0 ∷ n1 ∷ n2 ∷ yesNumber y ∷ n4 ∷ n5 ∷ n6 ∷ [])
+    ≡ splice (putAll (2 ∷ 2 ∷ 4 ∷ 2 ∷ 2 ∷ 2 ∷ 2 ∷ []) (n0 ∷ n1 ∷ n2 ∷ n3 ∷ n4 ∷ n5 ∷ n6 ∷ [])) 8 (yesNumber y ∷ 0 ∷ [])
+unfolding putAll bytesOf splice
+swap-start n0 n1 n2 n3 n4 n5 n6 true = refl
+swap-start n0 n1 n2 n3 n4 n5 n6 false = refl
+
+swap-padding : (n0 n1 n2 n3 n4 n5 n6 : ℕ)
+    → putAll (2 ∷ 2 ∷ 2 ∷ 2 ∷ 4 ∷ 2 ∷ 2 ∷ []) (n0 ∷ n1 ∷ n2 ∷ n3 ∷ n4 ∷ 0 ∷ n6 ∷ [])
+    ≡ splice (putAll (2 ∷ 2 ∷ 2 ∷ 2 ∷ 4 ∷ 2 ∷ 2 ∷ []) (n0 ∷ n1 ∷ n2 ∷ n3 ∷ n4 ∷ n5 ∷ n6 ∷ [])) 12 (0 ∷ 0 ∷ [])
+unfolding putAll bytesOf splice
+swap-padding n0 n1 n2 n3 n4 n5 n6 = refl
+
+-- ---- each type
+
+record Back (b : List ℕ) (k : ℕ) (p : Pdu) : Type 0 where
+  pub within : allLie (length b) (spansOf p) ≡ true
+  pub bytes-back : encode p b ≡ tidyAs k b
+
+abbrev Kind : List ℕ → ℕ → Type 0
+Kind b k = numAt 2 b 0 ≡ k → sizeOf (recordAs k b) ≡ length b → Back b k (recordAs k b)
+
+module _ (b : List ℕ) (ok : Bytes b) (told : numAt 2 b 2 ≡ length b) where
+  -- numbers as they were read, and then the rest of the bytes
+  same : (k n : ℕ) (ws t : List ℕ) → numAt 2 b 0 ≡ k → n ≡ length b → total (2 ∷ 2 ∷ ws) ≤ length b → t ≡ drop (total (2 ∷ 2 ∷ ws)) b
+      → putAll (2 ∷ 2 ∷ ws) (k ∷ n ∷ numsAt ws b 4) ++ t ≡ b
+  unfolding numsAt
+  same k n ws t e w h et =
+      let head : putAll (2 ∷ 2 ∷ ws) (k ∷ n ∷ numsAt ws b 4) ≡ take (total (2 ∷ 2 ∷ ws)) b =
+      ap (putAll (2 ∷ 2 ∷ ws)) (rw (sym e, w ∙ sym told)) ∙ put-nums (2 ∷ 2 ∷ ws) b ok h in
+      rw (head, et) (take-append-drop (total (2 ∷ 2 ∷ ws)) b)
+
+  -- no strings
+  plain : (k n : ℕ) (ws : List ℕ) → numAt 2 b 0 ≡ k → n ≡ length b → total (2 ∷ 2 ∷ ws) ≡ n → putAll (2 ∷ 2 ∷ ws) (k ∷ n ∷ numsAt ws b 4) ++ [] ≡ b
+  plain k n ws e w z = same k n ws [] e w (omega (arith, w, z)) (sym (ap (λ (i : ℕ). drop i b) (z ∙ w) ∙ drop-length b))
+
+  -- strings of these lengths behind the numbers
+  strings : (k n : ℕ) (ws ls : List ℕ) → numAt 2 b 0 ≡ k → n ≡ length b → total (2 ∷ 2 ∷ ws) + sum ls ≡ n
+      → putAll (2 ∷ 2 ∷ ws) (k ∷ n ∷ numsAt ws b 4) ++ joined (parts b (spansFrom (total (2 ∷ 2 ∷ ws)) ls)) ≡ b
+  strings k n ws ls e w z =
+      same k n ws (joined (parts b (spansFrom (total (2 ∷ 2 ∷ ws)) ls))) e w (omega (arith, w, z)) (parts-join ls b (total (2 ∷ 2 ∷ ws)) (z ∙ w))
+
+  activate-back : Kind b 0x02
+  unfolding recordAs recordOf widths numsAt numsOf kindOf sizeOf spansOf encode stringsOf filled joined total tidyAs
+  activate-back e w = record { within = refl; bytes-back = plain 0x02 9 (widths 0x02) e w refl }
+
+  system-command-back : Kind b 0x04
+  unfolding recordAs recordOf widths numsAt numsOf kindOf sizeOf spansOf encode stringsOf filled joined total tidyAs
+  system-command-back e w = record { within = refl; bytes-back = plain 0x04 10 (widths 0x04) e w refl }
+
+  handshake-back : Kind b 0x05
+  unfolding recordAs recordOf widths numsAt numsOf kindOf sizeOf spansOf encode stringsOf filled joined total tidyAs
+  handshake-back e w = record { within = refl; bytes-back = plain 0x05 8 (widths 0x05) e w refl }
+
+  notify-event-back : Kind b 0x06
+  unfolding recordAs recordOf widths numsAt numsOf kindOf sizeOf spansOf encode stringsOf filled joined total tidyAs
+  notify-event-back e w = record { within = refl; bytes-back = plain 0x06 16 (widths 0x06) e w refl }
+
+  window-move-back : Kind b 0x08
+  unfolding recordAs recordOf widths numsAt numsOf kindOf sizeOf spansOf encode stringsOf filled joined total tidyAs
+  window-move-back e w = record { within = refl; bytes-back = plain 0x08 16 (widths 0x08) e w refl }
+
+  min-max-info-back : Kind b 0x0A
+  unfolding recordAs recordOf widths numsAt numsOf kindOf sizeOf spansOf encode stringsOf filled joined total tidyAs
+  min-max-info-back e w = record { within = refl; bytes-back = plain 0x0A 24 (widths 0x0A) e w refl }
+
+  client-information-back : Kind b 0x0B
+  unfolding recordAs recordOf widths numsAt numsOf kindOf sizeOf spansOf encode stringsOf filled joined total tidyAs
+  client-information-back e w = record { within = refl; bytes-back = plain 0x0B 8 (widths 0x0B) e w refl }
+
+  system-menu-back : Kind b 0x0C
+  unfolding recordAs recordOf widths numsAt numsOf kindOf sizeOf spansOf encode stringsOf filled joined total tidyAs
+  system-menu-back e w = record { within = refl; bytes-back = plain 0x0C 12 (widths 0x0C) e w refl }
+
+  get-application-id-back : Kind b 0x0E
+  unfolding recordAs recordOf widths numsAt numsOf kindOf sizeOf spansOf encode stringsOf filled joined total tidyAs
+  get-application-id-back e w = record { within = refl; bytes-back = plain 0x0E 8 (widths 0x0E) e w refl }
+
+  execute-back : Kind b 0x01
+  unfolding recordAs recordOf widths numsAt numsOf kindOf sizeOf spansOf encode stringsOf filled joined total tidyAs
+  execute-back e w =
+      let x = numAt 2 b 6 in
+      let y = numAt 2 b 8 in
+      let z = numAt 2 b 10 in
+      let ls = x ∷ y ∷ z ∷ [] in
+      record {
+        within = all-lie ls 12 (length b) (omega (arith, w));
+        bytes-back = strings 0x01 (12 + x + y + z) (widths 0x01) ls e w (omega arith);
+      }
+
+  move-size-back : Kind b 0x09
+  unfolding recordAs recordOf widths numsAt numsOf kindOf sizeOf spansOf encode stringsOf filled joined total tidyAs
+  move-size-back e w =
+      let y = isYes (numAt 2 b 8) in
+      let ns : ℕ → List ℕ = λ n. 0x09 ∷ 16 ∷ numAt 4 b 4 ∷ n ∷ numAt 2 b 10 ∷ numAt 2 b 12 ∷ numAt 2 b 14 ∷ [] in
+      let ws : List ℕ = 2 ∷ 2 ∷ widths 0x09 in
+      record {
+        within = refl;
+        bytes-back = append-nil (putAll ws (ns (yesNumber y)))
+            ∙ swap-start 0x09 16 (numAt 4 b 4) (numAt 2 b 8) (numAt 2 b 10) (numAt 2 b 12) (numAt 2 b 14) y
+            ∙ ap (λ (x : List ℕ). splice x 8 (yesNumber y ∷ 0 ∷ [])) (sym (append-nil (putAll ws (ns (numAt 2 b 8)))) ∙ plain 0x09 16 (widths 0x09) e w refl);
+      }
+
+  application-id-response-back : Kind b 0x0F
+  unfolding recordAs recordOf widths numsAt numsOf kindOf sizeOf spansOf encode stringsOf filled joined total tidyAs
+  application-id-response-back e w =
+      let t = slice b 8 520 in
+      let whole : splice zeros 0 t ≡ t = filled-whole t (length-slice b 8 520 (omega (arith, w))) in
+      record {
+        within = all-lie (520 ∷ []) 8 (length b) (omega (arith, w));
+        bytes-back = ap (λ (x : List ℕ). putAll (2 ∷ 2 ∷ widths 0x0F) (0x0F ∷ 528 ∷ numsAt (widths 0x0F) b 4) ++ (x ++ [])) whole
+            ∙ strings 0x0F 528 (widths 0x0F) (520 ∷ []) e w refl;
+      }
+
+  execute-result-back : Kind b 0x80
+  unfolding recordAs recordOf widths numsAt numsOf kindOf sizeOf spansOf encode stringsOf filled joined total tidyAs
+  execute-result-back e w =
+      let l = numAt 2 b 14 in
+      let ns : ℕ → List ℕ = λ n. 0x80 ∷ (16 + l) ∷ numAt 2 b 4 ∷ numAt 2 b 6 ∷ numAt 4 b 8 ∷ n ∷ l ∷ [] in
+      let ws : List ℕ = 2 ∷ 2 ∷ widths 0x80 in
+      let h = putAll ws (ns (numAt 2 b 12)) in
+      let t = slice b 16 l ++ [] in
+      let lh : length h ≡ 16 = length-put ws (ns (numAt 2 b 12)) in
+      record {
+        within = all-lie (l ∷ []) 16 (length b) (omega (arith, w));
+        bytes-back = ap (λ (x : List ℕ). x ++ t) (swap-padding 0x80 (16 + l) (numAt 2 b 4) (numAt 2 b 6) (numAt 4 b 8) (numAt 2 b 12) l)
+            ∙ splice-append h t 12 (0 ∷ 0 ∷ []) (omega (arith, lh))
+            ∙ ap (λ (x : List ℕ). splice x 12 (0 ∷ 0 ∷ [])) (strings 0x80 (16 + l) (widths 0x80) (l ∷ []) e w (omega arith));
+      }
+
+  each-kind : Each (Kind b) types
+  each-kind =
+      (execute-back, (activate-back, (system-command-back, (handshake-back, (notify-event-back, (window-move-back, (move-size-back, (min-max-info-back, (client-information-back, (system-menu-back, (get-application-id-back, (application-id-response-back, (execute-result-back, tt)))))))))))))
+
+-- the record of each message that reading grants is granted when it is written, and gives the same bytes, but for Padding and start
+pub writes-back : (b : List ℕ) (p : Pdu) → Bytes b → readOf b ≡ Message p → WritesBack b p
+unfolding grants tidy known
+writes-back b p ok e =
+    let g = reading b p e in
+    let k = numAt 2 b 0 in
+    let c = one-of (Kind b) types k (g .kind-known) (each-kind b ok (g .length-told)) refl (g .fills) in
+    subst (λ (q : Pdu). WritesBack b q) (g .same-record) (record { granted = rw (g .fine) (c .within); bytes = c .bytes-back })

@@ -1,0 +1,62 @@
+use Rattle.pdu.specs.declared.Pdu.the-variants.{GetApplicationId}
+use Rattle.pdu_write.proofs.Ways.{end, put, grants-of, not-allowed, refused-8, refused-14, wrote}
+use Rattle.pdu.specs.Writing.{grants, stringsOf, joined, encode}
+use Rattle.pdu.specs.Rules.{allowed}
+use Rattle.pdu.specs.Records.{kindOf, numsOf, sizeOf, spansOf}
+use Rattle.pdu.specs.Layout.{widths}
+use Rattle.wire.proofs.Numbers.{fit0, fit1, fit2, fit4}
+use Rattle.wire.specs.Numbers.{bytesOf, putAll}
+use borrow.Author.Tests.{not-true, not-false}
+use Prim.Native.Nat.{ℕ, _≤_}
+use denote.Ref.{now}
+use native.Mathlib.Omega.{arith}
+use mathlib.Core.List.{List, [], _∷_}
+use mathlib.Core.Path.{_≡_, refl, sym, ap, _∙_}
+use borrow.Author.Needs.{needs}
+use Rattle.pdu_write.proofs.write_get_application_id.Statement.{statement}
+use Rattle.pdu_write.proofs.write_get_application_id.Tie as tie
+use Rattle.pdu_write.proofs.write_get_application_id.Reads as reads
+use Rattle.pdu_write.proofs.write_get_application_id.Lts as lts
+use Rattle.wire.proofs.write_u16.Reads as write-u16-reads
+use Rattle.wire.proofs.write_u32.Reads as write-u32-reads
+
+-- src/lib.rt:265:9
+returns : tie.Need-returns
+unfolding grants allowed spansOf sizeOf
+returns c = refused-14 (GetApplicationId (c .before .before .before .args .e)) (now (c .before .before .before .args .src)) (now (c .before .before .before .args .out)) refl (c .if1 .taken)
+
+-- src/lib.rt:267:5
+write-u16-requires : tie.Need-write-u16-requires
+write-u16-requires c κs = search needs
+
+-- src/lib.rt:268:5
+write-u16-requires-2 : tie.Need-write-u16-requires-2
+write-u16-requires-2 c κs = search needs
+
+-- src/lib.rt:269:5
+write-u32-requires : tie.Need-write-u32-requires
+write-u32-requires c κs = search needs
+
+-- src/lib.rt:261:1
+same-length : tie.Need-same-length
+same-length c = search needs
+
+-- src/lib.rt:261:1
+returns-2 : tie.Need-returns-2
+unfolding grants allowed spansOf sizeOf widths kindOf numsOf joined encode putAll bytesOf stringsOf
+returns-2 c = let a = c .before .before .before .before .before .before .before .before .before .before .before .before .before .before .before .args in
+    let g = c .before .before .before .before .before .before .before .before .before .before .before .before .before .before .before .good .0 in
+    wrote (GetApplicationId (a .e)) (now (a .src)) (now (a .out)) 8 _ _ refl (c .before .before .before .before .before .before .before .before .before .before .before .before .if1 .left)
+    (fit4 (omega (arith, g)) fit0)
+    refl refl (put (c .before .before .before .before .before .before .before .before .before .before .write-u16 .ensures) refl (put (c .before .before .before .before .before .before .write-u162 .ensures) refl (put (c .before .before .write-u32 .ensures) refl end)))
+
+pub write-get-application-id-spec : {M : Type 1} → statement M
+write-get-application-id-spec =
+    tie.close
+    (tie.spec
+    returns
+    write-u16-requires
+    write-u16-requires-2
+    write-u32-requires
+    same-length
+    returns-2)
