@@ -127,7 +127,7 @@ result-small e h =
     let n = e .«exe_or_file» .len in
     leb-true n 520 (both-right (both (oneOf (e .«exec_result») execResults) (leb 1 n)) (leb n 520) h)
 
-size-small : (p : Pdu) → allowed p ≡ true → sizeOf p < 65536
+pub size-small : (p : Pdu) → allowed p ≡ true → sizeOf p < 65536
 unfolding sizeOf allowed
 size-small (Execute e) a = let s = execute-small e a in omega (arith, s .file, s .directory, s .arguments-small)
 size-small (Activate e) a = omega arith

@@ -105,3 +105,7 @@ lie-three n a b d h =
 -- the place after a string
 pub after : (n : ℕ) (src : List ℕ) (t : Span) → t .at + t .len ≤ length src → n + t .len ≡ n + length (partOf src t)
 after n src t h = ap (λ (k : ℕ). n + k) (sym (length-slice src (t .at) (t .len) h))
+
+-- output memory that keeps its length has room for what is written next
+pub room : (a n : ℕ) {k m : ℕ} → leb a n ≡ true → k ≡ m → n ≤ m → a ≤ k
+room a n h e l = let s = leb-true a n h in omega arith

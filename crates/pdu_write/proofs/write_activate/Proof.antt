@@ -1,10 +1,11 @@
+use Rattle.pdu_write.proofs.Ways.{room}
 use Rattle.pdu.specs.declared.Pdu.the-variants.{Activate}
 use Rattle.pdu_write.proofs.Ways.{end, put, grants-of, not-allowed, refused-8, refused-14, wrote}
 use Rattle.pdu.specs.Writing.{grants, stringsOf, joined, encode}
 use Rattle.pdu.specs.Rules.{allowed}
 use Rattle.pdu.specs.Records.{kindOf, numsOf, sizeOf, spansOf}
 use Rattle.pdu.specs.Layout.{widths}
-use Rattle.wire.proofs.Numbers.{fit0, fit1, fit2, fit4}
+use Rattle.wire.proofs.Numbers.{Fit, fit0, fit1, fit2, fit4}
 use Rattle.wire.specs.Numbers.{bytesOf, putAll}
 use borrow.Author.Tests.{not-true, not-false}
 use Prim.Native.Nat.{ℕ, _≤_}
@@ -22,6 +23,12 @@ use Rattle.wire.proofs.write_u16.Reads as write-u16-reads
 use Rattle.wire.proofs.write_u32.Reads as write-u32-reads
 use Rattle.wire.proofs.write_u8.Reads as write-u8-reads
 
+-- the numbers of a record fit their fields
+fits : (u : tie.Start) → Fit (4 ∷ 1 ∷ []) (u .args .e .«window_id» .id ∷ u .args .e .enabled ∷ [])
+fits u =
+    let g = u .good .0 in
+    fit4 {n = u .args .e .«window_id» .id} (omega (arith, g)) (fit1 {n = u .args .e .enabled} (omega (arith, g)) fit0)
+
 -- src/lib.rt:125:9
 activate-allowed-requires : tie.Need-activate-allowed-requires
 activate-allowed-requires c κs = search needs
@@ -38,31 +45,30 @@ returns-2 c = refused-14 (Activate (c .before .before .before .before .before .a
 
 -- src/lib.rt:131:5
 write-u16-requires : tie.Need-write-u16-requires
-write-u16-requires c κs = search needs
+write-u16-requires c κs = room 2 9 refl (refl) (c .before .if2 .left)
 
 -- src/lib.rt:132:5
 write-u16-requires-2 : tie.Need-write-u16-requires-2
-write-u16-requires-2 c κs = search needs
+write-u16-requires-2 c κs = room 4 9 refl (c .before .before .before .write-u16 .kept .0) (c .before .before .before .before .before .if2 .left)
 
 -- src/lib.rt:133:5
 write-u32-requires : tie.Need-write-u32-requires
-write-u32-requires c κs = search needs
+write-u32-requires c κs = room 8 9 refl (c .before .before .before .write-u162 .kept .0 ∙ c .before .before .before .before .before .before .before .write-u16 .kept .0) (c .before .before .before .before .before .before .before .before .before .if2 .left)
 
 -- src/lib.rt:134:5
 write-u8-requires : tie.Need-write-u8-requires
-write-u8-requires c κs = search needs
+write-u8-requires c κs = room 9 9 refl (c .before .before .before .write-u32 .kept .0 ∙ c .before .before .before .before .before .before .before .write-u162 .kept .0 ∙ c .before .before .before .before .before .before .before .before .before .before .before .write-u16 .kept .0) (c .before .before .before .before .before .before .before .before .before .before .before .before .before .if2 .left)
 
 -- src/lib.rt:122:1
 same-length : tie.Need-same-length
-same-length c = search needs
+same-length c = c .before .before .write-u8 .kept .0 ∙ c .before .before .before .before .before .before .write-u32 .kept .0 ∙ c .before .before .before .before .before .before .before .before .before .before .write-u162 .kept .0 ∙ c .before .before .before .before .before .before .before .before .before .before .before .before .before .before .write-u16 .kept .0
 
 -- src/lib.rt:122:1
 returns-3 : tie.Need-returns-3
 unfolding grants allowed spansOf sizeOf widths kindOf numsOf joined encode putAll bytesOf stringsOf
 returns-3 c = let a = c .before .before .before .before .before .before .before .before .before .before .before .before .before .before .before .before .before .before .before .before .before .args in
-    let g = c .before .before .before .before .before .before .before .before .before .before .before .before .before .before .before .before .before .before .before .before .before .good .0 in
     wrote (Activate (a .e)) (now (a .src)) (now (a .out)) 9 _ _ (grants-of (Activate (c .before .before .before .before .before .before .before .before .before .before .before .before .before .before .before .before .before .before .before .before .before .args .e)) (now (c .before .before .before .before .before .before .before .before .before .before .before .before .before .before .before .before .before .before .before .before .before .args .src)) (sym (c .before .before .before .before .before .before .before .before .before .before .before .before .before .before .before .before .before .before .activate-allowed .ensures) ∙ not-false (c .before .before .before .before .before .before .before .before .before .before .before .before .before .before .before .before .before .before .activate-allowed .result) (c .before .before .before .before .before .before .before .before .before .before .before .before .before .before .before .before .before .if1 .left)) refl) (c .before .before .before .before .before .before .before .before .before .before .before .before .before .before .before .before .if2 .left)
-    (fit4 (omega (arith, g)) (fit1 (omega (arith, g)) fit0))
+    (fits (c .before .before .before .before .before .before .before .before .before .before .before .before .before .before .before .before .before .before .before .before .before))
     refl refl (put (c .before .before .before .before .before .before .before .before .before .before .before .before .before .before .write-u16 .ensures) refl (put (c .before .before .before .before .before .before .before .before .before .before .write-u162 .ensures) refl (put (c .before .before .before .before .before .before .write-u32 .ensures) refl (put (c .before .before .write-u8 .ensures) refl end))))
 
 pub write-activate-spec : {M : Type 1} → statement M

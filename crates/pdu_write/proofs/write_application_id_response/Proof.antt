@@ -4,7 +4,7 @@ use Rattle.pdu.specs.Rules.{allowed}
 use Rattle.pdu.specs.Records.{kindOf, numsOf, sizeOf, spansOf}
 use Rattle.pdu.specs.Layout.{widths}
 use Rattle.pdu.specs.declared.Pdu.the-variants.{ApplicationIdResponse}
-use Rattle.wire.proofs.Numbers.{fit0, fit1, fit2, fit4}
+use Rattle.wire.proofs.Numbers.{Fit, fit0, fit1, fit2, fit4}
 use Rattle.wire.specs.Numbers.{bytesOf, putAll}
 use borrow.Author.Tests.{leb-true, not-true, not-false}
 use lib.ListN.{length}
@@ -32,6 +32,12 @@ permits u = sym (u .before .before .before .before .application-id-response-allo
 
 lies-there : (u : tie.Else2) → lies (length (now (u .before .before .before .before .before .before .before .args .src))) (u .before .before .before .before .before .before .before .args .e .«application_id») ≡ true
 lies-there u = sym (u .before .lies-in .ensures) ∙ not-false (u .before .lies-in .result) (u .if2 .left)
+
+-- the numbers of a record fit their fields
+fits : (u : tie.Start) → Fit (4 ∷ []) (u .args .e .«window_id» .id ∷ [])
+fits u =
+    let g = u .good .0 in
+    fit4 {n = u .args .e .«window_id» .id} (omega (arith, g)) fit0
 
 -- src/lib.rt:276:9
 application-id-response-allowed-requires : tie.Need-application-id-response-allowed-requires
@@ -84,10 +90,9 @@ same-length c = search needs
 returns-4 : tie.Need-returns-4
 unfolding allowed spansOf sizeOf widths kindOf numsOf joined encode putAll bytesOf stringsOf filled
 returns-4 c = let a = c .before .before .before .before .before .before .before .before .before .before .before .before .before .before .before .before .before .before .before .before .before .before .before .before .args in
-    let g = c .before .before .before .before .before .before .before .before .before .before .before .before .before .before .before .before .before .before .before .before .before .before .before .before .good .0 in
     let p = ApplicationIdResponse (a .e) in
     wrote p (now (a .src)) (now (a .out)) 528 _ _ (grants-of p (now (a .src)) (permits (c .before .before .before .before .before .before .before .before .before .before .before .before .before .before .before .before .before)) (lie-1 (length (now (a .src))) (a .e .«application_id») true (lies-there (c .before .before .before .before .before .before .before .before .before .before .before .before .before .before .before .before .before)))) (c .before .before .before .before .before .before .before .before .before .before .before .before .before .before .before .before .if3 .left)
-    (fit4 (omega (arith, g)) fit0)
+    (fits (c .before .before .before .before .before .before .before .before .before .before .before .before .before .before .before .before .before .before .before .before .before .before .before .before))
     refl refl (put (c .before .before .before .before .before .before .before .before .before .before .before .before .before .before .write-u16 .ensures) refl (put (c .before .before .before .before .before .before .before .before .before .before .write-u162 .ensures) refl (put (c .before .before .before .before .before .before .write-u32 .ensures) refl (put (c .before .before .put-application-id .ensures) refl end))))
 
 pub write-application-id-response-spec : {M : Type 1} → statement M

@@ -1,10 +1,11 @@
+use Rattle.pdu_write.proofs.Ways.{room}
 use Rattle.pdu.specs.declared.Pdu.the-variants.{GetApplicationId}
 use Rattle.pdu_write.proofs.Ways.{end, put, grants-of, not-allowed, refused-8, refused-14, wrote}
 use Rattle.pdu.specs.Writing.{grants, stringsOf, joined, encode}
 use Rattle.pdu.specs.Rules.{allowed}
 use Rattle.pdu.specs.Records.{kindOf, numsOf, sizeOf, spansOf}
 use Rattle.pdu.specs.Layout.{widths}
-use Rattle.wire.proofs.Numbers.{fit0, fit1, fit2, fit4}
+use Rattle.wire.proofs.Numbers.{Fit, fit0, fit1, fit2, fit4}
 use Rattle.wire.specs.Numbers.{bytesOf, putAll}
 use borrow.Author.Tests.{not-true, not-false}
 use Prim.Native.Nat.{ℕ, _≤_}
@@ -20,6 +21,12 @@ use Rattle.pdu_write.proofs.write_get_application_id.Lts as lts
 use Rattle.wire.proofs.write_u16.Reads as write-u16-reads
 use Rattle.wire.proofs.write_u32.Reads as write-u32-reads
 
+-- the numbers of a record fit their fields
+fits : (u : tie.Start) → Fit (4 ∷ []) (u .args .e .«window_id» .id ∷ [])
+fits u =
+    let g = u .good .0 in
+    fit4 {n = u .args .e .«window_id» .id} (omega (arith, g)) fit0
+
 -- src/lib.rt:265:9
 returns : tie.Need-returns
 unfolding grants allowed spansOf sizeOf
@@ -27,27 +34,26 @@ returns c = refused-14 (GetApplicationId (c .before .before .before .args .e)) (
 
 -- src/lib.rt:267:5
 write-u16-requires : tie.Need-write-u16-requires
-write-u16-requires c κs = search needs
+write-u16-requires c κs = room 2 8 refl (refl) (c .before .if1 .left)
 
 -- src/lib.rt:268:5
 write-u16-requires-2 : tie.Need-write-u16-requires-2
-write-u16-requires-2 c κs = search needs
+write-u16-requires-2 c κs = room 4 8 refl (c .before .before .before .write-u16 .kept .0) (c .before .before .before .before .before .if1 .left)
 
 -- src/lib.rt:269:5
 write-u32-requires : tie.Need-write-u32-requires
-write-u32-requires c κs = search needs
+write-u32-requires c κs = room 8 8 refl (c .before .before .before .write-u162 .kept .0 ∙ c .before .before .before .before .before .before .before .write-u16 .kept .0) (c .before .before .before .before .before .before .before .before .before .if1 .left)
 
 -- src/lib.rt:261:1
 same-length : tie.Need-same-length
-same-length c = search needs
+same-length c = c .before .before .write-u32 .kept .0 ∙ c .before .before .before .before .before .before .write-u162 .kept .0 ∙ c .before .before .before .before .before .before .before .before .before .before .write-u16 .kept .0
 
 -- src/lib.rt:261:1
 returns-2 : tie.Need-returns-2
 unfolding grants allowed spansOf sizeOf widths kindOf numsOf joined encode putAll bytesOf stringsOf
 returns-2 c = let a = c .before .before .before .before .before .before .before .before .before .before .before .before .before .before .before .args in
-    let g = c .before .before .before .before .before .before .before .before .before .before .before .before .before .before .before .good .0 in
     wrote (GetApplicationId (a .e)) (now (a .src)) (now (a .out)) 8 _ _ refl (c .before .before .before .before .before .before .before .before .before .before .before .before .if1 .left)
-    (fit4 (omega (arith, g)) fit0)
+    (fits (c .before .before .before .before .before .before .before .before .before .before .before .before .before .before .before))
     refl refl (put (c .before .before .before .before .before .before .before .before .before .before .write-u16 .ensures) refl (put (c .before .before .before .before .before .before .write-u162 .ensures) refl (put (c .before .before .write-u32 .ensures) refl end)))
 
 pub write-get-application-id-spec : {M : Type 1} → statement M

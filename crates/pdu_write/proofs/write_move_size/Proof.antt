@@ -1,12 +1,13 @@
+use Rattle.pdu_write.proofs.Ways.{room}
 use Rattle.pdu_write.proofs.Ways.{yes-small}
 use Rattle.wire.specs.Parts.{splice}
 use Rattle.pdu.specs.declared.Pdu.the-variants.{MoveSize}
 use Rattle.pdu_write.proofs.Ways.{end, put, grants-of, not-allowed, refused-8, refused-14, wrote}
 use Rattle.pdu.specs.Writing.{grants, stringsOf, joined, encode}
 use Rattle.pdu.specs.Rules.{allowed}
-use Rattle.pdu.specs.Records.{kindOf, numsOf, sizeOf, spansOf}
+use Rattle.pdu.specs.Records.{yesNumber, kindOf, numsOf, sizeOf, spansOf}
 use Rattle.pdu.specs.Layout.{widths}
-use Rattle.wire.proofs.Numbers.{fit0, fit1, fit2, fit4}
+use Rattle.wire.proofs.Numbers.{Fit, fit0, fit1, fit2, fit4}
 use Rattle.wire.specs.Numbers.{bytesOf, putAll}
 use borrow.Author.Tests.{not-true, not-false}
 use Prim.Native.Nat.{ℕ, _≤_}
@@ -24,6 +25,12 @@ use Rattle.pdu_write.proofs.yes_number.Reads as yes-number-reads
 use Rattle.wire.proofs.write_u16.Reads as write-u16-reads
 use Rattle.wire.proofs.write_u32.Reads as write-u32-reads
 
+-- the numbers of a record fit their fields
+fits : (u : tie.Start) → Fit (4 ∷ 2 ∷ 2 ∷ 2 ∷ 2 ∷ []) (u .args .e .«window_id» .id ∷ yesNumber (u .args .e .«is_start») ∷ u .args .e .«move_size_type» ∷ u .args .e .«pos_x» ∷ u .args .e .«pos_y» ∷ [])
+fits u =
+    let g = u .good .0 in
+    fit4 {n = u .args .e .«window_id» .id} (omega (arith, g)) (fit2 (yes-small (u .args .e .«is_start»)) (fit2 {n = u .args .e .«move_size_type»} (omega (arith, g)) (fit2 {n = u .args .e .«pos_x»} (omega (arith, g)) (fit2 {n = u .args .e .«pos_y»} (omega (arith, g)) fit0))))
+
 -- src/lib.rt:199:9
 move-size-allowed-requires : tie.Need-move-size-allowed-requires
 move-size-allowed-requires c κs = search needs
@@ -40,15 +47,15 @@ returns-2 c = refused-14 (MoveSize (c .before .before .before .before .before .a
 
 -- src/lib.rt:205:5
 write-u16-requires : tie.Need-write-u16-requires
-write-u16-requires c κs = search needs
+write-u16-requires c κs = room 2 16 refl (refl) (c .before .if2 .left)
 
 -- src/lib.rt:206:5
 write-u16-requires-2 : tie.Need-write-u16-requires-2
-write-u16-requires-2 c κs = search needs
+write-u16-requires-2 c κs = room 4 16 refl (c .before .before .before .write-u16 .kept .0) (c .before .before .before .before .before .if2 .left)
 
 -- src/lib.rt:207:5
 write-u32-requires : tie.Need-write-u32-requires
-write-u32-requires c κs = search needs
+write-u32-requires c κs = room 8 16 refl (c .before .before .before .write-u162 .kept .0 ∙ c .before .before .before .before .before .before .before .write-u16 .kept .0) (c .before .before .before .before .before .before .before .before .before .if2 .left)
 
 -- src/lib.rt:208:29
 yes-number-requires : tie.Need-yes-number-requires
@@ -56,31 +63,30 @@ yes-number-requires c κs = search needs
 
 -- src/lib.rt:208:5
 write-u16-requires-3 : tie.Need-write-u16-requires-3
-write-u16-requires-3 c κs = search needs
+write-u16-requires-3 c κs = room 10 16 refl (c .before .before .before .before .write-u32 .kept .0 ∙ c .before .before .before .before .before .before .before .before .write-u162 .kept .0 ∙ c .before .before .before .before .before .before .before .before .before .before .before .before .write-u16 .kept .0) (c .before .before .before .before .before .before .before .before .before .before .before .before .before .before .if2 .left)
 
 -- src/lib.rt:209:5
 write-u16-requires-4 : tie.Need-write-u16-requires-4
-write-u16-requires-4 c κs = search needs
+write-u16-requires-4 c κs = room 12 16 refl (c .before .before .before .write-u163 .kept .0 ∙ c .before .before .before .before .before .before .before .before .write-u32 .kept .0 ∙ c .before .before .before .before .before .before .before .before .before .before .before .before .write-u162 .kept .0 ∙ c .before .before .before .before .before .before .before .before .before .before .before .before .before .before .before .before .write-u16 .kept .0) (c .before .before .before .before .before .before .before .before .before .before .before .before .before .before .before .before .before .before .if2 .left)
 
 -- src/lib.rt:210:5
 write-u16-requires-5 : tie.Need-write-u16-requires-5
-write-u16-requires-5 c κs = search needs
+write-u16-requires-5 c κs = room 14 16 refl (c .before .before .before .write-u164 .kept .0 ∙ c .before .before .before .before .before .before .before .write-u163 .kept .0 ∙ c .before .before .before .before .before .before .before .before .before .before .before .before .write-u32 .kept .0 ∙ c .before .before .before .before .before .before .before .before .before .before .before .before .before .before .before .before .write-u162 .kept .0 ∙ c .before .before .before .before .before .before .before .before .before .before .before .before .before .before .before .before .before .before .before .before .write-u16 .kept .0) (c .before .before .before .before .before .before .before .before .before .before .before .before .before .before .before .before .before .before .before .before .before .before .if2 .left)
 
 -- src/lib.rt:211:5
 write-u16-requires-6 : tie.Need-write-u16-requires-6
-write-u16-requires-6 c κs = search needs
+write-u16-requires-6 c κs = room 16 16 refl (c .before .before .before .write-u165 .kept .0 ∙ c .before .before .before .before .before .before .before .write-u164 .kept .0 ∙ c .before .before .before .before .before .before .before .before .before .before .before .write-u163 .kept .0 ∙ c .before .before .before .before .before .before .before .before .before .before .before .before .before .before .before .before .write-u32 .kept .0 ∙ c .before .before .before .before .before .before .before .before .before .before .before .before .before .before .before .before .before .before .before .before .write-u162 .kept .0 ∙ c .before .before .before .before .before .before .before .before .before .before .before .before .before .before .before .before .before .before .before .before .before .before .before .before .write-u16 .kept .0) (c .before .before .before .before .before .before .before .before .before .before .before .before .before .before .before .before .before .before .before .before .before .before .before .before .before .before .if2 .left)
 
 -- src/lib.rt:196:1
 same-length : tie.Need-same-length
-same-length c = search needs
+same-length c = c .before .before .write-u166 .kept .0 ∙ c .before .before .before .before .before .before .write-u165 .kept .0 ∙ c .before .before .before .before .before .before .before .before .before .before .write-u164 .kept .0 ∙ c .before .before .before .before .before .before .before .before .before .before .before .before .before .before .write-u163 .kept .0 ∙ c .before .before .before .before .before .before .before .before .before .before .before .before .before .before .before .before .before .before .before .write-u32 .kept .0 ∙ c .before .before .before .before .before .before .before .before .before .before .before .before .before .before .before .before .before .before .before .before .before .before .before .write-u162 .kept .0 ∙ c .before .before .before .before .before .before .before .before .before .before .before .before .before .before .before .before .before .before .before .before .before .before .before .before .before .before .before .write-u16 .kept .0
 
 -- src/lib.rt:196:1
 returns-3 : tie.Need-returns-3
 unfolding grants allowed spansOf sizeOf widths kindOf numsOf joined encode putAll bytesOf stringsOf
 returns-3 c = let a = c .before .before .before .before .before .before .before .before .before .before .before .before .before .before .before .before .before .before .before .before .before .before .before .before .before .before .before .before .before .before .before .before .before .before .args in
-    let g = c .before .before .before .before .before .before .before .before .before .before .before .before .before .before .before .before .before .before .before .before .before .before .before .before .before .before .before .before .before .before .before .before .before .before .good .0 in
     wrote (MoveSize (a .e)) (now (a .src)) (now (a .out)) 16 _ _ (grants-of (MoveSize (c .before .before .before .before .before .before .before .before .before .before .before .before .before .before .before .before .before .before .before .before .before .before .before .before .before .before .before .before .before .before .before .before .before .before .args .e)) (now (c .before .before .before .before .before .before .before .before .before .before .before .before .before .before .before .before .before .before .before .before .before .before .before .before .before .before .before .before .before .before .before .before .before .before .args .src)) (sym (c .before .before .before .before .before .before .before .before .before .before .before .before .before .before .before .before .before .before .before .before .before .before .before .before .before .before .before .before .before .before .before .move-size-allowed .ensures) ∙ not-false (c .before .before .before .before .before .before .before .before .before .before .before .before .before .before .before .before .before .before .before .before .before .before .before .before .before .before .before .before .before .before .before .move-size-allowed .result) (c .before .before .before .before .before .before .before .before .before .before .before .before .before .before .before .before .before .before .before .before .before .before .before .before .before .before .before .before .before .before .if1 .left)) refl) (c .before .before .before .before .before .before .before .before .before .before .before .before .before .before .before .before .before .before .before .before .before .before .before .before .before .before .before .before .before .if2 .left)
-    (fit4 (omega (arith, g)) (fit2 (yes-small (a .e .«is_start»)) (fit2 (omega (arith, g)) (fit2 (omega (arith, g)) (fit2 (omega (arith, g)) fit0)))))
+    (fits (c .before .before .before .before .before .before .before .before .before .before .before .before .before .before .before .before .before .before .before .before .before .before .before .before .before .before .before .before .before .before .before .before .before .before))
     refl refl (put (c .before .before .before .before .before .before .before .before .before .before .before .before .before .before .before .before .before .before .before .before .before .before .before .before .before .before .before .write-u16 .ensures) refl (put (c .before .before .before .before .before .before .before .before .before .before .before .before .before .before .before .before .before .before .before .before .before .before .before .write-u162 .ensures) refl (put (c .before .before .before .before .before .before .before .before .before .before .before .before .before .before .before .before .before .before .before .write-u32 .ensures) refl (put (c .before .before .before .before .before .before .before .before .before .before .before .before .before .before .write-u163 .ensures ∙ ap (λ (v : ℕ). splice (c .before .before .before .before .before .before .before .before .before .before .before .before .before .before .before .before .before .before .before .write-u32 .last .0) 8 (bytesOf 2 v)) (c .before .before .before .before .before .before .before .before .before .before .before .before .before .before .before .yes-number .ensures)) refl (put (c .before .before .before .before .before .before .before .before .before .before .write-u164 .ensures) refl (put (c .before .before .before .before .before .before .write-u165 .ensures) refl (put (c .before .before .write-u166 .ensures) refl end)))))))
 
 pub write-move-size-spec : {M : Type 1} → statement M

@@ -1,0 +1,78 @@
+//! Speed of the proved control-message code beside the plain Rust of `second`:
+//! nanoseconds and instructions per call, on the same messages, in the same run.
+
+mod call;
+mod check;
+mod inputs;
+mod instructions;
+mod plain;
+mod table;
+mod time;
+
+use std::env;
+use std::process::ExitCode;
+
+const HELP: &str = "\
+bench: the proved control-message code beside the plain Rust of `second`
+
+  bench                check, time and instructions, in turn
+  bench check          compare the two sides' answers, words and bytes on every
+                       benchmark message and on generated ones
+  bench time           print nanoseconds per call as a Markdown table
+  bench instructions   print instructions per call as a Markdown table; runs
+                       itself under valgrind --tool=callgrind
+  bench one MESSAGE SIDE JOB N
+                       make N calls and print nothing, for callgrind.
+                       SIDE: proved, plain or empty; JOB: read or tidy
+  bench messages       list the benchmark messages
+
+Jobs: `read` takes a message's bytes to a judged record and its fields to 12
+words; `tidy` takes a message's bytes to a record and the record to bytes in an
+output buffer. Writing alone is not printed: the library has no entry point that
+reads without either, so that there is nothing fair to take away from `tidy`.
+
+Exit status: 0 done, 1 a difference or a failure, 2 bad usage.
+";
+
+fn main() -> ExitCode {
+    let words: Vec<String> = env::args().skip(1).collect();
+    let words: Vec<&str> = words.iter().map(String::as_str).collect();
+    let done = match words[..] {
+        [] => everything(),
+        ["check"] => check::run(),
+        ["time"] => time::run(),
+        ["instructions"] => instructions::run(),
+        ["one", message, side, job, calls] => instructions::one(message, side, job, calls),
+        ["messages"] => list_messages(),
+        ["--help" | "-h" | "help"] => {
+            print!("{HELP}");
+            Ok(())
+        }
+        _ => {
+            eprint!("{HELP}");
+            return ExitCode::from(2);
+        }
+    };
+    match done {
+        Ok(()) => ExitCode::SUCCESS,
+        Err(fault) => {
+            eprintln!("bench: {fault}");
+            ExitCode::FAILURE
+        }
+    }
+}
+
+fn everything() -> Result<(), String> {
+    check::run()?;
+    println!();
+    time::run()?;
+    println!();
+    instructions::run()
+}
+
+fn list_messages() -> Result<(), String> {
+    for input in inputs::all() {
+        println!("{}: {}", input.name, input.label);
+    }
+    Ok(())
+}

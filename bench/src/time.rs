@@ -1,0 +1,73 @@
+//! Nanoseconds per call.
+
+use std::time::{Duration, Instant};
+
+use crate::call::{repeat, Job, Memory, Side, EMPTY, PLAIN, PROVED};
+use crate::inputs;
+use crate::table::{print_header, print_row, Cost};
+
+/// Runs of which the median is taken, and what each lasts at least. They are
+/// short, so that most of them are not interrupted.
+const RUNS: usize = 51;
+const RUN_TIME: Duration = Duration::from_millis(1);
+
+/// Prints the table.
+pub fn run() -> Result<(), String> {
+    let mut memory = Memory::new();
+    print_header("ns");
+    for input in inputs::all() {
+        let costs = Job::ALL.map(|job| {
+            let [proved, plain] = medians([&PROVED, &PLAIN], job, &input.message, &mut memory);
+            Cost { proved, plain }
+        });
+        print_row(input.label, input.message.len(), costs, 1);
+    }
+    let [read, tidy] = Job::ALL.map(|job| medians([&EMPTY], job, &[], &mut memory)[0]);
+    println!();
+    println!(
+        "Nanoseconds per call, the median of {RUNS} runs of at least {} ms. Each number has in it \
+         the loop and an indirect call, which with an empty function take {read:.1} (read) and \
+         {tidy:.1} (read and write). Output memory is not cleared between calls.",
+        RUN_TIME.as_millis(),
+    );
+    Ok(())
+}
+
+/// The median for each side. The sides take turns, so that a slower spell of the
+/// machine meets all of them.
+fn medians<const N: usize>(
+    sides: [&Side; N],
+    job: Job,
+    message: &[u8],
+    memory: &mut Memory,
+) -> [f64; N] {
+    let calls = sides.map(|side| enough_calls(side, job, message, memory));
+    let mut runs = [[0.0; RUNS]; N];
+    for turn in 0..RUNS {
+        for place in 0..N {
+            let at = (place + turn) % N;
+            let taken = elapsed(sides[at], job, message, memory, calls[at]);
+            runs[at][turn] = taken.as_secs_f64() * 1e9 / calls[at] as f64;
+        }
+    }
+    runs.map(|mut run| {
+        run.sort_by(f64::total_cmp);
+        run[RUNS / 2]
+    })
+}
+
+/// So many calls that even the quickest of a few runs lasts long enough; warms
+/// up as well.
+fn enough_calls(side: &Side, job: Job, message: &[u8], memory: &mut Memory) -> u64 {
+    let mut calls = 1_000;
+    while (0..3).any(|_| elapsed(side, job, message, memory, calls) < RUN_TIME) {
+        calls *= 2;
+    }
+    calls
+}
+
+fn elapsed(side: &Side, job: Job, message: &[u8], memory: &mut Memory, calls: u64) -> Duration {
+    let start = Instant::now();
+    repeat(side, job, message, memory, calls);
+    start.elapsed()
+}

@@ -1,0 +1,12 @@
+-- The cases marked (T) hold, by computation. Assumes nothing.
+use mathlib.Core.Path.{_≡_, refl}
+use Rattle.wire.specs.Numbers.{numAt, numsAt}
+use Rattle.pdu.specs.Layout.{known, widths}
+use Rattle.pdu.specs.Records.{recordOf, sizeOf}
+use Rattle.pdu.specs.Rules.{allowed}
+use Rattle.pdu.specs.Reading.{recordAs, readOf}
+use Rattle.cases.specs.Cases.{CasesHold}
+
+pub cases-hold : CasesHold
+unfolding CasesHold readOf recordAs recordOf known widths numsAt numAt sizeOf allowed
+cases-hold = refl

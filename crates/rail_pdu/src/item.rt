@@ -1,0 +1,127 @@
+// The items of a script: each is a kind (1 byte), a length (2) and a payload. A function that ends
+// an item answers whether the run goes on.
+use crate::line;
+use crate::record;
+use crate::record::Record;
+use crate::show;
+use libc::STDIN_FILENO;
+use libc::STDOUT_FILENO;
+use pdu::Pdu;
+use pdu::Read;
+use pdu::Written;
+
+// The most output memory that an item can ask for.
+const SIZE_MAX: usize = 17408;
+
+fn bad_item() -> bool {
+    io::write_all(STDOUT_FILENO, b"bad item\n");
+    false
+}
+
+fn memory_changed() -> bool {
+    io::write_all(STDOUT_FILENO, b"output memory changed\n");
+    false
+}
+
+// The number that a read answers.
+fn number_of(answer: Read) -> u8 {
+    match answer {
+        Read::Message(_) => 0,
+        Read::Refused(number) => number,
+    }
+}
+
+// R: reads the message s and prints its record, or the refusal.
+fn read_call(s: &[u8], out: &mut [u8]) -> bool {
+    let answer = pdu_read::read_pdu(s);
+    let Read::Message(p) = answer else {
+        let n = line::field1(out, 0, b"R ", number_of(answer));
+        return line::end(out, n);
+    };
+    let n = show::message(out, s, p);
+    line::end(out, n)
+}
+
+// Whether each byte from index at on is EE still.
+fn is_kept(memory: &[u8], at: usize) -> bool {
+    let mut i = at;
+    while i < memory.len() {
+        if memory[i] != 0xEE {
+            return false;
+        }
+        i += 1;
+    }
+    true
+}
+
+// The line of a refused write, which has to leave the memory as it was.
+fn refused(memory: &[u8], number: u8, out: &mut [u8]) -> bool {
+    if !is_kept(memory, 0) {
+        return memory_changed();
+    }
+    let n = line::field1(out, 0, b"P ", number);
+    line::end(out, n)
+}
+
+// The line of a granted write of n bytes, which has to leave the memory past them as it was.
+fn granted(memory: &[u8], n: usize, out: &mut [u8]) -> bool {
+    if n > memory.len() {
+        return memory_changed();
+    }
+    if !is_kept(memory, n) {
+        return memory_changed();
+    }
+    let at = line::text(out, 0, b"P 0 ");
+    let at = line::hex(out, at, &memory[0..n]);
+    line::end(out, at)
+}
+
+// Writes the record p, whose strings stand in s, to the memory lent.
+fn write_to(p: Pdu, s: &[u8], memory: &mut [u8], out: &mut [u8]) -> bool {
+    match pdu_write::write_pdu(p, s, memory) {
+        Written::Bytes(n) => granted(memory, n, out),
+        Written::Refused(number) => refused(memory, number, out),
+    }
+}
+
+// P: writes the record of the payload s.
+fn write_call(s: &[u8], out: &mut [u8]) -> bool {
+    let Record::Whole(p) = record::read(s) else {
+        return bad_item();
+    };
+    let size = wire::read_u16(s, 0) as usize;
+    if size > SIZE_MAX {
+        return bad_item();
+    }
+    let mut memory = [0xEEu8; SIZE_MAX];
+    write_to(p, s, &mut memory[0..size], out)
+}
+
+fn call(kind: u8, s: &[u8], out: &mut [u8]) -> bool {
+    match kind {
+        b'R' => read_call(s, out),
+        b'P' => write_call(s, out),
+        _ => bad_item(),
+    }
+}
+
+// Reads an item into the payload's memory and runs it, with out as the memory of its line.
+pub(crate) fn next(payload: &mut [u8], out: &mut [u8]) -> bool {
+    let mut head = [0u8; 3];
+    let got = io::read_full(STDIN_FILENO, &mut head);
+    if got == 0 {
+        return false;
+    }
+    if got < 3 {
+        return bad_item();
+    }
+    let kind = wire::read_u8(&head, 0);
+    let len = wire::read_u16(&head, 1) as usize;
+    if len > payload.len() {
+        return bad_item();
+    }
+    if io::read_full(STDIN_FILENO, &mut payload[0..len]) < len {
+        return bad_item();
+    }
+    call(kind, &payload[0..len], out)
+}
