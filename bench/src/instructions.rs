@@ -38,7 +38,9 @@ pub fn run() -> Result<(), String> {
     println!();
     println!(
         "Instructions per call, counted by callgrind from the entry point's first instruction to \
-         its return, with all that it calls; the loop's own ({} and {}) are taken off.",
+         its return, with all that it calls; the loop's own ({} and {}) are taken off. A copy by \
+         one repeated instruction, as the C library copies long strings, counts once for each \
+         repetition.",
         loops[0], loops[1],
     );
     Ok(())
@@ -85,7 +87,7 @@ fn total(input: &Input, side: &Side, job: Job, calls: u64) -> Result<u64, String
         .args(["one", input.name, side.name, job.name()])
         .arg(calls.to_string())
         .output()
-        .map_err(|error| format!("valgrind: {error}"))?;
+        .map_err(|error| format!("valgrind does not start: {error}"))?;
     let report = String::from_utf8_lossy(&output.stderr);
     if !output.status.success() {
         return Err(format!("valgrind failed: {report}"));

@@ -29,7 +29,10 @@ bench: the proved control-message code beside the plain Rust of `second`
 Jobs: `read` takes a message's bytes to a judged record and its fields to 12
 words; `tidy` takes a message's bytes to a record and the record to bytes in an
 output buffer. Writing alone is not printed: the library has no entry point that
-reads without either, so that there is nothing fair to take away from `tidy`.
+only reads, so that there is nothing fair to take away from `tidy`.
+
+Times depend on the machine and its load: run it on an idle one. Instruction
+counts are the same in every run of the same two builds on the same machine.
 
 Exit status: 0 done, 1 a difference or a failure, 2 bad usage.
 ";

@@ -1,18 +1,10 @@
 // The control messages (PDUs) as records, and document 01's rules for their numbers.
+use ids::NotifyIconId;
+use ids::WindowId;
 ghost use mathlib.Core.Path.{_≡_};
 ghost use Rattle.pdu.specs.Rules.{textOk, executeFlagsOk, commands, execResults, executeAllowed, moveSizeAllowed, executeResultAllowed};
 ghost use Rattle.pdu.specs.Layout.{oneOf};
 ghost use lib.Dec.{leb};
-
-// A server's window id.
-pub struct WindowId {
-    pub id: u32,
-}
-
-// An application's notify-icon id.
-pub struct NotifyIconId {
-    pub id: u32,
-}
 
 // The part of the lent bytes where a string stands.
 pub struct Span {

@@ -1,4 +1,6 @@
 // Control messages read from lent bytes.
+use ids::NotifyIconId;
+use ids::WindowId;
 use pdu::Activate;
 use pdu::ApplicationIdResponse;
 use pdu::ClientInformation;
@@ -9,13 +11,11 @@ use pdu::Handshake;
 use pdu::MinMaxInfo;
 use pdu::MoveSize;
 use pdu::NotifyEvent;
-use pdu::NotifyIconId;
 use pdu::Pdu;
 use pdu::Read;
 use pdu::Span;
 use pdu::SystemCommand;
 use pdu::SystemMenu;
-use pdu::WindowId;
 use pdu::WindowMove;
 ghost use mathlib.Core.Path.{_≡_};
 ghost use Rattle.pdu.specs.Reading.{bodyOf};

@@ -1,5 +1,7 @@
 // The record of a P item. Its payload s has the size of the output memory at 0, the type at 2 and
 // the fields from 4 on; the strings stand after the fields.
+use ids::NotifyIconId;
+use ids::WindowId;
 use pdu::Activate;
 use pdu::ApplicationIdResponse;
 use pdu::ClientInformation;
@@ -10,12 +12,10 @@ use pdu::Handshake;
 use pdu::MinMaxInfo;
 use pdu::MoveSize;
 use pdu::NotifyEvent;
-use pdu::NotifyIconId;
 use pdu::Pdu;
 use pdu::Span;
 use pdu::SystemCommand;
 use pdu::SystemMenu;
-use pdu::WindowId;
 use pdu::WindowMove;
 ghost use Prim.Native.Nat.{_<_};
 use wire::read_u8;
