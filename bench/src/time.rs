@@ -1,13 +1,14 @@
 //! Nanoseconds per call.
 
+use std::array;
 use std::time::{Duration, Instant};
 
 use crate::call::{repeat, Job, Memory, Side, EMPTY, PLAIN, PROVED};
 use crate::inputs;
 use crate::table::{print_header, print_row, Cost};
 
-/// Runs of which the median is taken, and what each lasts at least. They are
-/// short, so that most of them are not interrupted.
+/// Runs of which the median is taken, and about what each lasts at least. They
+/// are short, so that most of them are not interrupted.
 const RUNS: usize = 51;
 const RUN_TIME: Duration = Duration::from_millis(1);
 
@@ -25,7 +26,7 @@ pub fn run() -> Result<(), String> {
     let [read, tidy] = Job::ALL.map(|job| medians([&EMPTY], job, &[], &mut memory)[0]);
     println!();
     println!(
-        "Nanoseconds per call, the median of {RUNS} runs of at least {} ms. Each number has in it \
+        "Nanoseconds per call, the median of {RUNS} runs of about {} ms or longer. Each number has in it \
          the loop and an indirect call, which with an empty function take {read:.1} (read) and \
          {tidy:.1} (read and write). Output memory is not cleared between calls.",
         RUN_TIME.as_millis(),
@@ -42,12 +43,12 @@ fn medians<const N: usize>(
     memory: &mut Memory,
 ) -> [f64; N] {
     let calls = sides.map(|side| enough_calls(side, job, message, memory));
-    let mut runs = [[0.0; RUNS]; N];
+    let mut runs: [Vec<f64>; N] = array::from_fn(|_| Vec::with_capacity(RUNS));
     for turn in 0..RUNS {
         for place in 0..N {
             let at = (place + turn) % N;
             let taken = elapsed(sides[at], job, message, memory, calls[at]);
-            runs[at][turn] = taken.as_secs_f64() * 1e9 / calls[at] as f64;
+            runs[at].push(taken.as_secs_f64() * 1e9 / calls[at] as f64);
         }
     }
     runs.map(|mut run| {

@@ -1,0 +1,12 @@
+use Rattle.order.proofs.TypeBits.{type-ones}
+use lib.Dec.{eqb}
+use Prim.Native.Nat.{ℕ}
+use mathlib.Core.Path.{ap}
+use Rattle.order.proofs.flags.one_type.Statement.{statement}
+use Rattle.order.proofs.flags.one_type.Tie as tie
+
+returns : tie.Need-returns
+returns c = ap (λ (n : ℕ). eqb n 1) (type-ones (c .args .flags))
+
+pub one-type-spec : {M : Type 1} → statement M
+one-type-spec = tie.close (tie.spec returns)
