@@ -26,232 +26,162 @@ fn yes_number(b: bool) -> u32
     if b { 1 } else { 0 }
 }
 
-fn execute_words(e: Execute) -> [u32; 12]
-    ensures { λ r. ⌜ r ≡ executeWords e ⌝ }
+fn execute_words(words: &mut [u32; 12], e: Execute)
+    ensures { λ _. ⌜ now (words .exit) ≡ executeWords e ⌝ }
 {
-    [
-        0x01,
-        e.flags as u32,
-        e.exe_or_file.at,
-        e.exe_or_file.len,
-        e.working_dir.at,
-        e.working_dir.len,
-        e.arguments.at,
-        e.arguments.len,
-        0,
-        0,
-        0,
-        0,
-    ]
+    *words = [0; 12];
+    words[0] = 0x01;
+    words[1] = e.flags as u32;
+    words[2] = e.exe_or_file.at;
+    words[3] = e.exe_or_file.len;
+    words[4] = e.working_dir.at;
+    words[5] = e.working_dir.len;
+    words[6] = e.arguments.at;
+    words[7] = e.arguments.len;
 }
 
-fn activate_words(e: Activate) -> [u32; 12]
-    ensures { λ r. ⌜ r ≡ activateWords e ⌝ }
+fn activate_words(words: &mut [u32; 12], e: Activate)
+    ensures { λ _. ⌜ now (words .exit) ≡ activateWords e ⌝ }
 {
-    [
-        0x02,
-        e.window_id.id,
-        e.enabled as u32,
-        0,
-        0,
-        0,
-        0,
-        0,
-        0,
-        0,
-        0,
-        0,
-    ]
+    *words = [0; 12];
+    words[0] = 0x02;
+    words[1] = e.window_id.id;
+    words[2] = e.enabled as u32;
 }
 
-fn system_command_words(e: SystemCommand) -> [u32; 12]
-    ensures { λ r. ⌜ r ≡ systemCommandWords e ⌝ }
+fn system_command_words(words: &mut [u32; 12], e: SystemCommand)
+    ensures { λ _. ⌜ now (words .exit) ≡ systemCommandWords e ⌝ }
 {
-    [
-        0x04,
-        e.window_id.id,
-        e.command as u32,
-        0,
-        0,
-        0,
-        0,
-        0,
-        0,
-        0,
-        0,
-        0,
-    ]
+    *words = [0; 12];
+    words[0] = 0x04;
+    words[1] = e.window_id.id;
+    words[2] = e.command as u32;
 }
 
-fn handshake_words(e: Handshake) -> [u32; 12]
-    ensures { λ r. ⌜ r ≡ handshakeWords e ⌝ }
+fn handshake_words(words: &mut [u32; 12], e: Handshake)
+    ensures { λ _. ⌜ now (words .exit) ≡ handshakeWords e ⌝ }
 {
-    [0x05, e.build_number, 0, 0, 0, 0, 0, 0, 0, 0, 0, 0]
+    *words = [0; 12];
+    words[0] = 0x05;
+    words[1] = e.build_number;
 }
 
-fn notify_event_words(e: NotifyEvent) -> [u32; 12]
-    ensures { λ r. ⌜ r ≡ notifyEventWords e ⌝ }
+fn notify_event_words(words: &mut [u32; 12], e: NotifyEvent)
+    ensures { λ _. ⌜ now (words .exit) ≡ notifyEventWords e ⌝ }
 {
-    [
-        0x06,
-        e.window_id.id,
-        e.notify_icon_id.id,
-        e.message,
-        0,
-        0,
-        0,
-        0,
-        0,
-        0,
-        0,
-        0,
-    ]
+    *words = [0; 12];
+    words[0] = 0x06;
+    words[1] = e.window_id.id;
+    words[2] = e.notify_icon_id.id;
+    words[3] = e.message;
 }
 
-fn window_move_words(e: WindowMove) -> [u32; 12]
-    ensures { λ r. ⌜ r ≡ windowMoveWords e ⌝ }
+fn window_move_words(words: &mut [u32; 12], e: WindowMove)
+    ensures { λ _. ⌜ now (words .exit) ≡ windowMoveWords e ⌝ }
 {
-    [
-        0x08,
-        e.window_id.id,
-        e.left as u32,
-        e.top as u32,
-        e.right as u32,
-        e.bottom as u32,
-        0,
-        0,
-        0,
-        0,
-        0,
-        0,
-    ]
+    *words = [0; 12];
+    words[0] = 0x08;
+    words[1] = e.window_id.id;
+    words[2] = e.left as u32;
+    words[3] = e.top as u32;
+    words[4] = e.right as u32;
+    words[5] = e.bottom as u32;
 }
 
-fn move_size_words(e: MoveSize) -> [u32; 12]
-    ensures { λ r. ⌜ r ≡ moveSizeWords e ⌝ }
+fn move_size_words(words: &mut [u32; 12], e: MoveSize)
+    ensures { λ _. ⌜ now (words .exit) ≡ moveSizeWords e ⌝ }
 {
-    [
-        0x09,
-        e.window_id.id,
-        yes_number(e.is_start),
-        e.move_size_type as u32,
-        e.pos_x as u32,
-        e.pos_y as u32,
-        0,
-        0,
-        0,
-        0,
-        0,
-        0,
-    ]
+    *words = [0; 12];
+    words[0] = 0x09;
+    words[1] = e.window_id.id;
+    words[2] = yes_number(e.is_start);
+    words[3] = e.move_size_type as u32;
+    words[4] = e.pos_x as u32;
+    words[5] = e.pos_y as u32;
 }
 
-fn min_max_info_words(e: MinMaxInfo) -> [u32; 12]
-    ensures { λ r. ⌜ r ≡ minMaxInfoWords e ⌝ }
+fn min_max_info_words(words: &mut [u32; 12], e: MinMaxInfo)
+    ensures { λ _. ⌜ now (words .exit) ≡ minMaxInfoWords e ⌝ }
 {
-    [
-        0x0A,
-        e.window_id.id,
-        e.max_width as u32,
-        e.max_height as u32,
-        e.max_pos_x as u32,
-        e.max_pos_y as u32,
-        e.min_track_width as u32,
-        e.min_track_height as u32,
-        e.max_track_width as u32,
-        e.max_track_height as u32,
-        0,
-        0,
-    ]
+    *words = [0; 12];
+    words[0] = 0x0A;
+    words[1] = e.window_id.id;
+    words[2] = e.max_width as u32;
+    words[3] = e.max_height as u32;
+    words[4] = e.max_pos_x as u32;
+    words[5] = e.max_pos_y as u32;
+    words[6] = e.min_track_width as u32;
+    words[7] = e.min_track_height as u32;
+    words[8] = e.max_track_width as u32;
+    words[9] = e.max_track_height as u32;
 }
 
-fn client_information_words(e: ClientInformation) -> [u32; 12]
-    ensures { λ r. ⌜ r ≡ clientInformationWords e ⌝ }
+fn client_information_words(words: &mut [u32; 12], e: ClientInformation)
+    ensures { λ _. ⌜ now (words .exit) ≡ clientInformationWords e ⌝ }
 {
-    [0x0B, e.flags, 0, 0, 0, 0, 0, 0, 0, 0, 0, 0]
+    *words = [0; 12];
+    words[0] = 0x0B;
+    words[1] = e.flags;
 }
 
-fn system_menu_words(e: SystemMenu) -> [u32; 12]
-    ensures { λ r. ⌜ r ≡ systemMenuWords e ⌝ }
+fn system_menu_words(words: &mut [u32; 12], e: SystemMenu)
+    ensures { λ _. ⌜ now (words .exit) ≡ systemMenuWords e ⌝ }
 {
-    [
-        0x0C,
-        e.window_id.id,
-        e.left as u32,
-        e.top as u32,
-        0,
-        0,
-        0,
-        0,
-        0,
-        0,
-        0,
-        0,
-    ]
+    *words = [0; 12];
+    words[0] = 0x0C;
+    words[1] = e.window_id.id;
+    words[2] = e.left as u32;
+    words[3] = e.top as u32;
 }
 
-fn get_application_id_words(e: GetApplicationId) -> [u32; 12]
-    ensures { λ r. ⌜ r ≡ getApplicationIdWords e ⌝ }
+fn get_application_id_words(words: &mut [u32; 12], e: GetApplicationId)
+    ensures { λ _. ⌜ now (words .exit) ≡ getApplicationIdWords e ⌝ }
 {
-    [0x0E, e.window_id.id, 0, 0, 0, 0, 0, 0, 0, 0, 0, 0]
+    *words = [0; 12];
+    words[0] = 0x0E;
+    words[1] = e.window_id.id;
 }
 
-fn application_id_response_words(e: ApplicationIdResponse) -> [u32; 12]
-    ensures { λ r. ⌜ r ≡ applicationIdResponseWords e ⌝ }
+fn application_id_response_words(words: &mut [u32; 12], e: ApplicationIdResponse)
+    ensures { λ _. ⌜ now (words .exit) ≡ applicationIdResponseWords e ⌝ }
 {
-    [
-        0x0F,
-        e.window_id.id,
-        e.application_id.at,
-        e.application_id.len,
-        0,
-        0,
-        0,
-        0,
-        0,
-        0,
-        0,
-        0,
-    ]
+    *words = [0; 12];
+    words[0] = 0x0F;
+    words[1] = e.window_id.id;
+    words[2] = e.application_id.at;
+    words[3] = e.application_id.len;
 }
 
-fn execute_result_words(e: ExecuteResult) -> [u32; 12]
-    ensures { λ r. ⌜ r ≡ executeResultWords e ⌝ }
+fn execute_result_words(words: &mut [u32; 12], e: ExecuteResult)
+    ensures { λ _. ⌜ now (words .exit) ≡ executeResultWords e ⌝ }
 {
-    [
-        0x80,
-        e.flags as u32,
-        e.exec_result as u32,
-        e.raw_result,
-        e.exe_or_file.at,
-        e.exe_or_file.len,
-        0,
-        0,
-        0,
-        0,
-        0,
-        0,
-    ]
+    *words = [0; 12];
+    words[0] = 0x80;
+    words[1] = e.flags as u32;
+    words[2] = e.exec_result as u32;
+    words[3] = e.raw_result;
+    words[4] = e.exe_or_file.at;
+    words[5] = e.exe_or_file.len;
 }
 
 // The words of a record.
-fn words_of(p: Pdu) -> [u32; 12]
-    ensures { λ r. ⌜ r ≡ wordsOf p ⌝ }
+fn put_words(words: &mut [u32; 12], p: Pdu)
+    ensures { λ _. ⌜ now (words .exit) ≡ wordsOf p ⌝ }
 {
     match p {
-        Pdu::Execute(e) => execute_words(e),
-        Pdu::Activate(e) => activate_words(e),
-        Pdu::SystemCommand(e) => system_command_words(e),
-        Pdu::Handshake(e) => handshake_words(e),
-        Pdu::NotifyEvent(e) => notify_event_words(e),
-        Pdu::WindowMove(e) => window_move_words(e),
-        Pdu::MoveSize(e) => move_size_words(e),
-        Pdu::MinMaxInfo(e) => min_max_info_words(e),
-        Pdu::ClientInformation(e) => client_information_words(e),
-        Pdu::SystemMenu(e) => system_menu_words(e),
-        Pdu::GetApplicationId(e) => get_application_id_words(e),
-        Pdu::ApplicationIdResponse(e) => application_id_response_words(e),
-        Pdu::ExecuteResult(e) => execute_result_words(e),
+        Pdu::Execute(e) => execute_words(words, e),
+        Pdu::Activate(e) => activate_words(words, e),
+        Pdu::SystemCommand(e) => system_command_words(words, e),
+        Pdu::Handshake(e) => handshake_words(words, e),
+        Pdu::NotifyEvent(e) => notify_event_words(words, e),
+        Pdu::WindowMove(e) => window_move_words(words, e),
+        Pdu::MoveSize(e) => move_size_words(words, e),
+        Pdu::MinMaxInfo(e) => min_max_info_words(words, e),
+        Pdu::ClientInformation(e) => client_information_words(words, e),
+        Pdu::SystemMenu(e) => system_menu_words(words, e),
+        Pdu::GetApplicationId(e) => get_application_id_words(words, e),
+        Pdu::ApplicationIdResponse(e) => application_id_response_words(words, e),
+        Pdu::ExecuteResult(e) => execute_result_words(words, e),
     }
 }
 
@@ -263,7 +193,7 @@ pub extern "C" fn rail_pdu_read(message: &[u8], words: &mut [u32; 12]) -> u32
     let answer = pdu_read::read_pdu(message);
     match answer {
         Read::Message(p) => {
-            *words = words_of(p);
+            put_words(words, p);
             0
         }
         Read::Refused(n) => n as u32,
