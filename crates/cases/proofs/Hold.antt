@@ -5,8 +5,11 @@ use Rattle.pdu.specs.Layout.{known, widths}
 use Rattle.pdu.specs.Records.{recordOf, sizeOf}
 use Rattle.pdu.specs.Rules.{allowed}
 use Rattle.pdu.specs.Reading.{recordAs, readOf}
+use Rattle.order.specs.Rows.{firstOf, lenOf, okOf, cutOf, fieldOf, stepOf, walkOf}
+use Rattle.order.specs.Icons.{pictureFit}
+use Rattle.order.specs.Judge.{flagsOf, orderOf, fieldsFit, judgeOf}
 use Rattle.cases.specs.Cases.{CasesHold}
 
 pub cases-hold : CasesHold
-unfolding CasesHold readOf recordAs recordOf known widths numsAt numAt sizeOf allowed
+unfolding CasesHold readOf recordAs recordOf known widths numsAt numAt sizeOf allowed firstOf lenOf okOf cutOf fieldOf stepOf walkOf pictureFit flagsOf orderOf fieldsFit judgeOf
 cases-hold = refl

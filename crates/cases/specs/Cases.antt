@@ -6,16 +6,22 @@ use Rattle.pdu.specs.declared.Read.{Read}
 use Rattle.pdu.specs.declared.Read.the-variants.{Message, Refused}
 use Rattle.pdu.specs.declared.Pdu.the-variants.{Handshake}
 use Rattle.pdu.specs.Reading.{readOf}
+use Rattle.order.specs.declared.Judged.{Judged}
+use Rattle.order.specs.declared.Judged.the-variants.{Window, Desktop}
+use Rattle.order.specs.Judge.{refuse, judgeOf}
 
--- what is asked, and what the rules answer
+-- what is asked, and what the rules answer; of an order, what its bytes alone say
 pub data Question : Type 0 where
   readPdu : List ℕ → Question
+  judgeOrder : List ℕ → Question
 
 pub data Answer : Type 0 where
   readAs : Read → Answer
+  judgedAs : Judged → Answer
 
 abbrev pub ask : Question → Answer
 ask (readPdu bytes) = readAs (readOf bytes)
+ask (judgeOrder bytes) = judgedAs (judgeOf bytes)
 
 pub record Case : Type 0 where
   pub question : Question
@@ -33,6 +39,27 @@ cases =
     ∷ record { question = readPdu []; answer = readAs (Refused 2) }
     -- 3: Enabled is 2
     ∷ record { question = readPdu (0x02 ∷ 0x00 ∷ 0x09 ∷ 0x00 ∷ 0x58 ∷ 0x00 ∷ 0x01 ∷ 0x00 ∷ 0x02 ∷ []); answer = readAs (Refused 8) }
+    -- 4: a new window with the title "A"
+    ∷ record {
+      question = judgeOrder (0x2E ∷ 0x0F ∷ 0x00 ∷ 0x04 ∷ 0x00 ∷ 0x00 ∷ 0x11 ∷ 0x58 ∷ 0x00 ∷ 0x01 ∷ 0x00 ∷ 0x02 ∷ 0x00 ∷ 0x41 ∷ 0x00 ∷ []);
+      answer = judgedAs (Window (record { window = record { id = 65624 }; flags = 0x11000004; icon = 15 }));
+    }
+    -- 5: the window deleted
+    ∷ record {
+      question = judgeOrder (0x2E ∷ 0x0B ∷ 0x00 ∷ 0x00 ∷ 0x00 ∷ 0x00 ∷ 0x21 ∷ 0x58 ∷ 0x00 ∷ 0x01 ∷ 0x00 ∷ []);
+      answer = judgedAs (Window (record { window = record { id = 65624 }; flags = 0x21000000; icon = 11 }));
+    }
+    -- 6: desktop none, and the same with type byte 05
+    ∷ record {
+      question = judgeOrder (0x2E ∷ 0x07 ∷ 0x00 ∷ 0x01 ∷ 0x00 ∷ 0x00 ∷ 0x04 ∷ []);
+      answer = judgedAs (Desktop (record { flags = 0x04000001 }));
+    }
+    ∷ record { question = judgeOrder (0x2E ∷ 0x07 ∷ 0x00 ∷ 0x01 ∷ 0x00 ∷ 0x00 ∷ 0x05 ∷ []); answer = judgedAs (refuse 4 3) }
+    -- 7: case 4 with flags byte 84
+    ∷ record {
+      question = judgeOrder (0x2E ∷ 0x0F ∷ 0x00 ∷ 0x84 ∷ 0x00 ∷ 0x00 ∷ 0x11 ∷ 0x58 ∷ 0x00 ∷ 0x01 ∷ 0x00 ∷ 0x02 ∷ 0x00 ∷ 0x41 ∷ 0x00 ∷ []);
+      answer = judgedAs (refuse 5 3);
+    }
     ∷ []
 
 -- each question gets its answer

@@ -5,9 +5,9 @@ use mathlib.Core.List.{List, [], _∷_, _++_, append-assoc, append-nil}
 use Prim.Native.Nat.{ℕ, zero, suc, _+_, _*_, _/_, _%_, _-_, _≤_, _<_}
 use native.Mathlib.Nat.{add-zero, zero-add}
 use native.Mathlib.Omega.{arith}
-use lib.ListN.{length, getD, set, take, drop, length-append, length-drop, length-set, take-append-drop, List·getD-eq-default}
+use lib.ListN.{length, getD, set, take, drop, length-append, length-drop, length-set, List·getD-eq-default}
 use lib.Dec.{eqb}
-use lib.Seq.{drop-at, getD-take, getD-drop, length-take-le, take-add, take-all}
+use lib.Seq.{drop-at, getD-take, getD-drop, take-add}
 use borrow.Author.Tests.{eq-eqb, eqb-true}
 use Rattle.wire.specs.Parts.{slice, splice}
 use Rattle.wire.specs.Numbers.{numAt, bytesOf, numsAt, putAll, total, fitsIn, allFit}
@@ -181,38 +181,6 @@ bytes-num (suc w) (x ∷ s) b h =
     let m : (x + 256 * n) % 256 ≡ x = omega arith in
     let q : (x + 256 * n) / 256 ≡ n = omega arith in
     rw (e, m, q, bytes-num w s (bytes-tail x s b) (omega arith))
-
--- the bytes of a number that was read
-pub bytes-at : (w : ℕ) (s : List ℕ) (a : ℕ) → Bytes s → a + w ≤ length s → bytesOf w (numAt w s a) ≡ slice s a w
-unfolding slice
-bytes-at w s a b h =
-    let l : w ≤ length (drop a s) = simp length-drop (omega arith) in
-    let e : numAt w (drop a s) 0 ≡ numAt w s a = num-drop w a 0 s ∙ ap (numAt w s) (add-zero a) in
-    ap (bytesOf w) (sym e) ∙ bytes-num w (drop a s) (bytes-drop a s b) l
-
--- what is copied up to i, and then w bytes more
-pub copied-more : (d s x y : List ℕ) (at i w : ℕ) → Bytes s → at + length s ≤ length d → i + w ≤ length s
-    → x ≡ splice d at (take i s) → y ≡ splice x (at + i) (bytesOf w (numAt w s i)) → y ≡ splice d at (take (i + w) s)
-unfolding slice
-copied-more d s x y at i w b room h ex ey =
-    let li : length (take i s) ≡ i = length-take-le i s (omega arith) in
-    let lb = length-bytes w (numAt w s i) in
-    ey ∙ ap (λ (l : List ℕ). splice l (at + i) (bytesOf w (numAt w s i))) ex
-    ∙ splice-after d at (take i s) (bytesOf w (numAt w s i)) (at + i) (omega arith) (omega arith)
-    ∙ ap (λ (l : List ℕ). splice d at (take i s ++ l)) (bytes-at w s i b h)
-    ∙ ap (splice d at) (sym (take-add i w s))
-
--- what is copied up to i, and then the rest
-pub copied-rest : (d s x y : List ℕ) (at i n : ℕ) → at + length s ≤ length d → i ≤ length s → n ≡ length s
-    → x ≡ splice d at (take i s) → y ≡ splice x (at + i) (take (n - i) (drop i s)) → y ≡ splice d at s
-copied-rest d s x y at i n room h en ex ey =
-    let li : length (take i s) ≡ i = length-take-le i s h in
-    let ld : length (drop i s) ≡ n - i = simp length-drop (omega arith) in
-    let all : take (n - i) (drop i s) ≡ drop i s = take-all (n - i) (drop i s) (omega arith) in
-    ey ∙ ap (λ (l : List ℕ). splice l (at + i) (take (n - i) (drop i s))) ex
-    ∙ ap (splice (splice d at (take i s)) (at + i)) all
-    ∙ splice-after d at (take i s) (drop i s) (at + i) (omega arith) (omega arith)
-    ∙ ap (splice d at) (take-append-drop i s)
 
 pub put-nums : (ws s : List ℕ) → Bytes s → total ws ≤ length s → putAll ws (numsAt ws s 0) ≡ take (total ws) s
 unfolding putAll numsAt total
