@@ -7,12 +7,20 @@ use std::sync::atomic::{AtomicU64, Ordering};
 use std::sync::Mutex;
 use std::thread;
 
-use crate::generate;
-use crate::script::pdu::run;
 use crate::script::take_item;
 
 /// Programs that run at the same time.
 const AT_ONCE: usize = 2;
+
+/// The scripts to compare on.
+pub struct Scripts<'a> {
+    /// Makes the script of a seed.
+    pub make: &'a (dyn Fn(u64) -> Vec<u8> + Sync),
+    /// What a script has to print.
+    pub expected: &'a (dyn Fn(&[u8]) -> Vec<u8> + Sync),
+    /// The kinds of items that print nothing.
+    pub silent: &'a [u8],
+}
 
 /// What a comparison came to.
 #[derive(Clone, Copy, Debug, Default, PartialEq, Eq)]
@@ -38,7 +46,7 @@ pub fn compare(
     program: &Path,
     from: u64,
     to: u64,
-    items: usize,
+    scripts: &Scripts<'_>,
     report: impl Fn(&str) + Sync,
 ) -> io::Result<Tally> {
     let next = AtomicU64::new(from);
@@ -49,13 +57,13 @@ pub fn compare(
             if !(from..=to).contains(&seed) {
                 return Ok(());
             }
-            let script = generate::pdu::script(seed, items);
-            let ours = output_of(&script);
+            let script = (scripts.make)(seed);
+            let ours = (scripts.expected)(&script);
             let theirs = run_program(program, &script)?;
-            let difference = difference(&script, &ours, &theirs);
+            let difference = difference(&script, scripts.silent, &ours, &theirs);
             let mut tally = tally.lock().expect("no worker panics");
             tally.scripts += 1;
-            tally.items += ours.iter().filter(|&&byte| byte == b'\n').count() as u64;
+            tally.items += item_count(&script);
             if let Some(text) = difference {
                 tally.differences += 1;
                 report(&format!("seed {seed}: {text}"));
@@ -71,10 +79,15 @@ pub fn compare(
     Ok(tally.into_inner().expect("no worker panics"))
 }
 
-fn output_of(script: &[u8]) -> Vec<u8> {
-    let mut output = Vec::new();
-    run(script, &mut output).expect("memory takes all that is written");
-    output
+/// The items of a script, a cut one included.
+fn item_count(script: &[u8]) -> u64 {
+    let mut count = 0;
+    let mut rest = script;
+    while !rest.is_empty() {
+        count += 1;
+        rest = take_item(rest).map_or(&[], |(_, tail)| tail);
+    }
+    count
 }
 
 /// The program's standard output, given the script on its standard input. Its
@@ -101,25 +114,26 @@ fn run_program(program: &Path, script: &[u8]) -> io::Result<Vec<u8>> {
     Ok(printed)
 }
 
-/// Tells the first line in which two outputs differ, with its item.
-pub fn difference(script: &[u8], ours: &[u8], theirs: &[u8]) -> Option<String> {
+/// Tells the first line in which two outputs differ, with its item. Items of the
+/// silent kinds have no line.
+pub fn difference(script: &[u8], silent: &[u8], ours: &[u8], theirs: &[u8]) -> Option<String> {
     if ours == theirs {
         return None;
     }
     let mut our_lines = ours.split_inclusive(|&byte| byte == b'\n');
     let mut their_lines = theirs.split_inclusive(|&byte| byte == b'\n');
-    let mut number = 1;
+    let mut lines_before = 0;
     loop {
         let (our_line, their_line) = (our_lines.next(), their_lines.next());
         if our_line != their_line {
             return Some(format!(
-                "item {number} {}\n  expected: {}\n  printed:  {}",
-                item_text(script, number),
+                "item {}\n  expected: {}\n  printed:  {}",
+                item_text(script, silent, lines_before),
                 line_text(our_line),
                 line_text(their_line)
             ));
         }
-        number += 1;
+        lines_before += 1;
     }
 }
 
@@ -127,19 +141,24 @@ fn line_text(line: Option<&[u8]>) -> String {
     line.map_or("(no line)".into(), |line| line.escape_ascii().to_string())
 }
 
-/// The kind and hex of an item, counted from 1.
-fn item_text(script: &[u8], number: usize) -> String {
+/// The number (from 1), kind and hex of the item that prints after so many lines.
+fn item_text(script: &[u8], silent: &[u8], mut lines: usize) -> String {
     let mut rest = script;
-    for _ in 1..number {
-        match take_item(rest) {
-            Some((_, tail)) => rest = tail,
-            None => break,
+    let mut number = 1;
+    while let Some((item, tail)) = take_item(rest) {
+        if !silent.contains(&item.kind) {
+            if lines == 0 {
+                break;
+            }
+            lines -= 1;
         }
+        rest = tail;
+        number += 1;
     }
     let (kind, bytes) = match take_item(rest) {
         Some((item, _)) => (item.kind.escape_ascii().to_string(), item.payload),
         None => ("(cut)".into(), rest),
     };
     let hex: String = bytes.iter().map(|byte| format!("{byte:02x}")).collect();
-    format!("{kind} {hex}")
+    format!("{number} {kind} {hex}")
 }

@@ -1,10 +1,11 @@
-//! Hand-written scripts: a line `R hex` or `P hex` for each item.
+//! Hand-written scripts: a line of a kind letter and hex for each item.
 
 use crate::script::{push_item, PAYLOAD_LIMIT};
 
-/// Turns the text form into a script. Spaces between bytes, empty lines and
-/// comments from `#` on are passed over. A fault is told with its line.
-pub fn script(text: &str) -> Result<Vec<u8>, String> {
+/// Turns the text form into a script of items of these kinds. Spaces between
+/// bytes, empty lines and comments from `#` on are passed over. A fault is told
+/// with its line.
+pub fn script(kinds: &[u8], text: &str) -> Result<Vec<u8>, String> {
     let mut script = Vec::new();
     for (index, line) in text.lines().enumerate() {
         let content = line.split('#').next().unwrap_or_default().trim();
@@ -12,17 +13,17 @@ pub fn script(text: &str) -> Result<Vec<u8>, String> {
             continue;
         }
         let (kind, payload) =
-            item(content).map_err(|fault| format!("line {}: {fault}", index + 1))?;
+            item(kinds, content).map_err(|fault| format!("line {}: {fault}", index + 1))?;
         push_item(&mut script, kind, &payload);
     }
     Ok(script)
 }
 
-fn item(content: &str) -> Result<(u8, Vec<u8>), &'static str> {
+fn item(kinds: &[u8], content: &str) -> Result<(u8, Vec<u8>), &'static str> {
     let kind = content.as_bytes()[0];
     let digits = &content.as_bytes()[1..];
-    if !matches!(kind, b'R' | b'P') {
-        return Err("a line begins with R or P");
+    if !kinds.contains(&kind) {
+        return Err("a line begins with the letter of a kind");
     }
     if digits
         .first()

@@ -5,8 +5,10 @@ use std::io::{self, BufWriter, Read, Write};
 use std::path::Path;
 use std::process::ExitCode;
 
-use second::compare::compare;
-use second::coverage::Coverage;
+use second::compare::{compare, Scripts};
+use second::coverage::{self, Facts};
+use second::script::parts::Parts;
+use second::script::session::End;
 use second::{generate, hex, script};
 
 const HELP: &str = "\
@@ -14,21 +16,31 @@ The independent second program for RDP Remote Programs (RAIL).
 
 usage:
   second pdu < script > output
-      Runs a script of control messages and prints a line for each item.
+  second session [--parts L0,L1,..] < script > output
+      Runs a script of control messages, or of state calls, and prints a line for
+      each call. An item X, which changes state memory, ends a run with the line
+      `fault` on standard error and the status 3: the state here has no memory.
   second gen-pdu SEED ITEMS > script
+  second gen-session SEED ITEMS [--parts L0,L1,..] > script
       Generates a script. The same seed and count give the same bytes.
       A seed that leaves 19 when divided by 20 gives a script whose last item is bad.
   second coverage-pdu FROM TO ITEMS
+  second coverage-session FROM TO ITEMS
       Runs the generated scripts of the seeds FROM to TO, prints how often each
       call, kind and number was met, also at each limit, and then what is missing.
       The status is 0 only if nothing is missing.
   second compare-pdu PROGRAM FROM TO ITEMS
+  second compare-session PROGRAM FROM TO ITEMS [--parts L0,L1,..]
       Runs PROGRAM on the same scripts and compares what it prints, two at a time.
       The status is 0 only if scripts were compared and none differs.
   second hex-pdu < text > script
-      Makes a script of lines `R hex` or `P hex`. Spaces in the hex, empty lines
-      and comments from # on are passed over.
+  second hex-session < text > script
+      Makes a script of lines that have the letter of a kind and hex, such as
+      `R hex`. Spaces in the hex, empty lines and comments from # on are passed over.
   second --help
+
+--parts gives the lengths of the parts of state memory that PROGRAM lends, by
+default 45056,53248,33792. It only tells which items T and X name a part.
 ";
 
 fn main() -> ExitCode {
@@ -46,14 +58,32 @@ fn main() -> ExitCode {
 fn dispatch(arguments: &[&str]) -> Result<ExitCode, String> {
     match arguments {
         ["pdu"] => run_pdu(),
+        ["session", options @ ..] => run_session(&parts(options)?),
         ["gen-pdu", seed, items] => print(&generate::pdu::script(number(seed)?, count(items)?)),
-        ["coverage-pdu", from, to, items] => {
-            coverage_pdu(number(from)?, number(to)?, count(items)?)
+        ["gen-session", seed, items, options @ ..] => {
+            let parts = parts(options)?;
+            let script = generate::session::script(number(seed)?, count(items)?, &parts);
+            print(&script)
         }
+        ["coverage-pdu", from, to, items] => print_facts(&coverage::pdu::of_seeds(
+            number(from)?,
+            number(to)?,
+            count(items)?,
+        )),
+        ["coverage-session", from, to, items] => print_facts(&coverage::session::of_seeds(
+            number(from)?,
+            number(to)?,
+            count(items)?,
+        )),
         ["compare-pdu", program, from, to, items] => {
             compare_pdu(program, number(from)?, number(to)?, count(items)?)
         }
-        ["hex-pdu"] => hex_pdu(),
+        ["compare-session", program, from, to, items, options @ ..] => {
+            let parts = parts(options)?;
+            compare_session(program, number(from)?, number(to)?, count(items)?, &parts)
+        }
+        ["hex-pdu"] => print_script(script::pdu::KINDS),
+        ["hex-session"] => print_script(script::session::KINDS),
         ["--help"] | ["-h"] => print(HELP.as_bytes()),
         _ => Err("unknown arguments, see --help".into()),
     }
@@ -67,20 +97,43 @@ fn count(text: &str) -> Result<usize, String> {
     text.parse().map_err(|_| format!("not a count: {text}"))
 }
 
+fn parts(options: &[&str]) -> Result<Parts, String> {
+    match options {
+        [] => Ok(Parts::default()),
+        ["--parts", lengths] => Parts::parse(lengths),
+        _ => Err("unknown arguments, see --help".into()),
+    }
+}
+
 fn run_pdu() -> Result<ExitCode, String> {
     let script = input()?;
-    let mut out = BufWriter::with_capacity(1 << 16, io::stdout().lock());
-    script::pdu::run(&script, &mut out)
-        .and_then(|()| out.flush())
-        .map_err(|fault| format!("output: {fault}"))?;
+    to_output(|out| script::pdu::run(&script, out))?;
     Ok(ExitCode::SUCCESS)
 }
 
-fn coverage_pdu(from: u64, to: u64, items: usize) -> Result<ExitCode, String> {
-    let coverage = Coverage::of_seeds(from, to, items);
-    let missing = coverage.missing();
+fn run_session(parts: &Parts) -> Result<ExitCode, String> {
+    let script = input()?;
+    match to_output(|out| script::session::run(&script, parts, out))? {
+        End::Done => Ok(ExitCode::SUCCESS),
+        End::Fault => {
+            eprintln!("fault");
+            Ok(ExitCode::from(3))
+        }
+    }
+}
+
+/// What a run gives, its output written through.
+fn to_output<T>(run: impl FnOnce(&mut dyn Write) -> io::Result<T>) -> Result<T, String> {
+    let mut out = BufWriter::with_capacity(1 << 16, io::stdout().lock());
+    run(&mut out)
+        .and_then(|result| out.flush().map(|()| result))
+        .map_err(|fault| format!("output: {fault}"))
+}
+
+fn print_facts(facts: &Facts) -> Result<ExitCode, String> {
+    let missing = facts.missing();
     let mut text = String::new();
-    for (fact, count) in coverage.met() {
+    for (fact, count) in facts.met() {
         text += &format!("{fact}: {count}\n");
     }
     for fact in &missing {
@@ -92,10 +145,45 @@ fn coverage_pdu(from: u64, to: u64, items: usize) -> Result<ExitCode, String> {
 }
 
 fn compare_pdu(program: &str, from: u64, to: u64, items: usize) -> Result<ExitCode, String> {
-    let tally = compare(Path::new(program), from, to, items, |text| {
-        println!("{text}");
-    })
-    .map_err(|fault| format!("{program}: {fault}"))?;
+    let scripts = Scripts {
+        make: &|seed| generate::pdu::script(seed, items),
+        expected: &|script| written(|out| script::pdu::run(script, out)),
+        silent: b"",
+    };
+    compare_scripts(program, from, to, &scripts)
+}
+
+fn compare_session(
+    program: &str,
+    from: u64,
+    to: u64,
+    items: usize,
+    parts: &Parts,
+) -> Result<ExitCode, String> {
+    let scripts = Scripts {
+        make: &|seed| generate::session::script(seed, items, parts),
+        expected: &|script| written(|out| script::session::run(script, parts, out)),
+        silent: script::session::SILENT,
+    };
+    compare_scripts(program, from, to, &scripts)
+}
+
+/// What a run writes.
+fn written<T>(run: impl FnOnce(&mut dyn Write) -> io::Result<T>) -> Vec<u8> {
+    let mut output = Vec::new();
+    run(&mut output).expect("memory takes all that is written");
+    output
+}
+
+fn compare_scripts(
+    program: &str,
+    from: u64,
+    to: u64,
+    scripts: &Scripts<'_>,
+) -> Result<ExitCode, String> {
+    let report = |text: &str| println!("{text}");
+    let tally = compare(Path::new(program), from, to, scripts, report)
+        .map_err(|fault| format!("{program}: {fault}"))?;
     println!(
         "compared {} scripts, {} items: {} differences",
         tally.scripts, tally.items, tally.differences
@@ -103,9 +191,9 @@ fn compare_pdu(program: &str, from: u64, to: u64, items: usize) -> Result<ExitCo
     Ok(ExitCode::from(u8::from(!tally.agrees())))
 }
 
-fn hex_pdu() -> Result<ExitCode, String> {
+fn print_script(kinds: &[u8]) -> Result<ExitCode, String> {
     let text = String::from_utf8(input()?).map_err(|_| "input: not a text")?;
-    print(&hex::script(&text)?)
+    print(&hex::script(kinds, &text)?)
 }
 
 fn input() -> Result<Vec<u8>, String> {
@@ -118,9 +206,6 @@ fn input() -> Result<Vec<u8>, String> {
 }
 
 fn print(bytes: &[u8]) -> Result<ExitCode, String> {
-    let mut out = io::stdout().lock();
-    out.write_all(bytes)
-        .and_then(|()| out.flush())
-        .map_err(|fault| format!("output: {fault}"))?;
+    to_output(|out| out.write_all(bytes))?;
     Ok(ExitCode::SUCCESS)
 }

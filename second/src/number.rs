@@ -1,14 +1,30 @@
 //! The numbers that a refusal carries.
 
+/// The state memory lent is too short.
+pub const STATE_UNFIT: u8 = 1;
 /// Fewer bytes than a header has.
 pub const TOO_SHORT: u8 = 2;
 /// The declared length differs from the bytes given.
 pub const LENGTH_DIFFERS: u8 = 3;
 /// The type is not one of the known kinds.
 pub const UNKNOWN_TYPE: u8 = 4;
+/// An order has a flag bit outside its kind's closed list.
+pub const OUTSIDE_LIST: u8 = 5;
+/// An order's flags clash.
+pub const CLASH: u8 = 6;
 /// The fields do not fill the declared length exactly.
 pub const NOT_FILLED: u8 = 7;
 /// A field's number is outside its allowed set.
 pub const OUTSIDE_SET: u8 = 8;
+/// An id is absent and must be in the table, or present and must not be.
+pub const WRONG_ID: u8 = 9;
+/// A new record is asked for and its table is full.
+pub const TABLE_FULL: u8 = 10;
+/// An icon that no cache holds, or a cached icon from an empty cell.
+pub const NO_CELL: u8 = 11;
+/// The history room would be passed.
+pub const ROOM_PASSED: u8 = 12;
+/// More steps back than orders stand after the mark.
+pub const TOO_MANY_STEPS: u8 = 13;
 /// The output memory is too small.
 pub const OUTPUT_TOO_SMALL: u8 = 14;

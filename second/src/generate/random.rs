@@ -23,6 +23,17 @@ impl Random {
         (self.bits() % limit as u64) as usize
     }
 
+    /// A number up to `most`, all bits of which are set; its ends more often.
+    pub fn number(&mut self, most: u32) -> u32 {
+        match self.below(8) {
+            0 => 0,
+            1 => most,
+            2 => most / 2 + 1,
+            3 => self.below(256) as u32,
+            _ => self.bits() as u32 & most,
+        }
+    }
+
     /// Yes in `percent` of a hundred cases.
     pub fn chance(&mut self, percent: usize) -> bool {
         self.below(100) < percent

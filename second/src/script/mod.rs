@@ -1,7 +1,10 @@
 //! Call scripts: a run of items, each a kind letter, a length of 2 and a payload.
 
+mod lookup;
+pub mod parts;
 pub mod pdu;
 mod print;
+pub mod session;
 
 /// The most bytes that a payload can have.
 pub const PAYLOAD_LIMIT: usize = u16::MAX as usize;

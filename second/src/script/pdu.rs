@@ -11,6 +11,9 @@ use crate::pdu::{
     Handshake, MinMaxInfo, MoveSize, NotifyEvent, SystemCommand, SystemMenu, WindowMove,
 };
 
+/// The kinds of items.
+pub const KINDS: &[u8] = b"RP";
+
 /// The most output memory that an item can ask for.
 pub const MEMORY_LIMIT: usize = 17_408;
 
@@ -34,12 +37,16 @@ pub enum Answer<'a> {
 }
 
 /// Runs a script and prints one line for each item.
-pub fn run(script: &[u8], out: &mut impl io::Write) -> io::Result<()> {
+pub fn run(script: &[u8], out: &mut (impl io::Write + ?Sized)) -> io::Result<()> {
     run_with(pdu::write, script, out)
 }
 
 /// As [`run`], with the writing function given.
-pub fn run_with(write: WriteFn, script: &[u8], out: &mut impl io::Write) -> io::Result<()> {
+pub fn run_with(
+    write: WriteFn,
+    script: &[u8],
+    out: &mut (impl io::Write + ?Sized),
+) -> io::Result<()> {
     let mut memory = vec![0; MEMORY_LIMIT];
     let mut line = Vec::new();
     let mut rest = script;

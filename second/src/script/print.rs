@@ -88,8 +88,8 @@ pub fn push_record(line: &mut Vec<u8>, record: &Record<'_>) {
 }
 
 /// A line that grows field by field.
-struct Fields<'a> {
-    line: &'a mut Vec<u8>,
+pub(super) struct Fields<'a> {
+    pub(super) line: &'a mut Vec<u8>,
 }
 
 impl Fields<'_> {
@@ -99,16 +99,19 @@ impl Fields<'_> {
         self
     }
 
-    fn number(&mut self, name: &str, value: impl Into<u32>) -> &mut Self {
+    pub(super) fn number(&mut self, name: &str, value: impl Into<u32>) -> &mut Self {
+        self.text(name, &value.into().to_string())
+    }
+
+    pub(super) fn string(&mut self, name: &str, bytes: &[u8]) -> &mut Self {
         self.name(name);
-        let digits = value.into().to_string();
-        self.line.extend_from_slice(digits.as_bytes());
+        push_hex(self.line, bytes);
         self
     }
 
-    fn string(&mut self, name: &str, bytes: &[u8]) -> &mut Self {
+    pub(super) fn text(&mut self, name: &str, text: &str) -> &mut Self {
         self.name(name);
-        push_hex(self.line, bytes);
+        self.line.extend_from_slice(text.as_bytes());
         self
     }
 

@@ -1,21 +1,6 @@
 //! The program itself.
 
-use std::io::Write;
-use std::process::{Command, Output, Stdio};
-
-fn second(arguments: &[&str], input: &[u8]) -> Output {
-    let mut child = Command::new(env!("CARGO_BIN_EXE_second"))
-        .args(arguments)
-        .stdin(Stdio::piped())
-        .stdout(Stdio::piped())
-        .stderr(Stdio::piped())
-        .spawn()
-        .expect("the program starts");
-    let mut stdin = child.stdin.take().expect("a pipe");
-    stdin.write_all(input).expect("the input is taken");
-    drop(stdin);
-    child.wait_with_output().expect("the program ends")
-}
+use super::common::second;
 
 #[test]
 fn text_to_script_to_lines() {
@@ -74,18 +59,8 @@ fn coverage_tells_what_is_missing() {
 
 #[cfg(unix)]
 mod compare {
+    use super::super::common::program::program;
     use super::second;
-    use std::os::unix::fs::PermissionsExt;
-    use std::path::PathBuf;
-    use std::{env, fs};
-
-    /// A program of one shell line.
-    fn program(name: &str, line: &str) -> PathBuf {
-        let path = PathBuf::from(env!("CARGO_TARGET_TMPDIR")).join(name);
-        fs::write(&path, format!("#!/bin/sh\n{line}\n")).expect("a file");
-        fs::set_permissions(&path, fs::Permissions::from_mode(0o755)).expect("a program");
-        path
-    }
 
     fn compare(path: &str, from: &str, to: &str) -> (Option<i32>, String) {
         let output = second(&["compare-pdu", path, from, to, "30"], b"");

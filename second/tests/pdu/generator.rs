@@ -1,7 +1,7 @@
 //! Generated scripts: the same everywhere, and far-reaching.
 
 use super::run;
-use second::coverage::Coverage;
+use second::coverage::pdu::of_seeds;
 use second::generate::pdu::script;
 use second::generate::random::Random;
 use second::script::take_item;
@@ -72,13 +72,13 @@ fn bad_ends_differ() {
 
 #[test]
 fn nothing_expected_is_missing() {
-    let coverage = Coverage::of_seeds(0, 79, 300);
-    assert_eq!(coverage.missing(), Vec::<String>::new());
+    let coverage = of_seeds(0, 79, 300);
+    assert_eq!(coverage.missing(), Vec::<&str>::new());
 }
 
 #[test]
 fn what_is_missing_is_named() {
-    let coverage = Coverage::of_seeds(0, 0, 0);
+    let coverage = of_seeds(0, 0, 0);
     let missing = coverage.missing();
     for fact in [
         "R Handshake 0",
@@ -89,7 +89,7 @@ fn what_is_missing_is_named() {
         "P MoveSize move_type=12 8",
         "P MinMaxInfo memory-1 14",
     ] {
-        assert!(missing.iter().any(|name| name == fact), "{fact}");
+        assert!(missing.contains(&fact), "{fact}");
     }
     assert_eq!(coverage.met().count(), 0);
 }

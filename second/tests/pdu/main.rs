@@ -1,5 +1,8 @@
 //! Tests from the documents: layouts, rules, refusals, vectors, scripts.
 
+#[path = "../common/mod.rs"]
+mod common;
+
 mod command_line;
 mod generator;
 mod layout;
@@ -11,10 +14,7 @@ mod samples;
 mod scripts;
 mod vectors;
 
-/// Bytes from hex with spaces.
-fn hex(text: &str) -> Vec<u8> {
-    second::hex::bytes(text.as_bytes()).expect("hex digits")
-}
+use common::hex;
 
 /// What a script prints.
 fn run(script: &[u8]) -> String {
@@ -23,9 +23,14 @@ fn run(script: &[u8]) -> String {
     String::from_utf8(output).expect("a text")
 }
 
+/// The script that a text stands for.
+fn script_of(text: &str) -> Result<Vec<u8>, String> {
+    second::hex::script(second::script::pdu::KINDS, text)
+}
+
 /// What the script written as text prints.
 fn run_text(text: &str) -> String {
-    run(&second::hex::script(text).expect("a text form"))
+    run(&script_of(text).expect("a text form"))
 }
 
 /// The number that reading a message answers.

@@ -1,6 +1,6 @@
 //! The script format, its text form, and how differences are told.
 
-use super::{hex, run, run_text};
+use super::{hex, run, run_text, script_of};
 use second::compare::difference;
 use second::pdu::{write, Record};
 use second::script::pdu::run_with;
@@ -110,7 +110,7 @@ fn says_too_much(_: &Record<'_>, out: &mut [u8]) -> Result<usize, u8> {
 #[test]
 fn changed_output_memory_ends_the_run() {
     let text = "P 0800 0500 00000000\nP 0900 0500 00000000\nR\nR";
-    let script = second::hex::script(text).expect("a text form");
+    let script = script_of(text).expect("a text form");
     let print = |write| {
         let mut output = Vec::new();
         run_with(write, &script, &mut output).expect("memory takes all");
@@ -129,7 +129,7 @@ fn changed_output_memory_ends_the_run() {
 #[test]
 fn text_form() {
     let text = "\n  # a comment\nR 05 00 # R 1\n\tP  aB\tcD0 1\r\nR\n R #\n";
-    let script = second::hex::script(text);
+    let script = script_of(text);
     assert_eq!(
         script,
         Ok(hex("52 0200 0500 50 0300 ABCD01 52 0000 52 0000"))
@@ -146,17 +146,18 @@ fn faults_in_the_text_form_are_told_with_their_line() {
         ("r 00", 1),
         ("é", 1),
     ] {
-        let fault = second::hex::script(text).expect_err("a fault");
+        let fault = script_of(text).expect_err("a fault");
         assert!(fault.starts_with(&format!("line {line}: ")), "{fault}");
     }
-    assert!(second::hex::script(&format!("R {}", "00".repeat(65_535))).is_ok());
-    assert!(second::hex::script(&format!("R {}", "00".repeat(65_536))).is_err());
+    assert!(script_of(&format!("R {}", "00".repeat(65_535))).is_ok());
+    assert!(script_of(&format!("R {}", "00".repeat(65_536))).is_err());
 }
 
 #[test]
 fn the_first_difference_is_told_with_its_item() {
     let script = hex("52 0000 50 0100 AB 52 02");
-    let told = |ours: &str, theirs: &str| difference(&script, ours.as_bytes(), theirs.as_bytes());
+    let told =
+        |ours: &str, theirs: &str| difference(&script, b"", ours.as_bytes(), theirs.as_bytes());
     assert_eq!(told("R 2\nR 3\n", "R 2\nR 3\n"), None);
     assert_eq!(
         told("R 2\nP 8\n", "R 2\nP 14\n").as_deref(),

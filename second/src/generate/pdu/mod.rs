@@ -1,8 +1,10 @@
 //! Scripts of control messages.
 
-use super::draft::{declare_length, Draft};
+mod draft;
+
 use super::random::Random;
 use crate::script::push_item;
+use draft::{declare_length, Draft};
 
 /// The most output memory that an item may ask for.
 const MOST_MEMORY: u16 = 17_408;

@@ -1,6 +1,6 @@
 //! Messages in the making, whose fields may be outside what the rules allow.
 
-use super::random::Random;
+use crate::generate::random::Random;
 
 /// A field by what it may hold.
 #[derive(Clone, Copy, Debug, PartialEq, Eq)]
@@ -67,8 +67,8 @@ impl Slot {
     /// A number that the rules allow.
     fn usual(self, random: &mut Random) -> u32 {
         match self {
-            Any4 => any_number(random, 0xFFFF_FFFF),
-            Any2 => any_number(random, 0xFFFF),
+            Any4 => random.number(0xFFFF_FFFF),
+            Any2 => random.number(0xFFFF),
             Flags => random.pick(&[0, 1, 4, 5, 6, 7, 8, 9, 12, 14, 15, 16, 20, 24, 30, 31]),
             Enabled => random.pick(&[0, 1]),
             Command => random.pick(&[
@@ -130,16 +130,6 @@ const COMMAND_EDGES: [u32; 31] = [
     0xF031, 0xF040, 0xF050, 0xF05F, 0xF060, 0xF061, 0xF0FF, 0xF100, 0xF101, 0xF110, 0xF11F,
     0xF120, 0xF121, 0xF15F, 0xF160, 0xF161, 0x0000, 0x00F0, 0x20F0, 0xFFFF,
 ];
-
-fn any_number(random: &mut Random, most: u32) -> u32 {
-    match random.below(8) {
-        0 => 0,
-        1 => most,
-        2 => most / 2 + 1,
-        3 => random.below(256) as u32,
-        _ => random.bits() as u32 & most,
-    }
-}
 
 /// A message in the making.
 pub struct Draft {
@@ -222,7 +212,7 @@ impl Draft {
         }
         let value = &mut self.fields[random.pick(&lengths)].1;
         *value = match random.below(8) {
-            0 => any_number(random, 0xFFFF),
+            0 => random.number(0xFFFF),
             1..=3 => value.wrapping_add(1),
             _ => value.wrapping_sub(1),
         } & 0xFFFF;

@@ -1,0 +1,145 @@
+//! What generated scripts of control messages reach.
+
+mod expected;
+mod limits;
+
+use super::Facts;
+use crate::generate;
+use crate::script::pdu::{answer, Answer, MEMORY_LIMIT};
+use crate::script::{take_item, Item};
+use limits::{kind_name, size_by_fields, LIMITS};
+
+/// The size of the longest message that the rules allow.
+const LARGEST: usize = 17_052;
+
+/// Runs the generated scripts of the seeds `from` to `to`. A fact is a text such
+/// as `R Execute 0` (call, kind, number) or `P Activate enabled=2 8` (with the
+/// field at a limit).
+pub fn of_seeds(from: u64, to: u64, items: usize) -> Facts {
+    let mut coverage = Coverage {
+        facts: Facts::expecting(expected::facts()),
+    };
+    for seed in from..=to {
+        coverage.add_script(&generate::pdu::script(seed, items));
+    }
+    coverage.facts
+}
+
+struct Coverage {
+    facts: Facts,
+}
+
+impl Coverage {
+    fn add_script(&mut self, script: &[u8]) {
+        let mut rest = script;
+        while !rest.is_empty() {
+            let Some((item, tail)) = take_item(rest) else {
+                self.add("cut item: bad item".into());
+                return;
+            };
+            self.add_item(item);
+            rest = tail;
+        }
+    }
+
+    fn add_item(&mut self, item: Item<'_>) {
+        let mut memory = [0; MEMORY_LIMIT];
+        match answer(item, &mut memory) {
+            Answer::Read(result) => self.add_read(item.payload, result.err().unwrap_or(0)),
+            Answer::Written(result) => self.add_write(item, result.map(<[u8]>::len)),
+            Answer::BadItem => self.add(format!("{}: bad item", item.kind.escape_ascii())),
+            Answer::MemoryChanged => self.add("output memory changed".into()),
+        }
+    }
+
+    fn add_read(&mut self, message: &[u8], number: u8) {
+        if message.len() <= 4 {
+            self.add(format!("R size={} {number}", message.len()));
+        }
+        if message.len() < 4 {
+            return self.add(format!("R - {number}"));
+        }
+        let kind = u16::from_le_bytes([message[0], message[1]]);
+        let declared = i64::from(u16::from_le_bytes([message[2], message[3]]));
+        let Some(name) = kind_name(kind) else {
+            if expected::ABSENT.contains(&kind) {
+                self.add(format!("R {kind:04X} {number}"));
+            }
+            return self.add(format!("R other {number}"));
+        };
+        self.add(format!("R {name} {number}"));
+        if message.len() >= LARGEST {
+            self.add(format!("R {name} size={} {number}", message.len()));
+        }
+        match number {
+            3 => self.add_offset("R", name, "declared", declared - message.len() as i64, 3),
+            7 => match size_by_fields(message) {
+                Some(size) => self.add_offset("R", name, "fields", size - declared, 7),
+                None => self.add(format!("R {name} head cut 7")),
+            },
+            _ => self.add_limits('R', kind, message, number),
+        }
+    }
+
+    fn add_write(&mut self, item: Item<'_>, result: Result<usize, u8>) {
+        let payload = item.payload;
+        let size = usize::from(u16::from_le_bytes([payload[0], payload[1]]));
+        let kind = u16::from_le_bytes([payload[2], payload[3]]);
+        let name = kind_name(kind).expect("an item with a listed type");
+        let number = result.err().unwrap_or(0);
+        self.add(format!("P {name} {number}"));
+        self.add_limits('P', kind, payload, number);
+        if size == 0 || size == MEMORY_LIMIT {
+            self.add(format!("P {name} memory={size} {number}"));
+        }
+        if let Some(needed) = needed(payload) {
+            if needed == LARGEST {
+                self.add(format!("P {name} size={needed} {number}"));
+            }
+            self.add_offset("P", name, "memory", size as i64 - needed as i64, number);
+        }
+    }
+
+    /// Facts about each limited field, if all other fields are allowed.
+    fn add_limits(&mut self, call: char, kind: u16, bytes: &[u8], number: u8) {
+        let fields: Vec<_> = LIMITS
+            .iter()
+            .filter(|limit| limit.kind == kind)
+            .filter_map(|limit| limit.value(call, bytes).map(|value| (limit, value)))
+            .collect();
+        for (limit, value) in &fields {
+            let others_allowed = fields
+                .iter()
+                .all(|(other, value)| other.name == limit.name || (other.allows)(*value));
+            if others_allowed {
+                self.add(limit.fact(call, *value, number));
+            }
+        }
+    }
+
+    /// A fact about a number that is exact, one off or off by all of 16 bits.
+    fn add_offset(&mut self, call: &str, name: &str, what: &str, offset: i64, number: u8) {
+        if offset.abs() <= 1 || offset == 0x1_0000 {
+            self.add(format!("{call} {name} {what}{offset:+} {number}"));
+        }
+    }
+
+    fn add(&mut self, fact: String) {
+        self.facts.add(fact);
+    }
+}
+
+/// The bytes that a `P` item's message takes, if its record is allowed.
+fn needed(payload: &[u8]) -> Option<usize> {
+    let mut roomy = payload.to_vec();
+    roomy[..2].copy_from_slice(&(MEMORY_LIMIT as u16).to_le_bytes());
+    let item = Item {
+        kind: b'P',
+        payload: &roomy,
+    };
+    let mut memory = [0; MEMORY_LIMIT];
+    match answer(item, &mut memory) {
+        Answer::Written(Ok(bytes)) => Some(bytes.len()),
+        _ => None,
+    }
+}

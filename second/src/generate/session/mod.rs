@@ -1,0 +1,343 @@
+//! Scripts of state calls, made beside a book so that most calls are granted and
+//! refusals come on purpose.
+
+mod draft;
+mod faults;
+mod good;
+mod slot;
+
+use good::Maker;
+use slot::{pool_icon_id, pool_id};
+
+use super::random::Random;
+use crate::book::{BYTES_ROOM, ORDERS_ROOM};
+use crate::order::{flags, CellPlace};
+use crate::script::parts::Parts;
+use crate::script::session::{call, Call, Session};
+use crate::script::{push_item, take_item};
+use crate::table::{NOTIFICATION_ICONS, WINDOWS};
+
+/// One seed in this many gives a script that ends with a bad item.
+const BAD_END_EVERY: u64 = 20;
+
+/// A script of that many items. In one of twenty the last item is a bad one.
+pub fn script(seed: u64, items: usize, parts: &Parts) -> Vec<u8> {
+    let mut writer = Writer {
+        random: Random::new(seed),
+        session: Session::default(),
+        parts,
+        script: Vec::new(),
+        aim: Aim::Any,
+        left: 0,
+        is_short: false,
+        pending: Vec::new(),
+    };
+    let bad_end = seed % BAD_END_EVERY == BAD_END_EVERY - 1;
+    for left in (0..items).rev() {
+        if left == 0 && bad_end {
+            writer.push_bad_end(seed / BAD_END_EVERY);
+        } else {
+            let (kind, payload) = writer.next_item();
+            writer.push(kind, &payload);
+        }
+    }
+    writer.script
+}
+
+/// What a stretch of items is to reach.
+#[derive(Clone, Copy)]
+enum Aim {
+    /// Calls of all sorts.
+    Any,
+    /// A full table of windows.
+    Windows,
+    /// A full table of notification icons.
+    Icons,
+    /// The room for orders.
+    Orders,
+    /// The room for bytes.
+    Bytes,
+}
+
+struct Writer<'a> {
+    random: Random,
+    session: Session,
+    parts: &'a Parts,
+    script: Vec<u8>,
+    aim: Aim,
+    /// Items left of this stretch.
+    left: usize,
+    /// The next call is lent memory that is too short.
+    is_short: bool,
+    /// Lookups to come first, the last one before the others.
+    pending: Vec<(u8, Vec<u8>)>,
+}
+
+impl Writer<'_> {
+    fn next_item(&mut self) -> (u8, Vec<u8>) {
+        if let Some(lookup) = self.pending.pop() {
+            return lookup;
+        }
+        if self.left == 0 {
+            if self.random.chance(40) {
+                self.look_up_all();
+            }
+            (self.aim, self.left) = match self.random.below(100) {
+                0..=49 => (Aim::Any, 30 + self.random.below(60)),
+                50..=63 => (Aim::Windows, 50),
+                64..=77 => (Aim::Icons, 35),
+                78..=91 => (Aim::Orders, 160),
+                _ => (Aim::Bytes, 20),
+            };
+        }
+        self.left -= 1;
+        if self.is_short {
+            return self.any_call();
+        }
+        match self.aim {
+            Aim::Any => self.any(),
+            Aim::Windows => self.fill_windows(),
+            Aim::Icons => self.fill_icons(),
+            Aim::Orders => self.fill_orders(),
+            Aim::Bytes => self.fill_bytes(),
+        }
+    }
+
+    /// Adds an item and makes its call on the book.
+    fn push(&mut self, kind: u8, payload: &[u8]) {
+        let start = self.script.len();
+        push_item(&mut self.script, kind, payload);
+        let made = take_item(&self.script[start..])
+            .and_then(|(item, _)| call(item, self.parts))
+            .expect("an item with a listed form");
+        self.is_short = made == Call::Shorten;
+        let steps_back = matches!(made, Call::StepBack(1..));
+        let number = self.session.make(&made);
+        if steps_back && number == Some(0) && self.random.chance(15) {
+            self.look_up_all();
+        }
+    }
+
+    /// All that the table holds is to be looked up next.
+    fn look_up_all(&mut self) {
+        let table = self.session.book().table();
+        let windows = table.window_ids().map(|id| window_lookup(id.0));
+        self.pending.extend(windows);
+        let icons = table.icon_ids().map(|(w, i)| icon_lookup([w.0, i.0]));
+        self.pending.extend(icons);
+        let cells = table.filled_cells().map(cell_lookup);
+        self.pending.extend(cells);
+        self.pending.push((b'S', Vec::new()));
+    }
+
+    /// Each call as often as the others.
+    fn any_call(&mut self) -> (u8, Vec<u8>) {
+        match self.random.below(6) {
+            0 => (b'E', Vec::new()),
+            1 => (b'D', self.order()),
+            2 => (b'M', Vec::new()),
+            3 => self.step_back(),
+            _ => self.lookup(),
+        }
+    }
+
+    fn any(&mut self) -> (u8, Vec<u8>) {
+        match self.random.below(100) {
+            0..=63 => (b'D', self.order()),
+            64..=86 => self.lookup(),
+            87..=93 => self.step_back(),
+            94..=96 => (b'M', Vec::new()),
+            97 if self.random.chance(40) => (b'E', Vec::new()),
+            97 | 98 => self.shorten(),
+            _ => (b'S', Vec::new()),
+        }
+    }
+
+    fn order(&mut self) -> Vec<u8> {
+        let sort = self.random.below(100);
+        let mut maker = self.maker();
+        match sort {
+            0..=51 => maker.good(),
+            52..=71 => maker.at_edge(),
+            72..=93 => maker.refused(),
+            _ => maker.damaged(),
+        }
+    }
+
+    fn maker(&mut self) -> Maker<'_> {
+        Maker {
+            table: self.session.book().table(),
+            random: &mut self.random,
+        }
+    }
+
+    /// New windows until the table is full, then one more and what still goes.
+    fn fill_windows(&mut self) -> (u8, Vec<u8>) {
+        let full = self.session.book().table().window_ids().count() >= WINDOWS;
+        if self.random.chance(if full { 60 } else { 15 }) || self.room_is_low() {
+            return self.make_room_or_any();
+        }
+        let mut maker = self.maker();
+        let id = maker.absent_window();
+        let draft = maker.draft(flags::WINDOW | flags::NEW, &[id], &[]);
+        (b'D', draft.order(&mut self.random))
+    }
+
+    /// The same with notification icons.
+    fn fill_icons(&mut self) -> (u8, Vec<u8>) {
+        let full = self.session.book().table().icon_ids().count() >= NOTIFICATION_ICONS;
+        if self.random.chance(if full { 60 } else { 15 }) || self.room_is_low() {
+            return self.make_room_or_any();
+        }
+        let picture = self.random.pick(&[0, 0, flags::ICON, flags::CACHED_ICON]);
+        let mut maker = self.maker();
+        let ids = maker.absent_icon();
+        let draft = maker.draft(flags::NOTIFICATION | flags::NEW | picture, &ids, &[]);
+        (b'D', draft.order(&mut self.random))
+    }
+
+    fn room_is_low(&self) -> bool {
+        let standing = self.session.book().standing();
+        standing.orders + 1 >= ORDERS_ROOM || standing.bytes + 1_000 > BYTES_ROOM
+    }
+
+    fn make_room_or_any(&mut self) -> (u8, Vec<u8>) {
+        if self.room_is_low() {
+            (b'M', Vec::new())
+        } else {
+            self.any()
+        }
+    }
+
+    /// Small orders until no more fit, then any, and rarely a mark.
+    fn fill_orders(&mut self) -> (u8, Vec<u8>) {
+        if self.session.book().standing().orders < ORDERS_ROOM {
+            return (b'D', self.maker().small());
+        }
+        match self.random.below(10) {
+            0 => (b'M', Vec::new()),
+            1 => self.step_back(),
+            2 => self.lookup(),
+            3..=5 => (b'D', self.maker().small()),
+            _ => (b'D', self.order()),
+        }
+    }
+
+    /// Big orders until the next could not fit, one byte too many, then the rest.
+    fn fill_bytes(&mut self) -> (u8, Vec<u8>) {
+        let standing = self.session.book().standing();
+        let rest = BYTES_ROOM - standing.bytes;
+        if standing.orders >= ORDERS_ROOM {
+            return (b'M', Vec::new());
+        }
+        if rest == 0 {
+            return if self.random.chance(50) {
+                (b'D', self.order())
+            } else {
+                self.step_back()
+            };
+        }
+        let one_more = usize::from(self.random.chance(50));
+        let big = 3_900 + self.random.below(300);
+        let size = if rest < 4_247 {
+            rest + one_more
+        } else {
+            big.min(rest - 23)
+        };
+        match self.maker().of_size(size) {
+            Some(order) => (b'D', order),
+            None => (b'D', self.order()),
+        }
+    }
+
+    /// A lookup, most of what is there.
+    fn lookup(&mut self) -> (u8, Vec<u8>) {
+        let there = self.random.chance(80);
+        match self.random.below(10) {
+            0..=3 => {
+                let id = self.maker().listed_window().filter(|_| there);
+                let id = id.unwrap_or_else(|| pool_id(&mut self.random));
+                window_lookup(id)
+            }
+            4..=6 => {
+                let ids = self.maker().listed_icon().filter(|_| there);
+                let random = &mut self.random;
+                let ids = ids.unwrap_or_else(|| [pool_id(random), pool_icon_id(random)]);
+                icon_lookup(ids)
+            }
+            7 | 8 => {
+                let filled: Vec<CellPlace> = self.session.book().table().filled_cells().collect();
+                if there && !filled.is_empty() {
+                    return cell_lookup(self.random.pick(&filled));
+                }
+                let entry = self.random.pick(&[0, 1, 2, 3, 4, 5, 6, 7, 256, 65_535]);
+                let cache = self.random.pick(&[0, 0, 1, 1, 2, 255]);
+                cell_lookup(CellPlace { cache, entry })
+            }
+            _ => (b'S', Vec::new()),
+        }
+    }
+
+    /// None, some, all or too many steps.
+    fn step_back(&mut self) -> (u8, Vec<u8>) {
+        let standing = self.session.book().standing().orders;
+        let steps = match self.random.below(12) {
+            0 => 0,
+            1 => standing + 1,
+            2 => standing,
+            3 => standing + self.random.below(200),
+            4 => u32::MAX as usize,
+            5 => 0x100 + self.random.below(standing + 1),
+            _ => self.random.below(standing.min(6) + 1),
+        };
+        (b'B', (steps as u32).to_le_bytes().to_vec())
+    }
+
+    /// The next call is lent a part that is too short.
+    fn shorten(&mut self) -> (u8, Vec<u8>) {
+        let lengths = self.parts.lengths();
+        let part = self.random.below(lengths.len());
+        let length = lengths[part].min(u16::MAX.into()) as usize;
+        let missing = match self.random.below(4) {
+            0 => length,
+            1 => 1 + self.random.below(length),
+            _ => 1,
+        };
+        let [low, high] = (missing as u16).to_le_bytes();
+        (b'T', vec![part as u8, low, high])
+    }
+
+    /// An item without a listed form; `sort` chooses which fault it has.
+    fn push_bad_end(&mut self, sort: u64) {
+        let (random, script) = (&mut self.random, &mut self.script);
+        let parts = self.parts.lengths().len();
+        let part = parts.min(255) as u8;
+        match sort % 8 {
+            0 => script.extend_from_slice(&[b'D', 7, 0][..1 + random.below(2)]),
+            1 => {
+                push_item(script, b'D', &[0x2E, 7, 0, 2, 0, 0, 4]);
+                script.truncate(script.len() - 1 - random.below(7));
+            }
+            2 => push_item(script, random.pick(b"ARPdmZ\0\xff"), &[]),
+            3 => push_item(script, random.pick(b"EMSBWNCTX"), &[0; 9]),
+            4 => push_item(script, random.pick(b"BWNCTX"), &[1, 0]),
+            5 if parts < 256 => push_item(script, b'T', &[part, 1, 0]),
+            6 if parts < 256 => push_item(script, b'X', &[part, 0, 0, 0, 0, 1]),
+            5 | 6 => push_item(script, b'X', &[0, 0, 0, 1, 0, 1]),
+            _ => push_item(script, b'T', &[0, 0, 0]),
+        }
+    }
+}
+
+fn window_lookup(id: u32) -> (u8, Vec<u8>) {
+    (b'W', id.to_le_bytes().to_vec())
+}
+
+fn icon_lookup(ids: [u32; 2]) -> (u8, Vec<u8>) {
+    (b'N', ids.map(u32::to_le_bytes).concat())
+}
+
+fn cell_lookup(place: CellPlace) -> (u8, Vec<u8>) {
+    let [low, high] = place.entry.to_le_bytes();
+    (b'C', vec![low, high, place.cache])
+}

@@ -1,0 +1,91 @@
+//! How what a lookup hands out is printed.
+
+use super::print::Fields;
+use crate::ids::{NotifyIconId, WindowId};
+use crate::order::CellPlace;
+use crate::table::{Cell, Desktop, NotificationIcon, Rect, Window};
+
+/// Adds the fields of a window.
+pub fn push_window(line: &mut Vec<u8>, id: WindowId, window: &Window) {
+    Fields { line }
+        .number("id", id.0)
+        .number("owner", window.owner.0)
+        .number("style", window.style)
+        .number("ext", window.extended_style)
+        .number("show", window.show_state)
+        .string("title", &window.title)
+        .text("client", &pair(window.client_offset))
+        .text("client_size", &pair(window.client_size))
+        .number("rp", window.rp_content)
+        .number("root", window.root_parent.0)
+        .text("offset", &pair(window.window_offset))
+        .text("delta", &pair(window.client_delta))
+        .text("size", &pair(window.window_size))
+        .text("rects", &rects(&window.window_rects))
+        .text("visible", &pair(window.visible_offset))
+        .text("vis_rects", &rects(&window.visibility_rects))
+        .text("small", &place(window.small_icon))
+        .text("big", &place(window.big_icon));
+}
+
+/// Adds the fields of a notification icon.
+pub fn push_icon(line: &mut Vec<u8>, ids: (WindowId, NotifyIconId), icon: &NotificationIcon) {
+    Fields { line }
+        .number("window", ids.0 .0)
+        .number("icon", ids.1 .0)
+        .number("version", icon.version)
+        .string("tip", &icon.tip)
+        .number("timeout", icon.balloon_timeout)
+        .number("flags", icon.balloon_flags)
+        .string("text", &icon.balloon_text)
+        .string("title", &icon.balloon_title)
+        .number("state", icon.state)
+        .text("picture", &place(icon.picture));
+}
+
+/// Adds the fields of a cell.
+pub fn push_cell(line: &mut Vec<u8>, cell: &Cell) {
+    Fields { line }
+        .number("bpp", cell.bits_per_pixel)
+        .number("width", cell.width)
+        .number("height", cell.height)
+        .string("mask", &cell.mask)
+        .string("table", &cell.color_table)
+        .string("color", &cell.color);
+}
+
+/// Adds the fields of the desktop state.
+pub fn push_desktop(line: &mut Vec<u8>, desktop: &Desktop) {
+    let stack: Vec<String> = desktop.stack.iter().map(|id| id.0.to_string()).collect();
+    Fields { line }
+        .number("active", desktop.active.0)
+        .number("hooked", desktop.hooked)
+        .number("syncing", desktop.syncing)
+        .text("stack", &stack.join(","));
+}
+
+fn pair((x, y): (u32, u32)) -> String {
+    format!("{x},{y}")
+}
+
+fn rects(list: &[Rect]) -> String {
+    let texts: Vec<String> = list
+        .iter()
+        .map(|rect| {
+            let Rect {
+                left,
+                top,
+                right,
+                bottom,
+            } = rect;
+            format!("{left},{top},{right},{bottom}")
+        })
+        .collect();
+    texts.join(";")
+}
+
+fn place(place: Option<CellPlace>) -> String {
+    place.map_or("none".into(), |CellPlace { cache, entry }| {
+        format!("{cache}/{entry}")
+    })
+}

@@ -1,0 +1,184 @@
+//! Scripts of state calls, made on the plain book.
+
+use std::io;
+
+use super::lookup::{push_cell, push_desktop, push_icon, push_window};
+use super::parts::Parts;
+use super::{take_item, Item};
+use crate::book::Book;
+use crate::ids::{NotifyIconId, WindowId};
+use crate::number::STATE_UNFIT;
+use crate::order::CellPlace;
+
+/// The kinds of items.
+pub const KINDS: &[u8] = b"EDMBWNCSTX";
+
+/// The kinds of items that print nothing.
+pub const SILENT: &[u8] = b"TX";
+
+/// What an item asks for.
+#[derive(Clone, Copy, Debug, PartialEq, Eq)]
+pub enum Call<'a> {
+    /// Emptying.
+    Empty,
+    /// Delivery of an order.
+    Deliver(&'a [u8]),
+    /// A mark.
+    Mark,
+    /// That many steps back.
+    StepBack(u32),
+    /// A window is looked up.
+    Window(WindowId),
+    /// A notification icon is looked up.
+    Icon(WindowId, NotifyIconId),
+    /// A cell is looked up.
+    Cell(CellPlace),
+    /// The desktop state is looked up.
+    Desktop,
+    /// No call: the next one is lent memory that is too short.
+    Shorten,
+    /// No call: a byte of the memory changes.
+    Fault,
+}
+
+/// How a run ended.
+#[derive(Clone, Copy, Debug, PartialEq, Eq)]
+pub enum End {
+    /// At the script's end or at a bad item.
+    Done,
+    /// At an item that changes memory, which the book does not have.
+    Fault,
+}
+
+/// What an item asks for, or none if it has no listed form.
+pub fn call<'a>(item: Item<'a>, parts: &Parts) -> Option<Call<'a>> {
+    let payload = item.payload;
+    Some(match (item.kind, payload) {
+        (b'E', []) => Call::Empty,
+        (b'D', order) => Call::Deliver(order),
+        (b'M', []) => Call::Mark,
+        (b'B', _) => Call::StepBack(u32::from_le_bytes(payload.try_into().ok()?)),
+        (b'W', _) => Call::Window(WindowId(u32::from_le_bytes(payload.try_into().ok()?))),
+        (b'N', &[a, b, c, d, ref icon @ ..]) => Call::Icon(
+            WindowId(u32::from_le_bytes([a, b, c, d])),
+            NotifyIconId(u32::from_le_bytes(icon.try_into().ok()?)),
+        ),
+        (b'C', &[low, high, cache]) => Call::Cell(CellPlace {
+            cache,
+            entry: u16::from_le_bytes([low, high]),
+        }),
+        (b'S', []) => Call::Desktop,
+        (b'T', &[part, low, high]) if parts.can_lack(part, u16::from_le_bytes([low, high])) => {
+            Call::Shorten
+        }
+        (b'X', &[part, a, b, c, d, _])
+            if parts.has_byte(part, u32::from_le_bytes([a, b, c, d])) =>
+        {
+            Call::Fault
+        }
+        _ => return None,
+    })
+}
+
+/// A run of calls on a book.
+#[derive(Default)]
+pub struct Session {
+    book: Book,
+    short: bool,
+}
+
+impl Session {
+    /// Makes a call. Its number, or none if it is no call.
+    pub fn make(&mut self, call: &Call<'_>) -> Option<u8> {
+        if matches!(call, Call::Shorten | Call::Fault) {
+            self.short |= *call == Call::Shorten;
+            return None;
+        }
+        if std::mem::take(&mut self.short) {
+            return Some(STATE_UNFIT);
+        }
+        Some(self.result(call).err().unwrap_or(0))
+    }
+
+    fn result(&mut self, call: &Call<'_>) -> Result<(), u8> {
+        match *call {
+            Call::Empty => self.book.empty(),
+            Call::Deliver(order) => self.book.deliver(order)?,
+            Call::Mark => self.book.mark(),
+            Call::StepBack(steps) => self.book.step_back(steps)?,
+            Call::Window(id) => self.book.window(id).map(drop)?,
+            Call::Icon(window, icon) => self.book.icon(window, icon).map(drop)?,
+            Call::Cell(place) => self.book.cell(place).map(drop)?,
+            Call::Desktop | Call::Shorten | Call::Fault => {}
+        }
+        Ok(())
+    }
+
+    /// The book as the calls have left it.
+    pub fn book(&self) -> &Book {
+        &self.book
+    }
+
+    /// Adds the line of a call just made, without its end.
+    fn push_line(&self, line: &mut Vec<u8>, kind: u8, call: &Call<'_>, number: u8) {
+        line.push(kind);
+        line.extend_from_slice(format!(" {number}").as_bytes());
+        if number != 0 {
+            return;
+        }
+        let standing = self.book.standing();
+        let counts = format!(" {} {}", standing.orders, standing.bytes);
+        line.extend_from_slice(counts.as_bytes());
+        self.push_found(line, call);
+    }
+
+    /// Adds the fields of what a granted lookup found.
+    fn push_found(&self, line: &mut Vec<u8>, call: &Call<'_>) {
+        let table = self.book.table();
+        match *call {
+            Call::Window(id) => {
+                if let Some(window) = table.window(id) {
+                    push_window(line, id, window);
+                }
+            }
+            Call::Icon(window, icon) => {
+                if let Some(found) = table.icon(window, icon) {
+                    push_icon(line, (window, icon), found);
+                }
+            }
+            Call::Cell(place) => {
+                if let Some(cell) = table.cell(place) {
+                    push_cell(line, cell);
+                }
+            }
+            Call::Desktop => push_desktop(line, table.desktop()),
+            _ => {}
+        }
+    }
+}
+
+/// Runs a script and prints one line for each call.
+pub fn run(script: &[u8], parts: &Parts, out: &mut (impl io::Write + ?Sized)) -> io::Result<End> {
+    let mut session = Session::default();
+    let mut line = Vec::new();
+    let mut rest = script;
+    while !rest.is_empty() {
+        let taken =
+            take_item(rest).and_then(|(item, tail)| Some((item.kind, call(item, parts)?, tail)));
+        let Some((kind, call, tail)) = taken else {
+            out.write_all(b"bad item\n")?;
+            break;
+        };
+        if call == Call::Fault {
+            return Ok(End::Fault);
+        }
+        if let Some(number) = session.make(&call) {
+            line.clear();
+            session.push_line(&mut line, kind, &call, number);
+            line.push(b'\n');
+            out.write_all(&line)?;
+        }
+        rest = tail;
+    }
+    Ok(End::Done)
+}

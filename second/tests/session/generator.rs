@@ -1,0 +1,128 @@
+//! Generated scripts: the same everywhere, and far-reaching.
+
+use super::run_script;
+use second::coverage::session::of_seeds;
+use second::generate::session;
+use second::script::parts::Parts;
+use second::script::session::run;
+use second::script::take_item;
+
+fn script(seed: u64, items: usize) -> Vec<u8> {
+    session::script(seed, items, &Parts::default())
+}
+
+/// The kinds of a script's items; a cut one is 0.
+fn kinds(script: &[u8]) -> Vec<u8> {
+    let mut kinds = Vec::new();
+    let mut rest = script;
+    while !rest.is_empty() {
+        match take_item(rest) {
+            Some((item, tail)) => {
+                kinds.push(item.kind);
+                rest = tail;
+            }
+            None => {
+                kinds.push(0);
+                rest = &[];
+            }
+        }
+    }
+    kinds
+}
+
+#[test]
+fn the_same_seed_gives_the_same_script() {
+    for seed in [0, 1, 19, 1 << 40, u64::MAX] {
+        assert_eq!(script(seed, 100), script(seed, 100));
+        assert_ne!(script(seed, 100), script(seed ^ 1, 100));
+    }
+}
+
+#[test]
+fn each_script_has_its_items_and_a_line_for_each_call() {
+    for seed in 0..160 {
+        for items in [0, 1, 50] {
+            let script = script(seed, items);
+            let kinds = kinds(&script);
+            assert_eq!(kinds.len(), items);
+            let output = run_script(&script);
+            let bad = output.lines().filter(|line| *line == "bad item").count();
+            let ends_badly = seed % 20 == 19 && items > 0;
+            assert_eq!(bad, usize::from(ends_badly), "seed {seed}");
+            let good = &kinds[..items - bad];
+            let silent = good.iter().filter(|&&kind| kind == b'T').count();
+            assert_eq!(output.lines().count(), items - silent);
+            assert!(!good.contains(&b'X'));
+        }
+    }
+}
+
+#[test]
+fn scripts_stay_small() {
+    let mut bytes = 0;
+    for seed in 0..50 {
+        bytes += script(seed, 300).len();
+    }
+    assert!(bytes / 50 < 150_000, "{} bytes each", bytes / 50);
+}
+
+/// Items for other parts of memory are good there.
+#[test]
+fn parts_are_those_given() {
+    let parts = Parts::parse("7,65536,1,9,12").expect("lengths");
+    for seed in 0..38 {
+        let script = session::script(seed, 200, &parts);
+        let mut output = Vec::new();
+        run(&script, &parts, &mut output).expect("memory takes all");
+        let bad = output.ends_with(b"bad item\n");
+        assert_eq!(bad, seed % 20 == 19, "seed {seed}");
+    }
+}
+
+/// Each sort of bad item comes up.
+#[test]
+fn bad_ends_differ() {
+    let mut sorts = std::collections::BTreeSet::new();
+    for seed in (19..400).step_by(20) {
+        let script = script(seed, 1);
+        sorts.insert(match take_item(&script) {
+            None if script.len() < 3 => "cut header",
+            None => "cut payload",
+            Some((item, _)) if !b"EDMBWNCSTX".contains(&item.kind) => "unknown kind",
+            Some((item, _)) => match (item.kind, item.payload) {
+                (b'T', [0, 0, 0]) => "nothing missing",
+                (b'T', [3, 1, 0]) => "part of T",
+                (b'X', [3, 0, 0, 0, 0, 1]) => "part of X",
+                _ => "length",
+            },
+        });
+    }
+    assert_eq!(sorts.len(), 7, "{sorts:?}");
+}
+
+#[test]
+fn nothing_expected_is_missing() {
+    assert_eq!(of_seeds(0, 149, 300).missing(), Vec::<&str>::new());
+}
+
+#[test]
+fn what_is_missing_is_named() {
+    let facts = of_seeds(0, 0, 0);
+    let missing = facts.missing();
+    for fact in [
+        "D 1",
+        "D new window 10",
+        "D title=520 0",
+        "D title=522 8",
+        "D picture=4225 8",
+        "D cache=255 11",
+        "D clash window icon with 00000010",
+        "D desktop outside=20000000 5",
+        "D bytes=32769 12",
+        "B one too many 13",
+        "B restores cells",
+    ] {
+        assert!(missing.contains(&fact), "{fact}");
+    }
+    assert_eq!(facts.met().count(), 0);
+}

@@ -1,0 +1,28 @@
+//! The stored text scripts print what their comments say.
+
+use super::common::{assert_lines, expected_lines};
+use super::run_text;
+
+fn check(text: &str, items: usize) {
+    let expected = expected_lines(text);
+    assert_eq!(expected.len(), items);
+    assert_lines(&run_text(text), &expected);
+}
+
+#[test]
+fn document_01() {
+    check(include_str!("../../vectors/session-document-01.txt"), 187);
+}
+
+#[test]
+fn open_points() {
+    check(include_str!("../../vectors/session-open-points.txt"), 117);
+}
+
+#[test]
+fn public_document() {
+    check(
+        include_str!("../../vectors/session-public-document.txt"),
+        16,
+    );
+}
