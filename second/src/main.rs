@@ -17,8 +17,10 @@ The independent second program for RDP Remote Programs (RAIL).
 usage:
   second pdu < script > output
   second session [--parts L0,L1,..] < script > output
-      Runs a script of control messages, or of state calls, and prints a line for
-      each call. An item X, which changes state memory, ends a run with the line
+  second table < script > output
+      Runs a script of control messages, of state calls, or of calls on a table
+      without history (E, D, W, N, C, S; no counts are printed), and prints a line
+      for each call. An item X, which changes state memory, ends a run with the line
       `fault` on standard error and the status 3: the state here has no memory.
   second gen-pdu SEED ITEMS > script
   second gen-session SEED ITEMS [--parts L0,L1,..] > script
@@ -31,7 +33,9 @@ usage:
       The status is 0 only if nothing is missing.
   second compare-pdu PROGRAM FROM TO ITEMS
   second compare-session PROGRAM FROM TO ITEMS [--parts L0,L1,..]
+  second compare-table PROGRAM FROM TO ITEMS
       Runs PROGRAM on the same scripts and compares what it prints, two at a time.
+      A script for a table has no items that need a history.
       The status is 0 only if scripts were compared and none differs.
   second hex-pdu < text > script
   second hex-session < text > script
@@ -59,6 +63,7 @@ fn dispatch(arguments: &[&str]) -> Result<ExitCode, String> {
     match arguments {
         ["pdu"] => run_pdu(),
         ["session", options @ ..] => run_session(&parts(options)?),
+        ["table"] => run_table(),
         ["gen-pdu", seed, items] => print(&generate::pdu::script(number(seed)?, count(items)?)),
         ["gen-session", seed, items, options @ ..] => {
             let parts = parts(options)?;
@@ -81,6 +86,9 @@ fn dispatch(arguments: &[&str]) -> Result<ExitCode, String> {
         ["compare-session", program, from, to, items, options @ ..] => {
             let parts = parts(options)?;
             compare_session(program, number(from)?, number(to)?, count(items)?, &parts)
+        }
+        ["compare-table", program, from, to, items] => {
+            compare_table(program, number(from)?, number(to)?, count(items)?)
         }
         ["hex-pdu"] => print_script(script::pdu::KINDS),
         ["hex-session"] => print_script(script::session::KINDS),
@@ -120,6 +128,12 @@ fn run_session(parts: &Parts) -> Result<ExitCode, String> {
             Ok(ExitCode::from(3))
         }
     }
+}
+
+fn run_table() -> Result<ExitCode, String> {
+    let script = input()?;
+    to_output(|out| script::table::run(&script, out))?;
+    Ok(ExitCode::SUCCESS)
 }
 
 /// What a run gives, its output written through.
@@ -164,6 +178,18 @@ fn compare_session(
         make: &|seed| generate::session::script(seed, items, parts),
         expected: &|script| written(|out| script::session::run(script, parts, out)),
         silent: script::session::SILENT,
+    };
+    compare_scripts(program, from, to, &scripts)
+}
+
+fn compare_table(program: &str, from: u64, to: u64, items: usize) -> Result<ExitCode, String> {
+    let parts = Parts::default();
+    let scripts = Scripts {
+        make: &|seed| {
+            script::table::without_history(&generate::session::script(seed, items, &parts))
+        },
+        expected: &|script| written(|out| script::table::run(script, out)),
+        silent: b"",
     };
     compare_scripts(program, from, to, &scripts)
 }

@@ -14,7 +14,7 @@ use Rattle.wire.proofs.Tests.{every-at}
 use Rattle.order.specs.declared.Row.{Row}
 use Rattle.order.specs.declared.Fit.{Fit}
 use Rattle.order.specs.declared.Fit.the-variants.{Ends, Short}
-use Rattle.order.specs.Rows.{allRows, noRow, rowsFrom, firstOf, lenOf, numberOk, okOf, cutOf, firstBad, fieldOf, stepOf, onFit, walkOf}
+use Rattle.order.specs.Rows.{allRows, noRow, rowsFrom, firstOf, lenOf, numberOk, okOf, cutOf, firstBad, fieldOf, stepOf, onFit, walkOf, roomOf}
 use Rattle.order.proofs.Fields.{part-next}
 
 -- ---- no offset at fault is taken back
@@ -95,10 +95,7 @@ module _ (r : Row) (flags : ℕ) (s : List ℕ) (at p : ℕ) where
   unfolding stepOf
   not-carried t e = let x : Ends at 0 ≡ Ends p 0 = rw t at e in cc
 
--- ---- the room of a field in its set: its fixed bytes and as many as its highest count
-
-abbrev pub roomOf : Row → ℕ
-roomOf r = r .size + r .unit * r .most
+-- ---- the room of a field in its set
 
 few-numbers : (rule most v : ℕ) → either (eqb rule 2) (eqb rule 3) ≡ true → numberOk rule most v ≡ true → v ≤ most
 few-numbers rule most v h t = go (eqb rule 2) (eqb rule 3) refl refl h t

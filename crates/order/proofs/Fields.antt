@@ -235,3 +235,14 @@ within-ends {f} {q} {b} {n} e w = within-of {f = Ends q b} n (sym e) w
 
 pub row-at : {r x : Row} {k : ℕ} (n : ℕ) → r ≡ x → k ≡ n → x ≡ getD allRows n noRow → r ≡ getD allRows k noRow
 row-at n e h g = rw h (e ∙ g)
+
+-- ---- a field in its set
+
+module _ (r : Row) (k : ℕ) (s : List ℕ) (at : ℕ) (is : r ≡ getD allRows k noRow) where
+  pub in-any : r .rule ≡ 0 → true ≡ okOf (getD allRows k noRow) s at
+  unfolding okOf
+  in-any z = let e : getD allRows k noRow .rule ≡ 0 = ap (λ (x : Row). x .rule) (sym is) ∙ z in rw e
+
+  pub in-rule : {v : ℕ} {b : Bool} → v ≡ firstOf r s at → b ≡ numberOk (r .rule) (r .most) v → b ≡ okOf (getD allRows k noRow) s at
+  unfolding okOf
+  in-rule e f = f ∙ ap (numberOk (r .rule) (r .most)) e ∙ ap (λ (x : Row). numberOk (x .rule) (x .most) (firstOf x s at)) is

@@ -101,6 +101,10 @@ firstOf r s at = numAt (r .head) s at
 unfoldable pub lenOf : Row → List ℕ → ℕ → ℕ
 lenOf r s at = r .size + r .unit * firstOf r s at
 
+-- the most bytes that a field in its set takes: its fixed ones and as many as its highest count
+abbrev pub roomOf : Row → ℕ
+roomOf r = r .size + r .unit * r .most
+
 abbrev pub showOk : ℕ → Bool
 showOk v = any (eqb v 0 ∷ eqb v 2 ∷ eqb v 3 ∷ eqb v 5 ∷ [])
 

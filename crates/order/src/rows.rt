@@ -2,7 +2,7 @@
 ghost use mathlib.Core.Path.{_≡_};
 ghost use Prim.Native.Nat.{_<_, _≤_};
 ghost use lib.ListN.{length, getD};
-ghost use Rattle.order.specs.Rows.{rowOf, numbersRow, showRow, switchRow, textRow, rectanglesRow, idsRow, allRows, noRow, rowsFrom, firstOf, numberOk, cutOf, firstBad, stepOf, walkOf, fieldOf, Good, Within};
+ghost use Rattle.order.specs.Rows.{rowOf, numbersRow, showRow, switchRow, textRow, rectanglesRow, idsRow, allRows, noRow, rowsFrom, firstOf, numberOk, okOf, cutOf, firstBad, stepOf, walkOf, fieldOf, Good, Within};
 ghost use Rattle.wire.specs.Tests.{pick};
 use crate::Fit;
 use crate::Row;
@@ -202,6 +202,18 @@ fn field(s: &[u8], at: usize, bad: usize, r: Row) -> Fit
         return Fit::Short(c);
     }
     counted(s, at, bad, r)
+}
+
+// Whether the field of row k at index at is in its set.
+pub fn in_set(s: &[u8], at: usize, k: usize) -> bool
+    ensures { λ b. ⌜ b ≡ okOf (getD allRows k noRow) (now (s .entry)) at ⌝ }
+{
+    let r = row(k);
+    if r.rule == 0 {
+        return true;
+    }
+    let v = first_number(s, at, r);
+    number_ok(r.rule, r.most, v)
 }
 
 // One step of the walk: row k at index at.

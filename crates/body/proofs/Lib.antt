@@ -1,0 +1,9 @@
+pub mod Placed
+pub mod Stored
+pub mod Each
+pub mod Marks
+pub mod Fresh
+pub mod Slots
+pub mod Ways
+pub mod Begins
+pub mod Examples

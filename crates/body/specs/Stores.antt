@@ -1,0 +1,46 @@
+-- What the stores into a slot of bodies do to it. Assumes nothing.
+use Prim.Native.Nat.{ℕ, _+_, _*_, _-_}
+use mathlib.Core.Path.{_≡_}
+use mathlib.Core.Bool.{Bool}
+use mathlib.Core.List.{List, [], _∷_}
+use lib.ListN.{replicate}
+use Rattle.wire.specs.Tests.{pick, has}
+use Rattle.wire.specs.Numbers.{bytesOf}
+use Rattle.wire.specs.Parts.{slice, splice}
+use Rattle.order.specs.declared.Row.{Row}
+use Rattle.order.specs.declared.Fit.the-variants.{Ends}
+use Rattle.order.specs.Rows.{roomOf, stepOf, onFit, walkOf}
+
+-- the flagged fields put into their places, the first row's at index off
+unfoldable pub storeOf : List Row → ℕ → ℕ → List ℕ → ℕ → List ℕ → List ℕ
+storeOf [] off flags s at slot = slot
+storeOf (r ∷ rs) off flags s at slot =
+    onFit (stepOf r flags s at 0) (λ cut. slot)
+    (λ q bad. storeOf rs (off + roomOf r) flags s q (splice slot off (slice s at (q - at))))
+
+-- a new record's slot: zeros
+unfoldable pub preparedOf : Bool → List ℕ → List ℕ
+preparedOf fresh slot = pick fresh (splice slot 0 (replicate 916 0)) slot
+
+-- a mark set where an icon or cached icon is carried
+unfoldable pub pointedOf : ℕ → ℕ → ℕ → List ℕ → List ℕ
+pointedOf flags mark v slot = pick (has flags 0xC0000000) (splice slot mark (bytesOf 1 v)) slot
+
+-- the desktop's marks: 2 sets hooked; 8 starts syncing, 4 ends it
+unfoldable pub hookedOf : ℕ → List ℕ → List ℕ
+hookedOf flags slot = pick (has flags 0x00000002) (splice slot 0 (bytesOf 1 1)) slot
+
+unfoldable pub syncedOf : ℕ → List ℕ → List ℕ
+syncedOf flags slot =
+    pick (has flags 0x00000008) (splice slot 1 (bytesOf 1 1))
+    (pick (has flags 0x00000004) (splice slot 1 (bytesOf 1 0)) slot)
+
+-- the places that the fields take
+unfoldable pub roomAll : List Row → ℕ
+roomAll [] = 0
+roomAll (r ∷ rs) = roomOf r + roomAll rs
+
+-- the flagged fields end within the order, each in its set
+pub record EndsWell (rows : List Row) (flags : ℕ) (s : List ℕ) (at : ℕ) : Type 0 where
+  pub end : ℕ
+  pub well : walkOf rows flags s at 0 ≡ Ends end 0

@@ -1,0 +1,9 @@
+pub mod Search
+pub mod Memory
+pub mod Soundness
+pub mod Listed
+pub mod Planned
+pub mod Numbered
+pub mod After
+pub mod Kept
+pub mod Ways

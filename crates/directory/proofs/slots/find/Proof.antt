@@ -1,0 +1,64 @@
+use Rattle.directory.proofs.Ways.{first-start, first-here, first-next, first-none}
+use Rattle.directory.specs.Slots.{isAt, firstFrom}
+use denote.Ref.{now}
+use Prim.Native.Nat.{_+_, _-_, _≤_}
+use mathlib.Core.Path.{_≡_, sym, _∙_}
+use borrow.Author.Needs.{needs}
+use Rattle.directory.proofs.slots.find.Statement.{statement}
+use Rattle.directory.proofs.slots.find.Tie as tie
+
+abbrev Inv-loop : tie.InvT-loop
+Inv-loop dir first count a b end i₀ i = (i ≤ end) × (end ≤ 48) × (firstFrom count first (isAt dir a b) ≡ firstFrom (end - i) i (isAt dir a b))
+
+abbrev μ-loop : tie.MeasureT-loop
+μ-loop dir first count a b end i₀ i = end - i
+
+add-end : tie.Need-add-end Inv-loop μ-loop
+add-end c = search needs
+
+loop-holds : tie.Need-loop-holds Inv-loop μ-loop
+loop-holds c =
+    let a = c .before .args in
+    (search needs, search needs, first-start (isAt (now (a .dir)) (a .a) (a .b)) (a .first) (a .count))
+
+is-at-requires : tie.Need-is-at-requires Inv-loop μ-loop
+is-at-requires c κs = search needs
+
+returns : tie.Need-returns Inv-loop μ-loop
+returns c =
+    let w = c .before .before .before in
+    let a = c .before .before .before .before .before .args in
+    sym (w .loop .inv .2 ∙ first-here (isAt (now (a .dir)) (a .a) (a .b)) (a .first + a .count) (w .loop .i) (c .before .before .loop-test .taken) (c .before .is-at .ensures) (c .if1 .taken))
+
+add-i : tie.Need-add-i Inv-loop μ-loop
+add-i c = search needs
+
+loop-less : tie.Need-loop-less Inv-loop μ-loop
+loop-less c = search needs
+
+loop-again : tie.Need-loop-again Inv-loop μ-loop
+loop-again c =
+    let w = c .before .before .before in
+    let a = c .before .before .before .before .before .args in
+    (search needs, search needs, w .loop .inv .2 ∙ first-next (isAt (now (a .dir)) (a .a) (a .b)) (a .first + a .count) (w .loop .i) (c .before .before .loop-test .taken) (c .before .is-at .ensures) (c .if1 .left))
+
+returns-2 : tie.Need-returns-2 Inv-loop μ-loop
+returns-2 c =
+    let w = c .before in
+    let a = c .before .before .before .args in
+    sym (w .loop .inv .2 ∙ first-none (isAt (now (a .dir)) (a .a) (a .b)) (a .first + a .count) (w .loop .i) (c .loop-test .left))
+
+pub find-spec : {M : Type 1} → statement M
+find-spec =
+    tie.close
+    (tie.spec
+    Inv-loop
+    μ-loop
+    add-end
+    loop-holds
+    is-at-requires
+    returns
+    add-i
+    loop-less
+    loop-again
+    returns-2)

@@ -1,0 +1,5 @@
+pub mod Slots
+pub mod Directory
+pub mod Plans
+pub mod Marks
+pub mod Sound

@@ -1,0 +1,100 @@
+// The directory of a table: which windows and notification icons are listed, which cells of the icon cache are filled, and
+// what an order does to it. The numbers 9, 10 and 11 depend on nothing else of a table.
+ghost use mathlib.Core.Path.{_≡_};
+ghost use Rattle.directory.specs.Plans.{planOf, planWindow, planNotification};
+use order::Judged;
+use order::NotificationOrder;
+use order::WindowOrder;
+
+pub mod marks;
+pub mod places;
+pub mod slots;
+pub mod sound;
+
+pub enum Found {
+    At(usize),
+    Nothing,
+}
+
+// The slot of the record that an order changes, or the number of its refusal.
+pub enum Place {
+    Slot(usize),
+    Not(u8),
+}
+
+// What an order changes that is not refused: the record of the ids a and b (0 for a window), in its slot; for a new record,
+// in the first free slot.
+pub struct Change {
+    pub slot: usize,
+    pub fresh: bool,
+    pub a: u32,
+    pub b: u32,
+    pub flags: u32,
+    pub icon: u32,
+}
+
+// An order judged whole, on its bytes and on the directory.
+pub enum Plan {
+    ChangeWindow(Change),
+    ChangeNotification(Change),
+    ChangeDesktop(u32),
+    Refuse(u8),
+}
+
+fn plan_window(dir: &[u8], s: &[u8], o: WindowOrder) -> Plan
+    ensures { λ r. ⌜ r ≡ planWindow (now (dir .entry)) (now (s .entry)) o ⌝ }
+{
+    let flags = o.flags;
+    let icon = o.icon;
+    let a = o.window.id;
+    let n = places::icon_number(dir, s, flags, icon);
+    let fresh = (flags & 0x1000_0000 != 0) & !(flags & 0xC000_0000 != 0);
+    let p = places::slot_for(dir, 0, 32, fresh, a, 0, n);
+    match p {
+        Place::Not(number) => Plan::Refuse(number),
+        Place::Slot(slot) => Plan::ChangeWindow(Change {
+            slot,
+            fresh,
+            a,
+            b: 0,
+            flags,
+            icon,
+        }),
+    }
+}
+
+fn plan_notification(dir: &[u8], s: &[u8], o: NotificationOrder) -> Plan
+    ensures { λ r. ⌜ r ≡ planNotification (now (dir .entry)) (now (s .entry)) o ⌝ }
+{
+    let flags = o.flags;
+    let icon = o.icon;
+    let a = o.window.id;
+    let b = o.notify.id;
+    let n = places::icon_number(dir, s, flags, icon);
+    let fresh = flags & 0x1000_0000 != 0;
+    let p = places::slot_for(dir, 32, 16, fresh, a, b, n);
+    match p {
+        Place::Not(number) => Plan::Refuse(number),
+        Place::Slot(slot) => Plan::ChangeNotification(Change {
+            slot,
+            fresh,
+            a,
+            b,
+            flags,
+            icon,
+        }),
+    }
+}
+
+// The first of the numbers 2 to 11 that applies to an order, or what it changes.
+pub fn judge(dir: &[u8], s: &[u8]) -> Plan
+    ensures { λ r. ⌜ r ≡ planOf (now (dir .entry)) (now (s .entry)) ⌝ }
+{
+    let j = order::judge(s);
+    match j {
+        Judged::Window(o) => plan_window(dir, s, o),
+        Judged::Notification(o) => plan_notification(dir, s, o),
+        Judged::Desktop(o) => Plan::ChangeDesktop(o.flags),
+        Judged::Refused(r) => Plan::Refuse(r.number),
+    }
+}

@@ -1,0 +1,191 @@
+-- A delivery and an emptying, whole: the number, the table then described, and the rule kept. Assumes nothing.
+use mathlib.Core.Path.{_≡_, refl, sym, ap, subst, _∙_}
+use mathlib.Core.Bool.{Bool, true, false}
+use mathlib.Core.List.{List, _++_}
+use mathlib.Core.Option.{none, some}
+use Prim.Native.Nat.{ℕ, _+_, _*_, _≤_, _<_}
+use native.Mathlib.Omega.{arith}
+use lib.Dec.{eqb}
+use lib.ListN.{length, take, drop}
+use borrow.Author.Tests.{ne-eqb}
+use Rattle.wire.specs.Tests.{pick, has}
+use Rattle.wire.specs.Parts.{splice}
+use Rattle.wire.proofs.Numbers.{Bytes}
+use Rattle.order.specs.Judge.{judgeOf}
+use Rattle.directory.specs.declared.Change.{Change}
+use Rattle.directory.specs.declared.Plan.{Plan}
+use Rattle.directory.specs.declared.Plan.the-variants.{ChangeWindow, ChangeNotification, ChangeDesktop, Refuse}
+use Rattle.directory.specs.Slots.{onFound}
+use Rattle.directory.specs.Plans.{planOf, numberOf}
+use Rattle.directory.specs.Directory.{Directory, windows, notifications, numberIn}
+use Rattle.directory.specs.Marks.{markedOf, markedBy, clearedOf, emptiedOf}
+use Rattle.directory.proofs.Soundness.{sound-has}
+use Rattle.directory.proofs.Planned.{Planned, planned, window-second}
+use Rattle.directory.proofs.Numbered.{judged-number, refused-number, planned-desktop}
+use Rattle.directory.proofs.Listed.{emptied-find, emptied-many, emptied-filled}
+use Rattle.body.specs.Bodies.{windowFields, notificationFields, desktopFields, slotOf, bodyOf}
+use Rattle.body.specs.Stores.{preparedOf, EndsWell}
+use Rattle.body.proofs.Placed.{placed}
+use Rattle.body.proofs.Fresh.{prepared-body, prepared-ok, length-prepared, desktop-room}
+use Rattle.body.proofs.Slots.{length-slot, slot-lent, slot-splice, length-bodies, slots-back}
+use Rattle.cache.specs.Cells.{cellOf, pictureOf}
+use Rattle.table.specs.Table.{Table, emptied, number, fieldRows, changeOn, after}
+use Rattle.table.specs.Memory.{decode, soundTable}
+use Rattle.table.specs.Changes.{markOf, bodiesAfter, cellsAfter, desktopSlot, bodiesBy, cellsBy, Able}
+use Rattle.table.specs.Outcome.{Emptied, Delivered}
+use Rattle.table.proofs.Able.{able, desktop-able, pointed-cell, planned-icon}
+use Rattle.table.proofs.Joined.{decode-directory, record-decoded, desktop-decoded}
+use Rattle.table.proofs.Sounded.{Sound, table-has, table-is, record-sounded, desktop-sounded, emptied-sounded}
+
+-- judging asks the directory alone
+pub decoded-number : (dir bodies cells s : List ℕ) → numberOf (planOf dir s) ≡ number (decode dir bodies cells) s
+unfolding number
+decoded-number dir bodies cells s = judged-number dir s ∙ ap (λ (d : Directory). numberIn d s) (sym (decode-directory dir bodies cells))
+
+module _ (dir bodies cells s : List ℕ) (bytes : Bytes s) (sound : soundTable dir bodies cells ≡ true) where
+  good : Sound dir bodies cells
+  good = table-has dir bodies cells sound
+
+  -- the table after the change, and the rule kept
+  record Changed (p : Plan) : Type 0 where
+    pub table : decode (markedBy dir s p) (bodiesBy s p bodies) (cellsBy s p cells)
+        ≡ pick (eqb (numberOf p) 0) (changeOn (decode dir bodies cells) s (judgeOf s)) (decode dir bodies cells)
+    pub sounded : Sound (markedBy dir s p) (bodiesBy s p bodies) (cellsBy s p cells)
+
+  changed : (p : Plan) → planOf dir s ≡ p → Changed p
+  unfolding markedBy bodiesBy cellsBy
+  changed (ChangeWindow c) e =
+      let p = planned dir s bytes windows c e in
+      let a = able windows dir s bytes c p in
+      let cell = pointed-cell windows dir s c p in
+      let icon = planned-icon windows dir s bytes c p in
+      let b : c .b ≡ 0 = window-second dir s c p in
+      record {
+        table =
+            rw (p .judged)
+            (record-decoded windows dir bodies cells s c p (good .directory) a cell icon (good .big) (good .wide) ∙ rw (p .fresh, b));
+        sounded = record-sounded windows dir bodies cells s c p a cell icon good;
+      }
+  changed (ChangeNotification c) e =
+      let p = planned dir s bytes notifications c e in
+      let a = able notifications dir s bytes c p in
+      let cell = pointed-cell notifications dir s c p in
+      let icon = planned-icon notifications dir s bytes c p in
+      record {
+        table =
+            rw (p .judged) (record-decoded notifications dir bodies cells s c p (good .directory) a cell icon (good .big) (good .wide) ∙ rw (p .fresh));
+        sounded = record-sounded notifications dir bodies cells s c p a cell icon good;
+      }
+  changed (ChangeDesktop flags) e =
+      let w = desktop-able dir s flags e in
+      record {
+        table = rw (planned-desktop dir s flags e) (desktop-decoded dir bodies cells s flags (good .directory) (good .big) (w .0) (w .1));
+        sounded = desktop-sounded dir bodies cells s flags good (w .0) (w .1);
+      }
+  changed (Refuse n) e = record { table = rw (ne-eqb n 0 (refused-number dir s n e)); sounded = good }
+
+  -- a refused order changes nothing
+  kept : (p : Plan) → (numberOf p ≡ 0 → ⊥) → (markedBy dir s p ≡ dir) × (bodiesBy s p bodies ≡ bodies) × (cellsBy s p cells ≡ cells)
+  unfolding markedBy bodiesBy cellsBy
+  kept (ChangeWindow c) h = absurd (h refl)
+  kept (ChangeNotification c) h = absurd (h refl)
+  kept (ChangeDesktop flags) h = absurd (h refl)
+  kept (Refuse n) h = (refl, refl, refl)
+
+  pub delivered : (p : Plan) → planOf dir s ≡ p
+      → Delivered dir bodies cells s (numberOf p) (markedBy dir s p) (bodiesBy s p bodies) (cellsBy s p cells)
+  unfolding after
+  delivered p e =
+      let n : numberOf p ≡ number (decode dir bodies cells) s = ap numberOf (sym e) ∙ decoded-number dir bodies cells s in
+      let c = changed p e in
+      record {
+        says = n;
+        table =
+            c .table
+            ∙ ap (λ (m : ℕ). pick (eqb m 0) (changeOn (decode dir bodies cells) s (judgeOf s)) (decode dir bodies cells)) n;
+        sound = table-is (markedBy dir s p) (bodiesBy s p bodies) (cellsBy s p cells) (c .sounded);
+        kept = kept p;
+      }
+
+-- ---- emptying
+
+module _ (dir bodies cells : List ℕ) (long : 444 ≤ length dir) (big : 44884 ≤ length bodies) (wide : 50880 ≤ length cells) where
+  abbrev bare : List ℕ
+  bare = preparedOf true (slotOf bodies 48)
+
+  size : length bare ≡ 916
+  size = length-prepared true (slotOf bodies 48) (omega (arith, length-slot bodies 48 big)) ∙ length-slot bodies 48 big
+
+  at-desk : slotOf (splice bodies 43968 bare) 48 ≡ bare
+  at-desk = slot-splice bodies 48 bare size big 48
+
+  pub emptied-is : Emptied (emptiedOf dir) (splice bodies 43968 bare) cells
+  unfolding decode emptied
+  emptied-is =
+      let n = length-slot bodies 48 big in
+      let b : bodyOf desktopFields (slotOf (splice bodies 43968 bare) 48) ≡ emptied .desktop =
+      ap (bodyOf desktopFields) at-desk ∙ prepared-body desktopFields (slotOf bodies 48) (omega arith) (omega (arith, desktop-room)) in
+      record {
+        table = λ i. record {
+          records = λ f x y. onFound (emptied-find dir long f x y i) none (λ j. some (bodyOf (fieldRows f) (slotOf (splice bodies 43968 bare) j)));
+          many = λ f. emptied-many dir long f i;
+          cells = λ c. pick (emptied-filled dir long c i) (some (pictureOf (cellOf cells c))) none;
+          desktop = b i;
+        };
+        sound =
+            table-is (emptiedOf dir) (splice bodies 43968 bare) cells
+            (emptied-sounded dir (splice bodies 43968 bare) cells long (omega (arith, length-bodies bodies 48 bare size big, big)) wide
+            (rw at-desk (prepared-ok desktopFields (slotOf bodies 48) (omega arith) (omega (arith, desktop-room)) 1 1 (placed 22 24))));
+      }
+
+  -- as the function leaves it, with the desktop's slot lent and come back
+  pub emptied-done : {d x : List ℕ} → d ≡ emptiedOf dir → x ≡ preparedOf true (take 916 (drop 43968 bodies)) → length x ≡ length (take 916 (drop 43968 bodies))
+      → Emptied d (take 43968 bodies ++ (x ++ drop 916 (drop 43968 bodies))) cells
+  emptied-done {d} {x} e f l =
+      let q : take 916 (drop 43968 bodies) ≡ slotOf bodies 48 = slot-lent bodies 43968 916 48 refl refl in
+      let z : x ≡ bare = f ∙ ap (preparedOf true) q in
+      let n : length x ≡ 916 = ap length z ∙ size in
+      let w : take 43968 bodies ++ (x ++ drop 916 (drop 43968 bodies)) ≡ splice bodies 43968 bare =
+      slots-back bodies 48 x n big 43968 916 refl refl ∙ ap (splice bodies 43968) z in
+      rw (e, w) emptied-is
+
+-- ---- for the function, by its ways out
+
+module _ (dir bodies cells s : List ℕ) (bytes : Bytes s) (sound : soundTable dir bodies cells ≡ true) {r : Plan} (judged : r ≡ planOf dir s) where
+  abbrev Long : Type 0
+  Long = (444 ≤ length dir) × (44884 ≤ length bodies) × (50880 ≤ length cells)
+
+  long-enough : Long
+  long-enough = let g = table-has dir bodies cells sound in (sound-has dir (g .directory) .long, g .big, g .wide)
+
+  pub window-ready : (c : Change) → r ≡ ChangeWindow c → Long × Able windowFields 11 s c
+  window-ready c e = (long-enough, able windows dir s bytes c (planned dir s bytes windows c (sym judged ∙ e)))
+
+  pub notification-ready : (c : Change) → r ≡ ChangeNotification c → Long × Able notificationFields 15 s c
+  notification-ready c e = (long-enough, able notifications dir s bytes c (planned dir s bytes notifications c (sym judged ∙ e)))
+
+  pub desktop-ready : (flags : ℕ) → r ≡ ChangeDesktop flags
+      → ((444 ≤ length dir) × (44884 ≤ length bodies) × (7 ≤ length s)) × EndsWell desktopFields flags s 7
+  desktop-ready flags e =
+      let w = desktop-able dir s flags (sym judged ∙ e) in
+      ((long-enough .0, long-enough .1, w .0), w .1)
+
+  module _ {d b : List ℕ} where
+    pub window-delivered : {k : List ℕ} (c : Change) → r ≡ ChangeWindow c → d ≡ markedOf dir s c → b ≡ bodiesAfter windowFields 11 (markOf (c .flags)) s c bodies
+        → k ≡ cellsAfter s c cells → Delivered dir bodies cells s 0 d b k
+    unfolding markedBy bodiesBy cellsBy
+    window-delivered c e x y z = rw (x, y, z) (delivered dir bodies cells s bytes sound (ChangeWindow c) (sym judged ∙ e))
+
+    pub notification-delivered : {k : List ℕ} (c : Change) → r ≡ ChangeNotification c → d ≡ markedOf dir s c → b ≡ bodiesAfter notificationFields 15 0 s c bodies
+        → k ≡ cellsAfter s c cells → Delivered dir bodies cells s 0 d b k
+    unfolding markedBy bodiesBy cellsBy
+    notification-delivered c e x y z = rw (x, y, z) (delivered dir bodies cells s bytes sound (ChangeNotification c) (sym judged ∙ e))
+
+    pub desktop-delivered : (flags : ℕ) → r ≡ ChangeDesktop flags → d ≡ pick (has flags 0x00000001) (clearedOf dir) dir
+        → b ≡ splice bodies 43968 (desktopSlot flags s (slotOf bodies 48)) → Delivered dir bodies cells s 0 d b cells
+    unfolding markedBy bodiesBy cellsBy
+    desktop-delivered flags e x y = rw (x, y) (delivered dir bodies cells s bytes sound (ChangeDesktop flags) (sym judged ∙ e))
+
+  pub refused-delivered : (n : ℕ) → r ≡ Refuse n → Delivered dir bodies cells s n dir bodies cells
+  unfolding markedBy bodiesBy cellsBy
+  refused-delivered n e = delivered dir bodies cells s bytes sound (Refuse n) (sym judged ∙ e)

@@ -1,0 +1,117 @@
+-- Records as they are handed out: the typed view of a raw record. Assumes nothing.
+use Prim.Native.Nat.{ℕ, _*_, _-_, _/_, _%_}
+use mathlib.Core.Bool.{true, false}
+use mathlib.Core.List.{List, [], _++_}
+use lib.Dec.{eqb}
+use lib.ListN.{getD, take, drop, replicate}
+use Rattle.wire.specs.Tests.{pick}
+use Rattle.wire.specs.Numbers.{numAt, numsAt}
+use Rattle.order.specs.Icons.{tabled}
+use Rattle.body.specs.Bodies.{Body}
+use Rattle.view.specs.declared.Pair.{Pair}
+use Rattle.view.specs.declared.Text.{Text}
+use Rattle.view.specs.declared.Rectangles.{Rectangles}
+use Rattle.view.specs.declared.Pointer.{Pointer}
+use Rattle.view.specs.declared.Stack.{Stack}
+use Rattle.view.specs.declared.WindowRecord.{WindowRecord}
+use Rattle.view.specs.declared.NotificationRecord.{NotificationRecord}
+use Rattle.view.specs.declared.DesktopRecord.{DesktopRecord}
+use Rattle.view.specs.declared.Picture.{Picture}
+
+-- ---- one field
+
+-- numbers, and zeros to the end
+unfoldable pub padded : ℕ → List ℕ → List ℕ
+padded n xs = take n (xs ++ replicate n 0)
+
+unfoldable pub pairOf : List ℕ → Pair
+pairOf f = record { x = numAt 4 f 0; y = numAt 4 f 4 }
+
+-- length 2, bytes
+unfoldable pub textOf : List ℕ → Text
+textOf f = record { length = numAt 2 f 0; bytes = padded 520 (drop 2 f) }
+
+-- count 2, rectangles of four numbers of 2
+unfoldable pub rectanglesOf : List ℕ → Rectangles
+rectanglesOf f = record { count = numAt 2 f 0; sides = padded 64 (numsAt (replicate (4 * numAt 2 f 0) 2) f 2) }
+
+-- count 1, ids of 4
+unfoldable pub stackOf : List ℕ → Stack
+stackOf f = record { count = numAt 1 f 0; ids = padded 64 (numsAt (replicate (numAt 1 f 0) 4) f 1) }
+
+-- 0 for none, else the number of the cell and 1
+unfoldable pub pointerOf : ℕ → Pointer
+pointerOf v =
+    pick (eqb v 0) (record { some = false; cache = 0; entry = 0 }) (record { some = true; cache = (v - 1) / 6; entry = (v - 1) % 6 })
+
+-- ---- a record
+
+abbrev pub fieldOf : Body → ℕ → List ℕ
+fieldOf b k = getD (b .fields) k []
+
+unfoldable pub windowOf : Body → WindowRecord
+windowOf b =
+    record {
+      owner = numAt 4 (fieldOf b 0) 0;
+      style = numAt 4 (fieldOf b 1) 0;
+      «extended_style» = numAt 4 (fieldOf b 1) 4;
+      «show_state» = numAt 1 (fieldOf b 2) 0;
+      title = textOf (fieldOf b 3);
+      «client_offset» = pairOf (fieldOf b 4);
+      «client_size» = pairOf (fieldOf b 5);
+      «rp_content» = numAt 1 (fieldOf b 6) 0;
+      «root_parent» = numAt 4 (fieldOf b 7) 0;
+      «window_offset» = pairOf (fieldOf b 8);
+      «client_delta» = pairOf (fieldOf b 9);
+      «window_size» = pairOf (fieldOf b 10);
+      «window_rects» = rectanglesOf (fieldOf b 11);
+      «visible_offset» = pairOf (fieldOf b 12);
+      «visibility_rects» = rectanglesOf (fieldOf b 13);
+      small = pointerOf (b .first);
+      big = pointerOf (b .second);
+    }
+
+unfoldable pub notificationOf : Body → NotificationRecord
+notificationOf b =
+    record {
+      version = numAt 4 (fieldOf b 0) 0;
+      tip = textOf (fieldOf b 1);
+      timeout = numAt 4 (fieldOf b 2) 0;
+      flags = numAt 4 (fieldOf b 2) 4;
+      text = textOf (fieldOf b 3);
+      title = textOf (fieldOf b 4);
+      state = numAt 4 (fieldOf b 5) 0;
+      icon = pointerOf (b .first);
+    }
+
+unfoldable pub desktopOf : Body → DesktopRecord
+desktopOf b =
+    record {
+      active = record { id = numAt 4 (fieldOf b 0) 0 };
+      hooked = eqb (b .first) 1;
+      syncing = eqb (b .second) 1;
+      stack = stackOf (fieldOf b 1);
+    }
+
+-- bits 1, width 2, height 2, the color table's length 2 if there is one, mask's 2, color's 2, then the bytes
+unfoldable pub pictureView : List ℕ → Picture
+pictureView p =
+    pick (tabled (numAt 1 p 0))
+    (record {
+      bits = numAt 1 p 0;
+      width = numAt 2 p 1;
+      height = numAt 2 p 3;
+      mask = numAt 2 p 7;
+      table = numAt 2 p 5;
+      color = numAt 2 p 9;
+      bytes = padded 4224 (drop 11 p);
+    })
+    (record {
+      bits = numAt 1 p 0;
+      width = numAt 2 p 1;
+      height = numAt 2 p 3;
+      mask = numAt 2 p 5;
+      table = 0;
+      color = numAt 2 p 7;
+      bytes = padded 4224 (drop 9 p);
+    })
