@@ -6,4 +6,5 @@ pub mod Planned
 pub mod Numbered
 pub mod After
 pub mod Kept
+pub mod Stepped
 pub mod Ways

@@ -8,7 +8,7 @@ use lib.Dec.{eqb}
 use lib.Bits.{bitAnd}
 use lib.ListN.{length, replicate}
 use borrow.Author.Tests.{ne-eqb, eq-eqb, lt-ltb, le-ltb}
-use Rattle.wire.specs.Tests.{has}
+use Rattle.wire.specs.Tests.{pick, has}
 use Rattle.wire.specs.Numbers.{numAt, bytesOf}
 use Rattle.wire.specs.Parts.{splice}
 use Rattle.order.specs.declared.WindowOrder.{WindowOrder}
@@ -292,3 +292,9 @@ module _ (dir : List ℕ) where
       pub sound-marks : {v : Bool} → u ≡ true → v ≡ slotsOk 12 0 (marksOk dir) → v ≡ soundDirectory dir
       unfolding soundDirectory
       sound-marks x y = rw (le-ltb (length dir) 444 h, ← e, f, ← g, x) y
+
+pub listed-kept : (flags : ℕ) (dir : List ℕ) → bitAnd flags 0x00000001 ≡ 0 → dir ≡ pick (has flags 0x00000001) (clearedOf dir) dir
+listed-kept flags dir h = rw (eq-eqb (bitAnd flags 0x00000001) 0 h)
+
+pub listed-none : (flags : ℕ) (dir : List ℕ) {x : List ℕ} → (bitAnd flags 0x00000001 ≡ 0 → ⊥) → x ≡ clearedOf dir → x ≡ pick (has flags 0x00000001) (clearedOf dir) dir
+listed-none flags dir h e = rw (ne-eqb (bitAnd flags 0x00000001) 0 h) e

@@ -1,7 +1,10 @@
 // The directory of a table: which windows and notification icons are listed, which cells of the icon cache are filled, and
 // what an order does to it. The numbers 9, 10 and 11 depend on nothing else of a table.
 ghost use mathlib.Core.Path.{_≡_};
-ghost use Rattle.directory.specs.Plans.{planOf, planWindow, planNotification};
+ghost use mathlib.Core.Bool.{true};
+ghost use Rattle.directory.specs.Plans.{planOf, planWindow, planNotification, numberOf};
+ghost use Rattle.directory.specs.Marks.{markedBy};
+ghost use Rattle.directory.specs.Sound.{soundDirectory};
 use order::Judged;
 use order::NotificationOrder;
 use order::WindowOrder;
@@ -96,5 +99,29 @@ pub fn judge(dir: &[u8], s: &[u8]) -> Plan
         Judged::Notification(o) => plan_notification(dir, s, o),
         Judged::Desktop(o) => Plan::ChangeDesktop(o.flags),
         Judged::Refused(r) => Plan::Refuse(r.number),
+    }
+}
+
+// Judges an order on the directory and, where it is not refused, notes its change there. Its number.
+pub fn step(dir: &mut [u8], s: &[u8]) -> u8
+    requires { ⌜ soundDirectory (now dir) ≡ true ⌝ }
+    ensures { λ r. ⌜ r ≡ numberOf (planOf (now (dir .entry)) (now (s .entry))) ⌝ }
+    ensures { λ r. ⌜ now (dir .exit) ≡ markedBy (now (dir .entry)) (now (s .entry)) (planOf (now (dir .entry)) (now (s .entry))) ⌝ }
+{
+    let p = judge(dir, s);
+    match p {
+        Plan::ChangeWindow(c) => {
+            marks::mark(dir, s, c);
+            0
+        }
+        Plan::ChangeNotification(c) => {
+            marks::mark(dir, s, c);
+            0
+        }
+        Plan::ChangeDesktop(flags) => {
+            marks::none(dir, flags);
+            0
+        }
+        Plan::Refuse(number) => number,
     }
 }

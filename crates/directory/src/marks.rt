@@ -3,7 +3,7 @@ ghost use mathlib.Core.Path.{_≡_};
 ghost use mathlib.Core.Bool.{true};
 ghost use Prim.Native.Nat.{_<_, _≤_};
 ghost use lib.ListN.{length};
-ghost use Rattle.wire.specs.Tests.{has};
+ghost use Rattle.wire.specs.Tests.{pick, has};
 ghost use Rattle.directory.specs.Plans.{cellAt};
 ghost use Rattle.directory.specs.Marks.{listedOf, filledOf, markedOf, clearedOf, emptiedOf};
 use crate::Change;
@@ -51,13 +51,24 @@ pub fn mark(dir: &mut [u8], s: &[u8], c: Change)
     fill(dir, s, flags, c.icon);
 }
 
-// Desktop none: no record is listed; the cells stay.
-pub fn clear(dir: &mut [u8])
+// No record is listed; the cells stay.
+fn clear(dir: &mut [u8])
     requires { ⌜ 444 ≤ length (now dir) ⌝ }
     ensures { λ _. ⌜ now (dir .exit) ≡ clearedOf (now (dir .entry)) ⌝ }
 {
     let zeros = [0u8; 432];
     wire::copy_at(dir, 0, &zeros);
+}
+
+// Desktop none lists no record.
+pub fn none(dir: &mut [u8], flags: u32)
+    requires { ⌜ 444 ≤ length (now dir) ⌝ }
+    ensures { λ _. ⌜ now (dir .exit) ≡ pick (has flags 0x00000001) (clearedOf (now (dir .entry))) (now (dir .entry)) ⌝ }
+{
+    if flags & 0x0000_0001 == 0 {
+        return;
+    }
+    clear(dir);
 }
 
 // The directory of an emptied table.

@@ -102,18 +102,28 @@ module _ (dir bodies cells : List ℕ) where
                 unless (filledAt dir c) (cellOk (cellOf cells c)) (each-ok 12 0 (filledOk dir cells) e c (omega arith) (omega arith)) h;
           }
 
+  -- the rule's parts
+  module _ (s : Sound dir bodies cells) where
+    pub windows-are : slotsOk 32 0 (windowOk dir bodies) ≡ true
+    unfolding windowOk
+    windows-are =
+        all-ok 32 0 (windowOk dir bodies)
+        (λ i l u. unless-is (isUsed dir i) (bodyOk windowFields 12 12 (slotOf bodies i)) (s .records windows i (record { low = l; high = u })))
+
+    pub notifications-are : slotsOk 16 32 (notificationOk dir bodies) ≡ true
+    unfolding notificationOk
+    notifications-are =
+        all-ok 16 32 (notificationOk dir bodies)
+        (λ i l u. unless-is (isUsed dir i) (bodyOk notificationFields 12 0 (slotOf bodies i)) (s .records notifications i (record { low = l; high = u })))
+
+    pub filled-are : slotsOk 12 0 (filledOk dir cells) ≡ true
+    unfolding filledOk
+    filled-are = all-ok 12 0 (filledOk dir cells) (λ i l u. unless-is (filledAt dir i) (cellOk (cellOf cells i)) (s .filled i))
+
   pub table-is : Sound dir bodies cells → soundTable dir bodies cells ≡ true
-  unfolding soundTable windowOk notificationOk filledOk
+  unfolding soundTable
   table-is s =
-      let a : slotsOk 32 0 (windowOk dir bodies) ≡ true =
-      all-ok 32 0 (windowOk dir bodies)
-      (λ i l u. unless-is (isUsed dir i) (bodyOk windowFields 12 12 (slotOf bodies i)) (s .records windows i (record { low = l; high = u }))) in
-      let b : slotsOk 16 32 (notificationOk dir bodies) ≡ true =
-      all-ok 16 32 (notificationOk dir bodies)
-      (λ i l u. unless-is (isUsed dir i) (bodyOk notificationFields 12 0 (slotOf bodies i)) (s .records notifications i (record { low = l; high = u }))) in
-      let c : slotsOk 12 0 (filledOk dir cells) ≡ true =
-      all-ok 12 0 (filledOk dir cells) (λ i l u. unless-is (filledAt dir i) (cellOk (cellOf cells i)) (s .filled i)) in
-      rw (le-ltb (length bodies) 44884 (s .big), le-ltb (length cells) 50880 (s .wide), s .directory, a, b, s .desktop, c)
+      rw (le-ltb (length bodies) 44884 (s .big), le-ltb (length cells) 50880 (s .wide), s .directory, windows-are s, notifications-are s, s .desktop, filled-are s)
 
 -- a slot is of one family
 one-family : (f h : Family) (i : ℕ) → Within f i → Within h i → f ≡ h

@@ -14,7 +14,6 @@ use Rattle.order.specs.declared.Row.{Row}
 use Rattle.directory.specs.declared.Change.{Change}
 use Rattle.directory.specs.Slots.{isUsed, filledAt}
 use Rattle.directory.specs.Plans.{cellAt}
-use Rattle.directory.specs.Marks.{clearedOf}
 use Rattle.directory.specs.Sound.{slotsOk, soundDirectory}
 use Rattle.body.specs.Bodies.{windowFields, notificationFields, desktopFields, slotOf, bodyOk}
 use Rattle.body.specs.Stores.{storeOf, preparedOf, pointedOf, hookedOf, syncedOf, roomAll}
@@ -113,12 +112,6 @@ module _ (flags : ℕ) (s slot : List ℕ) where
       → z ≡ desktopSlot flags s slot
   unfolding desktopSlot
   desktop-changed h e f g = rw (lacks flags 0x00000001 h, ← e, ← f) g
-
-pub listed-kept : (flags : ℕ) (dir : List ℕ) → bitAnd flags 0x00000001 ≡ 0 → dir ≡ pick (has flags 0x00000001) (clearedOf dir) dir
-listed-kept flags dir h = rw (lacks flags 0x00000001 h)
-
-pub listed-none : (flags : ℕ) (dir : List ℕ) {x : List ℕ} → (bitAnd flags 0x00000001 ≡ 0 → ⊥) → x ≡ clearedOf dir → x ≡ pick (has flags 0x00000001) (clearedOf dir) dir
-listed-none flags dir h e = rw (holds flags 0x00000001 h) e
 
 -- ---- soundness
 

@@ -129,23 +129,12 @@ fn desktop_slot(slot: &mut [u8], s: &[u8], flags: u32)
     body::store(slot, s, 7, flags, 22, 24);
 }
 
-// Desktop none lists no record.
-fn desktop_directory(dir: &mut [u8], flags: u32)
-    requires { ⌜ 444 ≤ length (now dir) ⌝ }
-    ensures { λ _. ⌜ now (dir .exit) ≡ pick (has flags 0x00000001) (clearedOf (now (dir .entry))) (now (dir .entry)) ⌝ }
-{
-    if flags & 0x0000_0001 == 0 {
-        return;
-    }
-    directory::marks::clear(dir);
-}
-
 pub fn desktop(dir: &mut [u8], bodies: &mut [u8], s: &[u8], flags: u32)
     requires { ⌜ (444 ≤ length (now dir)) × (44884 ≤ length (now bodies)) × (7 ≤ length (now s)) ⌝ }
     requires { ⌜ EndsWell desktopFields flags (now s) 7 ⌝ }
     ensures { λ _. ⌜ now (dir .exit) ≡ pick (has flags 0x00000001) (clearedOf (now (dir .entry))) (now (dir .entry)) ⌝ }
     ensures { λ _. ⌜ now (bodies .exit) ≡ splice (now (bodies .entry)) 43968 (desktopSlot flags (now (s .entry)) (slotOf (now (bodies .entry)) 48)) ⌝ }
 {
-    desktop_directory(dir, flags);
+    directory::marks::none(dir, flags);
     desktop_slot(&mut bodies[43968..44884], s, flags);
 }

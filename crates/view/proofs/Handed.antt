@@ -14,12 +14,13 @@ use Rattle.body.specs.Bodies.{Body, windowFields, notificationFields, desktopFi
 use Rattle.body.specs.Stores.{preparedOf, roomAll}
 use Rattle.body.proofs.Placed.{Placed, All, placed}
 use Rattle.body.proofs.Marks.{fine}
-use Rattle.body.proofs.Fresh.{prepared-body, prepared-ok, window-room, notification-room}
+use Rattle.body.proofs.Fresh.{prepared-body, prepared-ok, window-room, notification-room, desktop-room}
 use Rattle.view.specs.declared.Pair.{Pair}
 use Rattle.view.specs.declared.Text.{Text}
 use Rattle.view.specs.declared.Rectangles.{Rectangles}
 use Rattle.view.specs.declared.Pointer.{Pointer}
 use Rattle.view.specs.declared.Stack.{Stack}
+use Rattle.view.specs.declared.DesktopRecord.{DesktopRecord}
 use Rattle.view.specs.declared.WindowRecord.{WindowRecord}
 use Rattle.view.specs.declared.NotificationRecord.{NotificationRecord}
 use Rattle.view.specs.Views.{pairOf, textOf, rectanglesOf, stackOf, pointerOf, fieldOf, windowOf, notificationOf, desktopOf}
@@ -217,3 +218,9 @@ no-window-is e = e ∙ ap windowOf (zeros-body windowFields (omega (arith, windo
 
 pub no-notification-is : {r : NotificationRecord} → r ≡ notificationOf (bodyOf notificationFields (replicate 916 0)) → r ≡ notificationOf (emptyBody notificationFields)
 no-notification-is e = e ∙ ap notificationOf (zeros-body notificationFields (omega (arith, notification-room)))
+
+pub no-desktop-ok : bodyOk desktopFields 1 1 (replicate 916 0) ≡ true
+no-desktop-ok = zeros-ok desktopFields (omega (arith, desktop-room)) 1 1 (placed 22 24)
+
+pub no-desktop-is : {r : DesktopRecord} → r ≡ desktopOf (bodyOf desktopFields (replicate 916 0)) → r ≡ desktopOf (emptyBody desktopFields)
+no-desktop-is e = e ∙ ap desktopOf (zeros-body desktopFields (omega (arith, desktop-room)))

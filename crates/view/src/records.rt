@@ -141,3 +141,11 @@ pub fn no_picture() -> Picture
         bytes: [0u8; 4224],
     }
 }
+
+// An empty desktop state.
+pub fn no_desktop() -> DesktopRecord
+    ensures { λ r. ⌜ r ≡ desktopOf (emptyBody desktopFields) ⌝ }
+{
+    let zeros = [0u8; 916];
+    desktop_in(&zeros)
+}

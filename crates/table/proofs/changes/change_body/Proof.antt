@@ -58,5 +58,3 @@ change-body-spec =
     change-slot-requires
     same-length
     returns-2)
-
--- x

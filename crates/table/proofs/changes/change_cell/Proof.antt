@@ -39,5 +39,3 @@ pub change-cell-spec : {M : Type 1} → statement M
 change-cell-spec =
     tie.close
     (tie.spec returns returns-2 cell-requires cast-fill fill-requires same-length returns-3)
-
--- x

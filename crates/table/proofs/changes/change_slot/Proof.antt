@@ -29,5 +29,3 @@ pub change-slot-spec : {M : Type 1} → statement M
 change-slot-spec =
     tie.close
     (tie.spec pointer-requires prepare-requires point-requires store-requires same-length returns)
-
--- x

@@ -7,8 +7,8 @@ use borrow.Author.Needs.{needs}
 use Rattle.table.proofs.changes.desktop.Statement.{statement}
 use Rattle.table.proofs.changes.desktop.Tie as tie
 
-desktop-directory-requires : tie.Need-desktop-directory-requires
-desktop-directory-requires c κs = search needs
+none-requires : tie.Need-none-requires
+none-requires c κs = search needs
 
 sub-desktop-slot : tie.Need-sub-desktop-slot
 sub-desktop-slot c = search needs
@@ -33,13 +33,13 @@ returns c =
     let b = c .before .before .before .before .before .before .before .before .before .before .before in
     let a = b .args in
     let f = c .before .before .desktop-slot in
-    (c .before .before .before .before .before .before .desktop-directory .ensures, slot-back (now (a .bodies)) 48 43968 916 (desktopSlot (a .flags) (now (a .s))) (omega (arith, b .pre .0)) refl refl (f .kept .0) (f .ensures))
+    (c .before .before .before .before .before .before .none .ensures, slot-back (now (a .bodies)) 48 43968 916 (desktopSlot (a .flags) (now (a .s))) (omega (arith, b .pre .0)) refl refl (f .kept .0) (f .ensures))
 
 pub desktop-spec : {M : Type 1} → statement M
 desktop-spec =
     tie.close
     (tie.spec
-    desktop-directory-requires
+    none-requires
     sub-desktop-slot
     part-desktop-slot-start
     part-desktop-slot-end
@@ -47,5 +47,3 @@ desktop-spec =
     same-length
     same-length-2
     returns)
-
--- x

@@ -47,5 +47,3 @@ desktop-slot-spec =
     store-requires
     same-length-2
     returns-2)
-
--- x

@@ -39,5 +39,3 @@ notification-spec =
     same-length-2
     same-length-3
     returns)
-
--- x

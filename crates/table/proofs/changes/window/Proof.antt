@@ -45,5 +45,3 @@ window-spec =
     same-length-2
     same-length-3
     returns)
-
--- x

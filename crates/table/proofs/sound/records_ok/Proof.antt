@@ -65,5 +65,3 @@ records-ok-spec =
     loop-less
     loop-again
     returns-2)
-
--- x

@@ -101,5 +101,3 @@ sound-spec =
     returns-6
     cells-ok-requires
     returns-7)
-
--- x

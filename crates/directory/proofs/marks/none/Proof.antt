@@ -1,8 +1,8 @@
-use Rattle.table.proofs.Ways.{listed-kept, listed-none}
+use Rattle.directory.proofs.Ways.{listed-kept, listed-none}
 use denote.Ref.{now}
 use borrow.Author.Needs.{needs}
-use Rattle.table.proofs.changes.desktop_directory.Statement.{statement}
-use Rattle.table.proofs.changes.desktop_directory.Tie as tie
+use Rattle.directory.proofs.marks.none.Statement.{statement}
+use Rattle.directory.proofs.marks.none.Tie as tie
 
 returns : tie.Need-returns
 returns c =
@@ -20,5 +20,5 @@ returns-2 c =
     let a = c .before .before .before .before .before .before .args in
     listed-none (a .flags) (now (a .dir)) (c .before .before .before .before .if1 .left) (c .before .before .clear .ensures)
 
-pub desktop-directory-spec : {M : Type 1} → statement M
-desktop-directory-spec = tie.close (tie.spec returns clear-requires same-length returns-2)
+pub none-spec : {M : Type 1} → statement M
+none-spec = tie.close (tie.spec returns clear-requires same-length returns-2)

@@ -1,0 +1,4 @@
+pub mod Logs
+pub mod Turns
+pub mod Copies
+pub mod Rule

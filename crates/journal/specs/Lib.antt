@@ -1,0 +1,4 @@
+pub mod State
+pub mod Journal
+pub mod View
+pub mod Standing

@@ -1,0 +1,44 @@
+-- What lent state memory describes, and document 01's rule "well formed". Assumes nothing.
+use Prim.Native.Nat.{ℕ}
+use mathlib.Core.Bool.{Bool, true, false, not}
+use mathlib.Core.List.{List, [], _∷_}
+use lib.Dec.{ltb}
+use lib.ListN.{length}
+use Rattle.wire.specs.Tests.{pick, both, any}
+use Rattle.table.specs.Memory.{decode, soundTable}
+use Rattle.journal.specs.State.{State, allAccepted}
+use Rattle.journal.specs.Journal.{countOf, withinFrom, logOf}
+
+-- the parts: directory, bodies and cells of the table at the mark; the journal
+pub record Memory : Type 0 where
+  pub dir : List ℕ
+  pub bodies : List ℕ
+  pub cells : List ℕ
+  pub journal : List ℕ
+
+abbrev pub memory : List ℕ → List ℕ → List ℕ → List ℕ → Memory
+memory dir bodies cells journal = record { dir = dir; bodies = bodies; cells = cells; journal = journal }
+
+-- a part is shorter than needed
+abbrev pub tooShort : Memory → Bool
+tooShort m =
+    any (ltb (length (m .dir)) 444 ∷ ltb (length (m .bodies)) 44884 ∷ ltb (length (m .cells)) 50880 ∷ ltb (length (m .journal)) 32770 ∷ [])
+
+-- the table at the mark is one, and the journal's orders lie within the room and are accepted in turn
+unfoldable pub wellFormed : Memory → Bool
+wellFormed m =
+    pick (not (soundTable (m .dir) (m .bodies) (m .cells))) false
+    (pick (ltb 128 (countOf (m .journal))) false
+    (pick (not (withinFrom (countOf (m .journal)) 2 (m .journal))) false
+    (allAccepted (decode (m .dir) (m .bodies) (m .cells)) (logOf (m .journal)))))
+
+unfoldable pub stateOf : Memory → State
+stateOf m = record { marked = decode (m .dir) (m .bodies) (m .cells); log = logOf (m .journal) }
+
+pub data View : Type 0 where
+  short : View
+  unformed : View
+  formed : State → View
+
+unfoldable pub viewOf : Memory → View
+viewOf m = pick (tooShort m) short (pick (wellFormed m) (formed (stateOf m)) unformed)
