@@ -8,9 +8,10 @@
 //! its return, with all that it calls.
 
 use std::env;
-use std::process::Command;
+use std::process::Stdio;
 
 use crate::call::{repeat, Job, Memory, Side, EMPTY, EMPTY_INSTRUCTIONS, PLAIN, PROVED};
+use crate::callgrind;
 use crate::inputs::{self, Input};
 use crate::table::{print_header, print_row, Cost};
 
@@ -81,22 +82,7 @@ fn per_turn(input: &Input, side: &Side, job: Job) -> Result<f64, String> {
 /// All instructions of one `bench one` run.
 fn total(input: &Input, side: &Side, job: Job, calls: u64) -> Result<u64, String> {
     let program = env::current_exe().map_err(|error| format!("own program: {error}"))?;
-    let output = Command::new("valgrind")
-        .args(["--tool=callgrind", "--callgrind-out-file=/dev/null"])
-        .arg(program)
-        .args(["one", input.name, side.name, job.name()])
-        .arg(calls.to_string())
-        .output()
-        .map_err(|error| format!("valgrind does not start: {error}"))?;
-    let report = String::from_utf8_lossy(&output.stderr);
-    if !output.status.success() {
-        return Err(format!("valgrind failed: {report}"));
-    }
-    collected(&report).ok_or_else(|| format!("valgrind told no total: {report}"))
-}
-
-/// The number in callgrind's line `==PID== Collected : NUMBER`.
-fn collected(report: &str) -> Option<u64> {
-    let line = report.lines().find(|line| line.contains("Collected :"))?;
-    line.rsplit(' ').next()?.parse().ok()
+    let calls = calls.to_string();
+    let words = ["one", input.name, side.name, job.name(), &calls];
+    Ok(callgrind::count(&program, &words, Stdio::null())?.total)
 }

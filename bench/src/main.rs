@@ -1,10 +1,12 @@
-//! Speed of the proved control-message code beside the plain Rust of `second`:
-//! nanoseconds and instructions per call, on the same messages, in the same run.
+//! Speed of the proved code beside the plain Rust of `second`: nanoseconds and
+//! instructions per call, on the same messages and orders, in the same run.
 
 mod call;
+mod callgrind;
 mod check;
 mod inputs;
 mod instructions;
+mod orders;
 mod plain;
 mod table;
 mod time;
@@ -13,9 +15,9 @@ use std::env;
 use std::process::ExitCode;
 
 const HELP: &str = "\
-bench: the proved control-message code beside the plain Rust of `second`
+bench: the proved code beside the plain Rust of `second`
 
-  bench                check, time and instructions, in turn
+  bench                check, time, instructions and orders, in turn
   bench check          compare the two sides' answers, words and bytes on every
                        benchmark message and on generated ones
   bench time           print nanoseconds per call as a Markdown table
@@ -25,6 +27,10 @@ bench: the proved control-message code beside the plain Rust of `second`
                        make N calls and print nothing, for callgrind.
                        SIDE: proved, plain or empty; JOB: read or tidy
   bench messages       list the benchmark messages
+  bench orders [PROGRAM]
+                       print instructions and nanoseconds per delivery of an order
+                       as a Markdown table: PROGRAM, by default the repository's
+                       target/bin/rail_table, beside `second table`
 
 Jobs: `read` takes a message's bytes to a judged record and its fields to 12
 words; `tidy` takes a message's bytes to a record and the record to bytes in an
@@ -32,7 +38,8 @@ output buffer. Writing alone is not printed: the library has no entry point that
 only reads, so that there is nothing fair to take away from `tidy`.
 
 Times depend on the machine and its load: run it on an idle one. Instruction
-counts are the same in every run of the same two builds on the same machine.
+counts are the same in every run of the same two builds on the same machine and
+in the same environment.
 
 Exit status: 0 done, 1 a difference or a failure, 2 bad usage.
 ";
@@ -47,6 +54,8 @@ fn main() -> ExitCode {
         ["instructions"] => instructions::run(),
         ["one", message, side, job, calls] => instructions::one(message, side, job, calls),
         ["messages"] => list_messages(),
+        ["orders"] => orders::run(None),
+        ["orders", program] => orders::run(Some(program)),
         ["--help" | "-h" | "help"] => {
             print!("{HELP}");
             Ok(())
@@ -70,7 +79,9 @@ fn everything() -> Result<(), String> {
     println!();
     time::run()?;
     println!();
-    instructions::run()
+    instructions::run()?;
+    println!();
+    orders::run(None)
 }
 
 fn list_messages() -> Result<(), String> {

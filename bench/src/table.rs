@@ -1,4 +1,4 @@
-//! Markdown tables: both jobs, both sides and their ratio, a row per message.
+//! Markdown tables: both sides and their ratio, a row per message or order.
 
 use crate::call::Job;
 
@@ -9,24 +9,33 @@ pub struct Cost {
     pub plain: f64,
 }
 
-/// Prints the header of a table whose numbers have this unit.
+/// Prints the header of a table whose numbers have this unit, for both jobs.
 pub fn print_header(unit: &str) {
-    let columns = Job::ALL.map(|job| {
-        let title = match job {
+    let groups = Job::ALL.map(|job| {
+        let name = match job {
             Job::Read => "Read",
             Job::Tidy => "Read and write",
         };
-        format!("{title}: proved ({unit}) | plain ({unit}) | ratio")
+        titles(name, unit)
     });
-    println!("| Message | Bytes | {} |", columns.join(" | "));
-    println!("|---|{}", "---:|".repeat(1 + 3 * columns.len()));
+    println!("| Message | Bytes | {} |", groups.join(" | "));
+    println!("|---|{}", "---:|".repeat(1 + 3 * groups.len()));
 }
 
 /// Prints a message's row, with that many digits after the point.
 pub fn print_row(label: &str, bytes: usize, costs: [Cost; 2], digits: usize) {
-    let columns = costs.map(|Cost { proved, plain }| {
-        let ratio = proved / plain;
-        format!("{proved:.digits$} | {plain:.digits$} | {ratio:.2}")
-    });
-    println!("| {label} | {bytes} | {} |", columns.join(" | "));
+    let groups = costs.map(|cost| columns(cost, digits));
+    println!("| {label} | {bytes} | {} |", groups.join(" | "));
+}
+
+/// The titles of the three columns of a cost.
+pub fn titles(name: &str, unit: &str) -> String {
+    format!("{name}: proved ({unit}) | plain ({unit}) | ratio")
+}
+
+/// The three columns of a cost.
+pub fn columns(cost: Cost, digits: usize) -> String {
+    let Cost { proved, plain } = cost;
+    let ratio = proved / plain;
+    format!("{proved:.digits$} | {plain:.digits$} | {ratio:.2}")
 }

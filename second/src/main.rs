@@ -2,6 +2,7 @@
 
 use std::env;
 use std::io::{self, BufWriter, Read, Write};
+use std::mem;
 use std::path::Path;
 use std::process::ExitCode;
 
@@ -9,6 +10,7 @@ use second::compare::{compare, Scripts};
 use second::coverage::{self, Facts};
 use second::script::parts::Parts;
 use second::script::session::End;
+use second::table::Table;
 use second::{generate, hex, script};
 
 const HELP: &str = "\
@@ -28,6 +30,7 @@ usage:
       A seed that leaves 19 when divided by 20 gives a script whose last item is bad.
   second coverage-pdu FROM TO ITEMS
   second coverage-session FROM TO ITEMS
+  second coverage-table FROM TO ITEMS
       Runs the generated scripts of the seeds FROM to TO, prints how often each
       call, kind and number was met, also at each limit, and then what is missing.
       The status is 0 only if nothing is missing.
@@ -76,6 +79,11 @@ fn dispatch(arguments: &[&str]) -> Result<ExitCode, String> {
             count(items)?,
         )),
         ["coverage-session", from, to, items] => print_facts(&coverage::session::of_seeds(
+            number(from)?,
+            number(to)?,
+            count(items)?,
+        )),
+        ["coverage-table", from, to, items] => print_facts(&coverage::table::of_seeds(
             number(from)?,
             number(to)?,
             count(items)?,
@@ -132,7 +140,10 @@ fn run_session(parts: &Parts) -> Result<ExitCode, String> {
 
 fn run_table() -> Result<ExitCode, String> {
     let script = input()?;
-    to_output(|out| script::table::run(&script, out))?;
+    let mut table = Table::default();
+    to_output(|out| script::table::run(&script, &mut table, out))?;
+    // The program ends here: its memory goes at once, not record by record.
+    mem::forget(table);
     Ok(ExitCode::SUCCESS)
 }
 
@@ -183,12 +194,9 @@ fn compare_session(
 }
 
 fn compare_table(program: &str, from: u64, to: u64, items: usize) -> Result<ExitCode, String> {
-    let parts = Parts::default();
     let scripts = Scripts {
-        make: &|seed| {
-            script::table::without_history(&generate::session::script(seed, items, &parts))
-        },
-        expected: &|script| written(|out| script::table::run(script, out)),
+        make: &|seed| generate::table::script(seed, items),
+        expected: &|script| written(|out| script::table::run(script, &mut Table::default(), out)),
         silent: b"",
     };
     compare_scripts(program, from, to, &scripts)

@@ -1,7 +1,9 @@
 //! What generated scripts reach: facts met, and those that were expected.
 
+mod order;
 pub mod pdu;
 pub mod session;
+pub mod table;
 
 use std::collections::BTreeMap;
 

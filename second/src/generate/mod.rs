@@ -3,3 +3,4 @@
 pub mod pdu;
 pub mod random;
 pub mod session;
+pub mod table;

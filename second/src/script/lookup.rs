@@ -1,12 +1,36 @@
 //! How what a lookup hands out is printed.
 
 use super::print::Fields;
+use super::session::Call;
 use crate::ids::{NotifyIconId, WindowId};
 use crate::order::CellPlace;
-use crate::table::{Cell, Desktop, NotificationIcon, Rect, Window};
+use crate::table::{Cell, Desktop, NotificationIcon, Rect, Table, Window};
+
+/// Adds the fields of what a lookup finds in a table; of another call nothing.
+pub fn push_found(line: &mut Vec<u8>, table: &Table, call: &Call<'_>) {
+    match *call {
+        Call::Window(id) => {
+            if let Some(window) = table.window(id) {
+                push_window(line, id, window);
+            }
+        }
+        Call::Icon(window, icon) => {
+            if let Some(found) = table.icon(window, icon) {
+                push_icon(line, (window, icon), found);
+            }
+        }
+        Call::Cell(place) => {
+            if let Some(cell) = table.cell(place) {
+                push_cell(line, cell);
+            }
+        }
+        Call::Desktop => push_desktop(line, table.desktop()),
+        _ => {}
+    }
+}
 
 /// Adds the fields of a window.
-pub fn push_window(line: &mut Vec<u8>, id: WindowId, window: &Window) {
+fn push_window(line: &mut Vec<u8>, id: WindowId, window: &Window) {
     Fields { line }
         .number("id", id.0)
         .number("owner", window.owner.0)
@@ -29,7 +53,7 @@ pub fn push_window(line: &mut Vec<u8>, id: WindowId, window: &Window) {
 }
 
 /// Adds the fields of a notification icon.
-pub fn push_icon(line: &mut Vec<u8>, ids: (WindowId, NotifyIconId), icon: &NotificationIcon) {
+fn push_icon(line: &mut Vec<u8>, ids: (WindowId, NotifyIconId), icon: &NotificationIcon) {
     Fields { line }
         .number("window", ids.0 .0)
         .number("icon", ids.1 .0)
@@ -44,7 +68,7 @@ pub fn push_icon(line: &mut Vec<u8>, ids: (WindowId, NotifyIconId), icon: &Notif
 }
 
 /// Adds the fields of a cell.
-pub fn push_cell(line: &mut Vec<u8>, cell: &Cell) {
+fn push_cell(line: &mut Vec<u8>, cell: &Cell) {
     Fields { line }
         .number("bpp", cell.bits_per_pixel)
         .number("width", cell.width)
@@ -55,7 +79,7 @@ pub fn push_cell(line: &mut Vec<u8>, cell: &Cell) {
 }
 
 /// Adds the fields of the desktop state.
-pub fn push_desktop(line: &mut Vec<u8>, desktop: &Desktop) {
+fn push_desktop(line: &mut Vec<u8>, desktop: &Desktop) {
     let stack: Vec<String> = desktop.stack.iter().map(|id| id.0.to_string()).collect();
     Fields { line }
         .number("active", desktop.active.0)

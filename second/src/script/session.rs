@@ -2,7 +2,7 @@
 
 use std::io;
 
-use super::lookup::{push_cell, push_desktop, push_icon, push_window};
+use super::lookup::push_found;
 use super::parts::Parts;
 use super::{take_item, Item};
 use crate::book::Book;
@@ -129,31 +129,7 @@ impl Session {
         let standing = self.book.standing();
         let counts = format!(" {} {}", standing.orders, standing.bytes);
         line.extend_from_slice(counts.as_bytes());
-        self.push_found(line, call);
-    }
-
-    /// Adds the fields of what a granted lookup found.
-    fn push_found(&self, line: &mut Vec<u8>, call: &Call<'_>) {
-        let table = self.book.table();
-        match *call {
-            Call::Window(id) => {
-                if let Some(window) = table.window(id) {
-                    push_window(line, id, window);
-                }
-            }
-            Call::Icon(window, icon) => {
-                if let Some(found) = table.icon(window, icon) {
-                    push_icon(line, (window, icon), found);
-                }
-            }
-            Call::Cell(place) => {
-                if let Some(cell) = table.cell(place) {
-                    push_cell(line, cell);
-                }
-            }
-            Call::Desktop => push_desktop(line, table.desktop()),
-            _ => {}
-        }
+        push_found(line, self.book.table(), call);
     }
 }
 

@@ -2,7 +2,7 @@
 
 use std::io;
 
-use super::lookup::{push_cell, push_desktop, push_icon, push_window};
+use super::lookup::push_found;
 use super::parts::Parts;
 use super::session::{call, Call};
 use super::{push_item, take_item};
@@ -27,61 +27,58 @@ pub fn without_history(script: &[u8]) -> Vec<u8> {
     kept
 }
 
-/// Delivers an order. Its number.
-fn deliver(table: &mut Table, bytes: &[u8]) -> u8 {
-    match judge(bytes) {
-        Err(refused) => refused,
-        Ok(order) => {
-            let refused = number(table, &order);
-            if refused == 0 {
-                table.apply(&order);
-            }
-            refused
+/// Makes a call on a table. Its number, or none if the call needs a history.
+pub fn make(table: &mut Table, call: &Call<'_>) -> Option<u8> {
+    let found = match *call {
+        Call::Empty => {
+            *table = Table::default();
+            true
         }
-    }
-}
-
-/// Adds what a lookup found to a line. Its number.
-fn look_up(table: &Table, call: &Call<'_>, found: &mut Vec<u8>) -> u8 {
-    let there = match *call {
-        Call::Window(id) => table.window(id).map(|window| push_window(found, id, window)),
-        Call::Icon(window, icon) => table
-            .icon(window, icon)
-            .map(|record| push_icon(found, (window, icon), record)),
-        Call::Cell(place) => table.cell(place).map(|cell| push_cell(found, cell)),
-        _ => Some(push_desktop(found, table.desktop())),
+        Call::Deliver(order) => return Some(deliver(table, order).err().unwrap_or(0)),
+        Call::Window(id) => table.window(id).is_some(),
+        Call::Icon(window, icon) => table.icon(window, icon).is_some(),
+        Call::Cell(place) => table.cell(place).is_some(),
+        Call::Desktop => true,
+        Call::Mark | Call::StepBack(_) | Call::Shorten | Call::Fault => return None,
     };
-    if there.is_some() {
-        0
-    } else {
-        WRONG_ID
+    Some(if found { 0 } else { WRONG_ID })
+}
+
+fn deliver(table: &mut Table, bytes: &[u8]) -> Result<(), u8> {
+    let order = judge(bytes)?;
+    match number(table, &order) {
+        0 => {
+            table.apply(&order);
+            Ok(())
+        }
+        refused => Err(refused),
     }
 }
 
-/// Runs a script and prints one line for each call: its kind and number, and what a lookup found.
-pub fn run(script: &[u8], out: &mut (impl io::Write + ?Sized)) -> io::Result<()> {
+/// Runs a script on a table and prints one line for each call: its kind and
+/// number, and what a lookup found.
+pub fn run(
+    script: &[u8],
+    table: &mut Table,
+    out: &mut (impl io::Write + ?Sized),
+) -> io::Result<()> {
     let parts = Parts::default();
-    let mut table = Table::default();
+    let mut line = Vec::new();
     let mut rest = script;
     while !rest.is_empty() {
-        let taken = take_item(rest)
-            .filter(|(item, _)| !OTHERS.contains(&item.kind))
-            .and_then(|(item, tail)| Some((item.kind, call(item, &parts)?, tail)));
-        let Some((kind, call, tail)) = taken else {
+        let made = take_item(rest).and_then(|(item, tail)| {
+            let call = call(item, &parts)?;
+            Some((item.kind, call, make(table, &call)?, tail))
+        });
+        let Some((kind, call, number, tail)) = made else {
             return out.write_all(b"bad item\n");
         };
-        let mut found = Vec::new();
-        let answer = match call {
-            Call::Empty => {
-                table = Table::default();
-                0
-            }
-            Call::Deliver(order) => deliver(&mut table, order),
-            _ => look_up(&table, &call, &mut found),
-        };
-        write!(out, "{} {answer}", char::from(kind))?;
-        out.write_all(&found)?;
-        out.write_all(b"\n")?;
+        line.clear();
+        line.push(kind);
+        line.extend_from_slice(format!(" {number}").as_bytes());
+        push_found(&mut line, table, &call);
+        line.push(b'\n');
+        out.write_all(&line)?;
         rest = tail;
     }
     Ok(())

@@ -1,6 +1,6 @@
-//! The facts that generated scripts have to meet.
+//! The facts that generated scripts of state calls have to meet.
 
-use crate::order::flags::{self, closed_list};
+use crate::coverage::order::expected as order;
 
 /// The calls with the numbers that each can meet.
 const CALLS: [(char, &[u8]); 8] = [
@@ -14,66 +14,24 @@ const CALLS: [(char, &[u8]); 8] = [
     ('S', &[0, 1]),
 ];
 
-/// The sorts of orders with the numbers that each can meet on a table.
-const SORTS: [(&str, &[u8]); 16] = [
-    ("new window", &[0, 7, 8, 9, 10, 12]),
-    ("update window", &[0, 7, 8, 9, 12]),
-    ("delete window", &[0, 7, 9, 12]),
-    ("small icon", &[0, 7, 8, 9, 11, 12]),
-    ("big icon", &[0, 7, 8, 9, 11, 12]),
-    ("small cached icon", &[0, 7, 8, 9, 11, 12]),
-    ("big cached icon", &[0, 7, 8, 9, 11, 12]),
-    ("new notification", &[0, 7, 8, 9, 10, 12]),
-    ("new notification with icon", &[0, 8, 9, 10, 11]),
-    ("new notification with cached icon", &[0, 9, 10, 11]),
-    ("update notification", &[0, 7, 8, 9, 12]),
-    ("update notification with icon", &[0, 8, 9, 11, 12]),
-    ("update notification with cached icon", &[0, 8, 9, 11]),
-    ("delete notification", &[0, 7, 9, 12]),
-    ("desktop none", &[0, 7]),
-    ("desktop", &[0, 7, 8, 12]),
-];
-
-/// Numbers at limits: allowed ones, then those that are not.
-const LIMITS: [(&str, &[usize], &[usize]); 17] = [
-    ("show", &[0, 2, 3, 5], &[1, 4, 6, 255]),
-    ("rp", &[0, 1], &[2, 255]),
-    ("title", &[0, 2, 518, 520], &[1, 519, 521, 522]),
-    ("rects", &[0, 1, 15, 16], &[17, 18]),
-    ("vis_rects", &[0, 1, 15, 16], &[17, 18]),
-    ("tip", &[0, 2, 254, 256], &[1, 255, 257, 258]),
-    ("text", &[0, 2, 508, 510], &[1, 509, 511, 512]),
-    ("balloon_title", &[0, 2, 124, 126], &[1, 125, 127, 128]),
-    ("stack", &[0, 1, 63, 64], &[65, 66, 255]),
-    ("entry", &[0, 1, 2, 3, 4, 5], &[6, 255, 256, 65_535]),
-    ("cache", &[0, 1], &[2, 254]),
-    (
-        "bpp",
-        &[1, 4, 8, 16, 24, 32],
-        &[0, 2, 3, 5, 15, 17, 25, 31, 33, 255],
-    ),
-    ("width", &[1, 2, 31, 32], &[0, 33, 255, 256, 65_535]),
-    ("height", &[1, 2, 31, 32], &[0, 33, 255, 256, 65_535]),
-    ("picture", &[0, 1, 4_224], &[4_225]),
-    ("cached_entry", &[0, 1, 2, 3, 4, 5], &[6, 255, 256, 65_535]),
-    ("cached_cache", &[0, 1], &[2, 254, 255]),
+/// The sorts of orders that pass the room of the history.
+const PASSING: [&str; 12] = [
+    "new window",
+    "update window",
+    "delete window",
+    "small icon",
+    "big icon",
+    "small cached icon",
+    "big cached icon",
+    "new notification",
+    "update notification",
+    "update notification with icon",
+    "delete notification",
+    "desktop",
 ];
 
 /// Facts of their own.
-const SINGLE: [&str; 25] = [
-    "D first byte 4",
-    "D types=0 4",
-    "D types=3 4",
-    "D types=5 4",
-    "D types=6 4",
-    "D types=7 4",
-    "D declared+1 3",
-    "D declared-1 3",
-    "D cache=255 11",
-    "D clash window icon with cached icon",
-    "D clash notification icon with cached icon",
-    "D clash window big without an icon",
-    "D clash desktop start with end",
+const SINGLE: [&str; 12] = [
     "D orders=128 0",
     "D orders=129 12",
     "D bytes=32768 0",
@@ -90,60 +48,9 @@ const SINGLE: [&str; 25] = [
 
 /// All expected facts.
 pub fn facts() -> Vec<String> {
-    let mut facts: Vec<String> = SINGLE.map(String::from).to_vec();
-    for (call, numbers) in CALLS {
-        facts.extend(numbers.iter().map(|number| format!("{call} {number}")));
-    }
-    facts.extend((0..7).map(|size| format!("D size={size} 2")));
-    for (sort, numbers) in SORTS {
-        facts.extend(numbers.iter().map(|number| format!("D {sort} {number}")));
-    }
-    for (name, allowed, others) in LIMITS {
-        facts.extend(allowed.iter().map(|value| format!("D {name}={value} 0")));
-        facts.extend(others.iter().map(|value| format!("D {name}={value} 8")));
-    }
-    facts.extend(flag_facts());
-    for kind in ["window", "notification", "desktop"] {
-        facts.push(format!("D {kind} one byte short 7"));
-        facts.push(format!("D {kind} one byte over 7"));
-    }
+    let mut facts = order::calls(&CALLS);
+    facts.extend(order::facts());
+    facts.extend(PASSING.map(|sort| format!("D {sort} 12")));
+    facts.extend(SINGLE.map(String::from));
     facts
-}
-
-/// Each flag granted, outside the closed list, and in each clash.
-fn flag_facts() -> Vec<String> {
-    let mut facts = Vec::new();
-    let kinds = [
-        ("window", flags::WINDOW),
-        ("notification", flags::NOTIFICATION),
-        ("desktop", flags::DESKTOP),
-    ];
-    for (name, kind) in kinds {
-        for bit in bits(!flags::TYPES) {
-            if closed_list(kind) & bit == 0 {
-                facts.push(format!("D {name} outside={bit:08X} 5"));
-                continue;
-            }
-            facts.push(format!("D {name} flag={bit:08X} 0"));
-            if kind != flags::DESKTOP && bit != flags::DELETED {
-                facts.push(format!("D clash {name} deleted with {bit:08X}"));
-            }
-        }
-    }
-    for bit in bits(0x0007_DF1E) {
-        facts.push(format!("D new window flag={bit:08X} 0"));
-        facts.push(format!("D clash window icon with {bit:08X}"));
-        facts.push(format!("D clash window cached icon with {bit:08X}"));
-    }
-    for bit in bits(0x3E) {
-        facts.push(format!("D clash desktop none with {bit:08X}"));
-    }
-    facts
-}
-
-/// The bits of a mask, one by one.
-pub fn bits(mask: u32) -> impl Iterator<Item = u32> {
-    (0..32)
-        .map(|shift| 1 << shift)
-        .filter(move |bit| mask & bit != 0)
 }
