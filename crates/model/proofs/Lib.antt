@@ -1,0 +1,3 @@
+pub mod Amounts
+pub mod Demand3
+pub mod Wellformed

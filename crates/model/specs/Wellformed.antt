@@ -1,0 +1,47 @@
+-- Document 01 on "well formed": an emptied state meets the rule, every call keeps it, and memory that meets it describes one
+-- state. Assumes nothing.
+use mathlib.Core.Path.{_≡_}
+use mathlib.Core.Bool.{true, false}
+use mathlib.Core.List.{[]}
+use Rattle.table.specs.Table.{emptied}
+use Rattle.journal.specs.State.{State, allAccepted}
+use Rattle.journal.specs.View.{Memory, tooShort, wellFormed, formed, viewOf}
+use Rattle.session.specs.declared.Reply.{Reply}
+use Rattle.session.specs.Calls.{Call, reset, next}
+use Rattle.session.specs.Replies.{Shown, plain, Stepped}
+
+pub record Meets (m : Memory) : Type 0 where
+  pub long : tooShort m ≡ false
+  pub rule : wellFormed m ≡ true
+
+-- an emptied state counts as marked
+abbrev pub emptiedState : State
+emptiedState = record { marked = emptied; log = [] }
+
+-- emptying is granted where no part is too short
+unfoldable pub EmptyingGranted : Type 0
+EmptyingGranted =
+    (m n : Memory) (r : Shown) → tooShort m ≡ false → Stepped reset m r n → r ≡ plain (record { number = 0; count = 0; bytes = 0 })
+
+-- and where it is granted, what it leaves meets the rule
+unfoldable pub EmptiedMeets : Type 0
+EmptiedMeets = (m n : Memory) (r : Reply) → Stepped reset m (plain r) n → r .number ≡ 0 → Meets n × (viewOf n ≡ formed emptiedState)
+
+-- each call, refused or not
+unfoldable pub CallsKeep : Type 0
+CallsKeep =
+    (c : Call) (m n : Memory) (r : Shown) (s : State) → Stepped c m r n → viewOf m ≡ formed s → Meets n × (viewOf n ≡ formed (next c s))
+
+-- some state, no other, and its orders are accepted in turn from its table at the mark on
+pub record Describes (m : Memory) : Type 0 where
+  pub state : State
+  pub described : viewOf m ≡ formed state
+  pub only : (s : State) → viewOf m ≡ formed s → s ≡ state
+  pub accepted : allAccepted (state .marked) (state .log) ≡ true
+
+unfoldable pub OneState : Type 0
+OneState = (m : Memory) → Meets m → Describes m
+
+-- memory that describes a state meets the rule
+unfoldable pub OnlyMeets : Type 0
+OnlyMeets = (m : Memory) (s : State) → viewOf m ≡ formed s → Meets m

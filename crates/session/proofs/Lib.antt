@@ -1,0 +1,6 @@
+pub mod Refusals
+pub mod Granted
+pub mod Moved
+pub mod CallWays
+pub mod Looked
+pub mod LookWays

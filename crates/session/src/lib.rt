@@ -1,0 +1,47 @@
+// The state calls: a table at the last checkpoint and a journal of the orders since, in four lent memories. A call that
+// cannot change a memory takes it shared; bytes past the needed lengths are never touched.
+use view::DesktopRecord;
+use view::NotificationRecord;
+use view::Picture;
+use view::WindowRecord;
+
+pub mod calls;
+pub mod lookups;
+mod replies;
+
+// The needed bytes of the four parts.
+pub const DIRECTORY: usize = 444;
+
+pub const BODIES: usize = 44884;
+
+pub const CELLS: usize = 50880;
+
+pub const JOURNAL: usize = 32770;
+
+// The number of an answer and, where it is 0, how many orders stand after the mark and their bytes in all.
+pub struct Reply {
+    pub number: u8,
+    pub count: u32,
+    pub bytes: u32,
+}
+
+// What a lookup hands out; an empty record where it is refused.
+pub struct WindowReply {
+    pub reply: Reply,
+    pub found: WindowRecord,
+}
+
+pub struct NotificationReply {
+    pub reply: Reply,
+    pub found: NotificationRecord,
+}
+
+pub struct CellReply {
+    pub reply: Reply,
+    pub found: Picture,
+}
+
+pub struct DesktopReply {
+    pub reply: Reply,
+    pub found: DesktopRecord,
+}
