@@ -8,8 +8,14 @@ use Rattle.pdu.specs.Reading.{recordAs, readOf}
 use Rattle.order.specs.Rows.{firstOf, lenOf, okOf, cutOf, fieldOf, stepOf, walkOf}
 use Rattle.order.specs.Icons.{pictureFit}
 use Rattle.order.specs.Judge.{flagsOf, orderOf, fieldsFit, judgeOf}
+use Rattle.wire.specs.Parts.{slice}
+use Rattle.directory.specs.Plans.{cellAt, iconNumber}
+use Rattle.directory.specs.Directory.{recordNumber, numberIn}
+use Rattle.body.specs.Bodies.{setFlagged, emptyFields, emptyBody}
+use Rattle.table.specs.Table.{emptied, directory, number, bodyAfter, changeRecord, desktopAfter, changeDesktop, after}
+use Rattle.model.specs.Book.{makes, tableOf, bytesOf, bookNext, bookAnswer, bookAnswers}
 use Rattle.cases.specs.Cases.{CasesHold}
 
 pub cases-hold : CasesHold
-unfolding CasesHold readOf recordAs recordOf known widths numsAt numAt sizeOf allowed firstOf lenOf okOf cutOf fieldOf stepOf walkOf pictureFit flagsOf orderOf fieldsFit judgeOf
+unfolding CasesHold readOf recordAs recordOf known widths numsAt numAt sizeOf allowed firstOf lenOf okOf cutOf fieldOf stepOf walkOf pictureFit flagsOf orderOf fieldsFit judgeOf slice cellAt iconNumber recordNumber numberIn setFlagged emptyFields emptyBody emptied directory number bodyAfter changeRecord desktopAfter changeDesktop after makes tableOf bytesOf bookNext bookAnswer bookAnswers
 cases-hold = refl

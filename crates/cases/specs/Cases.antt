@@ -9,19 +9,74 @@ use Rattle.pdu.specs.Reading.{readOf}
 use Rattle.order.specs.declared.Judged.{Judged}
 use Rattle.order.specs.declared.Judged.the-variants.{Window, Desktop}
 use Rattle.order.specs.Judge.{refuse, judgeOf}
+use Rattle.body.specs.Bodies.{Body}
+use Rattle.session.specs.Calls.{Call, deliver, window, desktop, Given, nothing, body}
+use Rattle.session.specs.Calls as S
+use Rattle.model.specs.Book.{newBook, bookAnswers}
 
--- what is asked, and what the rules answer; of an order, what its bytes alone say
+-- what is asked, and what the rules answer: of a message; of an order, what its bytes alone say; of calls on an emptied state, what
+-- the plain book says
 pub data Question : Type 0 where
   readPdu : List ℕ → Question
   judgeOrder : List ℕ → Question
+  askBook : List Call → Question
 
 pub data Answer : Type 0 where
   readAs : Read → Answer
   judgedAs : Judged → Answer
+  bookSays : List S.Answer → Answer
 
 abbrev pub ask : Question → Answer
 ask (readPdu bytes) = readAs (readOf bytes)
 ask (judgeOrder bytes) = judgedAs (judgeOf bytes)
+ask (askBook calls) = bookSays (bookAnswers calls newBook)
+
+-- an answer of a state call
+abbrev pub granted : ℕ → ℕ → Given → S.Answer
+granted count bytes given = record { number = 0; count = count; bytes = bytes; given = given }
+
+abbrev pub refused : ℕ → S.Answer
+refused number = record { number = number; count = 0; bytes = 0; given = nothing }
+
+-- the orders of cases 4 and 5, and the window that case 4 makes: title "A", all else zero or empty
+abbrev pub newA : List ℕ
+newA = 0x2E ∷ 0x0F ∷ 0x00 ∷ 0x04 ∷ 0x00 ∷ 0x00 ∷ 0x11 ∷ 0x58 ∷ 0x00 ∷ 0x01 ∷ 0x00 ∷ 0x02 ∷ 0x00 ∷ 0x41 ∷ 0x00 ∷ []
+
+abbrev pub deleteA : List ℕ
+deleteA = 0x2E ∷ 0x0B ∷ 0x00 ∷ 0x00 ∷ 0x00 ∷ 0x00 ∷ 0x21 ∷ 0x58 ∷ 0x00 ∷ 0x01 ∷ 0x00 ∷ []
+
+abbrev pub four : List ℕ
+four = 0 ∷ 0 ∷ 0 ∷ 0 ∷ []
+
+abbrev pub eight : List ℕ
+eight = 0 ∷ 0 ∷ 0 ∷ 0 ∷ 0 ∷ 0 ∷ 0 ∷ 0 ∷ []
+
+abbrev pub windowA : Body
+windowA =
+    record {
+      first = 0;
+      second = 0;
+      fields =
+          four
+          ∷ eight
+          ∷ (0 ∷ [])
+          ∷ (0x02 ∷ 0x00 ∷ 0x41 ∷ 0x00 ∷ [])
+          ∷ eight
+          ∷ eight
+          ∷ (0 ∷ [])
+          ∷ four
+          ∷ eight
+          ∷ eight
+          ∷ eight
+          ∷ (0 ∷ 0 ∷ [])
+          ∷ eight
+          ∷ (0 ∷ 0 ∷ [])
+          ∷ [];
+    }
+
+-- a desktop state with no active window and no stacking list, neither hooked nor syncing
+abbrev pub desktopNone : Body
+desktopNone = record { first = 0; second = 0; fields = four ∷ (0 ∷ []) ∷ [] }
 
 pub record Case : Type 0 where
   pub question : Question
@@ -59,6 +114,29 @@ cases =
     ∷ record {
       question = judgeOrder (0x2E ∷ 0x0F ∷ 0x00 ∷ 0x84 ∷ 0x00 ∷ 0x00 ∷ 0x11 ∷ 0x58 ∷ 0x00 ∷ 0x01 ∷ 0x00 ∷ 0x02 ∷ 0x00 ∷ 0x41 ∷ 0x00 ∷ []);
       answer = judgedAs (refuse 5 3);
+    }
+    -- 4 on an emptied state: one window, title "A"; delivered again: 9, nothing changed
+    ∷ record {
+      question = askBook (deliver newA ∷ window 65624 ∷ deliver newA ∷ window 65624 ∷ []);
+      answer = bookSays (granted 1 15 nothing ∷ granted 1 15 (body windowA) ∷ refused 9 ∷ granted 1 15 (body windowA) ∷ []);
+    }
+    -- 5: then the window gone; on an empty table 9
+    ∷ record {
+      question = askBook (deliver newA ∷ deliver deleteA ∷ window 65624 ∷ []);
+      answer = bookSays (granted 1 15 nothing ∷ granted 2 26 nothing ∷ refused 9 ∷ []);
+    }
+    ∷ record { question = askBook (deliver deleteA ∷ []); answer = bookSays (refused 9 ∷ []) }
+    -- 6: desktop none, granted on an empty table; with type byte 05: 4
+    ∷ record {
+      question = askBook (deliver (0x2E ∷ 0x07 ∷ 0x00 ∷ 0x01 ∷ 0x00 ∷ 0x00 ∷ 0x04 ∷ []) ∷ desktop ∷ []);
+      answer = bookSays (granted 1 7 nothing ∷ granted 1 7 (body desktopNone) ∷ []);
+    }
+    ∷ record { question = askBook (deliver (0x2E ∷ 0x07 ∷ 0x00 ∷ 0x01 ∷ 0x00 ∷ 0x00 ∷ 0x05 ∷ []) ∷ []); answer = bookSays (refused 4 ∷ []) }
+    -- 7
+    ∷ record {
+      question =
+          askBook (deliver (0x2E ∷ 0x0F ∷ 0x00 ∷ 0x84 ∷ 0x00 ∷ 0x00 ∷ 0x11 ∷ 0x58 ∷ 0x00 ∷ 0x01 ∷ 0x00 ∷ 0x02 ∷ 0x00 ∷ 0x41 ∷ 0x00 ∷ []) ∷ []);
+      answer = bookSays (refused 5 ∷ []);
     }
     ∷ []
 
