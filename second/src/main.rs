@@ -47,7 +47,7 @@ usage:
   second --help
 
 --parts gives the lengths of the parts of state memory that PROGRAM lends, by
-default 45056,53248,33792. It only tells which items T and X name a part.
+default 444,44884,50880,32770. It only tells which items T and X name a part.
 ";
 
 fn main() -> ExitCode {

@@ -1,5 +1,5 @@
 -- What each function of the judgement answers, by its tests: one law for each way out. Assumes nothing.
-use mathlib.Core.Path.{_≡_, sym, _∙_}
+use mathlib.Core.Path.{_≡_, sym, ap, _∙_}
 use mathlib.Core.Bool.{Bool, true, false}
 use mathlib.Core.List.{List}
 use Prim.Native.Nat.{ℕ, _≤_, _<_}
@@ -15,7 +15,7 @@ use Rattle.order.specs.declared.Judged.the-variants.{Window, Notificatio
 use Rattle.order.specs.Flags.{oneType, closed, clash}
 use Rattle.order.specs.Rows.{windowRows, notificationRows, desktopRows, rowsFrom, kindRows, walkOf}
 use Rattle.order.specs.Icons.{pictureFit}
-use Rattle.order.specs.Judge.{refuse, flagsOf, orderOf, fieldsFit, judgeEnd, judgeRows, judgeFlags, judgeOf}
+use Rattle.order.specs.Judge.{refuse, numberOf, flagsOf, orderOf, fieldsFit, judgeEnd, judgeRows, judgeFlags, judgeOf}
 use Rattle.order.proofs.Absent.{bare-fields}
 
 -- ---- the order
@@ -120,3 +120,8 @@ module _ (s : List ℕ) {r : Judged} where
   pub framed : {n flags : ℕ} → 7 ≤ length s → n ≡ numAt 2 s 1 → n ≡ length s → flags ≡ numAt 4 s 3 → r ≡ judgeFlags flags s → r ≡ judgeOf s
   unfolding judgeOf judgeFlags judgeRows judgeEnd fieldsFit flagsOf
   framed {n} h e g f x = rw (le-ltb (length s) 7 h, ← e, eq-eqb n (length s) g, ← f) x
+
+-- ---- the answer with its number
+
+pub numbered : (s : List ℕ) {r : Judged} → r ≡ judgeOf s → (r ≡ judgeOf s) × (numberOf r ≡ numberOf (judgeOf s))
+numbered s e = (e, ap numberOf e)

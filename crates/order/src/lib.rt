@@ -6,7 +6,7 @@ ghost use mathlib.Core.Path.{_≡_};
 ghost use Prim.Native.Nat.{_≤_};
 ghost use lib.ListN.{length};
 ghost use Rattle.order.specs.Rows.{kindRows, rowsFrom};
-ghost use Rattle.order.specs.Judge.{refuse, orderOf, judgeEnd, judgeRows, judgeFlags, judgeOf};
+ghost use Rattle.order.specs.Judge.{refuse, numberOf, orderOf, judgeEnd, judgeRows, judgeFlags, judgeOf};
 
 mod flags;
 pub mod icon;
@@ -180,6 +180,7 @@ fn judge_flags(s: &[u8], flags: u32) -> Judged
 // The first of the numbers 2 to 8 that applies to an order, or the order.
 pub fn judge(s: &[u8]) -> Judged
     ensures { λ r. ⌜ r ≡ judgeOf (now (s .entry)) ⌝ }
+    ensures { λ r. ⌜ numberOf r ≡ numberOf (judgeOf (now (s .entry))) ⌝ }
 {
     if s.len() < 7 {
         return refused(2, 0);

@@ -1,3 +1,4 @@
+pub mod Numbers
 pub mod Strings
 pub mod Writing
 pub mod ReadBack

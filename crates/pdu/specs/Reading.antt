@@ -38,6 +38,15 @@ unfoldable pub numberOf : Read → ℕ
 numberOf (Message p) = 0
 numberOf (Refused n) = n
 
+-- the first number that applies to a message, 0 for none
+unfoldable pub readNumber : List ℕ → ℕ
+readNumber s =
+    pick (ltb (length s) 4) 2
+    (pick (not (eqb (lengthAt s) (length s))) 3
+    (pick (not (known (typeAt s))) 4
+    (pick (not (eqb (sizeOf (recordAs (typeAt s) s)) (length s))) 7
+    (pick (not (allowed (recordAs (typeAt s) s))) 8 0))))
+
 -- ---- the last three lines of the ladder for type k, which the code has in a function for each type
 
 unfoldable pub bodyOf : ℕ → List ℕ → Read

@@ -17,8 +17,10 @@ use Rattle.pdu.specs.declared.Written.{Written}
 use Rattle.pdu.specs.declared.Written.the-variants as W
 use Rattle.pdu.specs.Layout.{widths}
 use Rattle.pdu.specs.Records.{span, isYes, yesNumber, kindOf, numsOf}
-use Rattle.pdu.specs.Reading.{readOf}
-use Rattle.pdu.specs.Writing.{stringsOf, encode, grants, writtenOf, outAfter}
+use Rattle.pdu.specs.Reading as Reading
+use Rattle.pdu.specs.Reading.{readOf, readNumber}
+use Rattle.pdu.specs.Writing as Writing
+use Rattle.pdu.specs.Writing.{stringsOf, encode, grants, writtenOf, writtenNumber, outAfter}
 
 -- the same record with its strings where writing puts them; an application id has all 520 bytes there
 unfoldable pub rebased : Pdu → Pdu
@@ -83,10 +85,12 @@ ReadAgain (R.Refused n) b = Unit {0}
 
 -- the whole outcome of reading s, and of writing p from src to out, which is then out'
 pub record ReadOutcome (s : List ℕ) (r : Read) : Type 0 where
+  pub number : Reading.numberOf r ≡ readNumber s
   pub answer : r ≡ readOf s
   pub again : ReadAgain r s
 
 pub record WriteOutcome (p : Pdu) (src out : List ℕ) (r : Written) (out' : List ℕ) : Type 0 where
+  pub number : Writing.numberOf r ≡ writtenNumber p src (length out)
   pub answer : r ≡ writtenOf p src (length out)
   pub memory : out' ≡ outAfter p src out
   pub back : WrittenBack r p src out'

@@ -69,3 +69,7 @@ outAfter p src out = pick (grants p src) (pick (leb (sizeOf p) (length out)) (en
 unfoldable pub numberOf : Written → ℕ
 numberOf (Bytes n) = 0
 numberOf (Refused n) = n
+
+-- the first number that applies to a record, 0 for none, where the output memory lent has n bytes
+unfoldable pub writtenNumber : Pdu → List ℕ → ℕ → ℕ
+writtenNumber p src n = pick (grants p src) (pick (leb (sizeOf p) n) 0 14) 8

@@ -15,8 +15,9 @@ use Rattle.pdu.specs.declared.Read.the-variants.{Message, Refused}
 use Rattle.pdu.specs.Layout.{known, widths}
 use Rattle.pdu.specs.Records.{span, isYes, recordOf, sizeOf}
 use Rattle.pdu.specs.Rules.{allowed}
-use Rattle.pdu.specs.Reading.{recordAs, readOf, bodyOf}
+use Rattle.pdu.specs.Reading.{recordAs, readOf, numberOf, bodyOf}
 use Rattle.pdu.specs.RoundTrip.{ReadAgain, ReadOutcome}
+use Rattle.pdu.proofs.Numbers.{number-read}
 use Rattle.pdu.proofs.WriteBack.{writes-back}
 
 -- ---- the record of each type
@@ -110,7 +111,7 @@ again s (Message p) ok e = writes-back s p ok (sym e)
 again s (Refused n) ok e = tt
 
 pub outcome : (s : List ℕ) (r : Read) → Bytes s → r ≡ readOf s → ReadOutcome s r
-outcome s r ok e = record { answer = e; again = again s r ok e }
+outcome s r ok e = record { number = ap numberOf e ∙ number-read s; answer = e; again = again s r ok e }
 
 module _ (s : List ℕ) where
   pub short : length s < 4 → Refused 2 ≡ readOf s

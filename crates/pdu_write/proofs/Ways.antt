@@ -19,8 +19,9 @@ use Rattle.pdu.specs.declared.Written.the-variants.{Bytes, Refused}
 use Rattle.pdu.specs.Layout.{widths}
 use Rattle.pdu.specs.Records.{yesNumber, kindOf, numsOf, sizeOf, spansOf}
 use Rattle.pdu.specs.Rules.{allowed}
-use Rattle.pdu.specs.Writing.{partOf, lies, allLie, joined, encode, grants}
+use Rattle.pdu.specs.Writing.{partOf, lies, allLie, joined, encode, grants, writtenOf, numberOf, writtenNumber}
 use Rattle.pdu.specs.RoundTrip.{typed, WriteOutcome}
+use Rattle.pdu.proofs.Numbers.{number-written}
 use Rattle.pdu.proofs.Writing.{length-encode, denied, no-room, done}
 use Rattle.pdu.proofs.RoundTrip.{after-reads}
 
@@ -52,13 +53,18 @@ unfolding grants
 not-within p src a w = rw (a, w)
 
 module _ (p : Pdu) (src out : List ℕ) where
+  numbered : {r : Written} → r ≡ writtenOf p src (length out) → numberOf r ≡ writtenNumber p src (length out)
+  numbered e = ap numberOf e ∙ number-written p src (length out)
+
   pub refused-8 : grants p src ≡ false → WriteOutcome p src out (Refused 8) out
-  refused-8 g = record { answer = denied p src out g .0; memory = denied p src out g .1; back = tt }
+  refused-8 g =
+      let w = denied p src out g in
+      record { number = numbered (w .0); answer = w .0; memory = w .1; back = tt }
 
   pub refused-14 : grants p src ≡ true → length out < sizeOf p → WriteOutcome p src out (Refused 14) out
   refused-14 g h =
       let w = no-room p src out g (lt-leb (sizeOf p) (length out) h) in
-      record { answer = w .0; memory = w .1; back = tt }
+      record { number = numbered (w .0); answer = w .0; memory = w .1; back = tt }
 
   -- the parts that were put are the message
   pub wrote : (n : ℕ) (xs : List (List ℕ)) (y : List ℕ) → grants p src ≡ true → sizeOf p ≤ length out → Fit (widths (kindOf p)) (numsOf p) → n ≡ sizeOf p
@@ -67,7 +73,12 @@ module _ (p : Pdu) (src out : List ℕ) where
   wrote n xs y g fits t en ex r =
       let l : length (joined xs) ≡ sizeOf p = ap length ex ∙ length-encode p src g in
       let w = done p src out n y g fits en (puts out 0 xs y r (omega arith) ∙ ap (splice out 0) ex) in
-      record { answer = w .0; memory = w .1; back = after-reads p src out g fits n y en (all-fit (widths (kindOf p)) (numsOf p) t) (w .1) }
+      record {
+        number = numbered (w .0);
+        answer = w .0;
+        memory = w .1;
+        back = after-reads p src out g fits n y en (all-fit (widths (kindOf p)) (numsOf p) t) (w .1);
+      }
 
 pub of-record : {p q : Pdu} {src out y : List ℕ} {r : Written} → p ≡ q → WriteOutcome q src out r y → WriteOutcome p src out r y
 of-record {src = src} {out = out} {y = y} {r = r} e w = subst (λ (t : Pdu). WriteOutcome t src out r y) (sym e) w

@@ -12,7 +12,7 @@ pub struct Parts(Vec<u32>);
 
 impl Default for Parts {
     fn default() -> Self {
-        Self(vec![45_056, 53_248, 33_792])
+        Self(vec![444, 44_884, 50_880, 32_770])
     }
 }
 

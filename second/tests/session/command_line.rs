@@ -25,11 +25,11 @@ fn a_fault_in_memory() {
 
 #[test]
 fn parts_are_an_option() {
-    let script = second(&["hex-session"], b"T 03 0500\nM\n").stdout;
+    let script = second(&["hex-session"], b"T 04 0500\nM\n").stdout;
     let run = |arguments: &[&str]| second(arguments, &script).stdout;
     assert_eq!(run(&["session"]), b"bad item\n");
-    assert_eq!(run(&["session", "--parts", "1,1,1,5"]), b"M 1\n");
-    assert_eq!(run(&["session", "--parts", "1,1,1,4"]), b"bad item\n");
+    assert_eq!(run(&["session", "--parts", "1,1,1,1,5"]), b"M 1\n");
+    assert_eq!(run(&["session", "--parts", "1,1,1,1,4"]), b"bad item\n");
 }
 
 #[test]

@@ -91,8 +91,8 @@ fn bad_ends_differ() {
             Some((item, _)) if !b"EDMBWNCSTX".contains(&item.kind) => "unknown kind",
             Some((item, _)) => match (item.kind, item.payload) {
                 (b'T', [0, 0, 0]) => "nothing missing",
-                (b'T', [3, 1, 0]) => "part of T",
-                (b'X', [3, 0, 0, 0, 0, 1]) => "part of X",
+                (b'T', [4, 1, 0]) => "part of T",
+                (b'X', [4, 0, 0, 0, 0, 1]) => "part of X",
                 _ => "length",
             },
         });

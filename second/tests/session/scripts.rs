@@ -97,19 +97,22 @@ fn memory_too_short() {
 fn parts_and_missing_bytes() {
     for (item, good) in [
         ("T 00 0100", true),
-        ("T 00 00B0", true),
-        ("T 00 01B0", false),
-        ("T 01 00D0", true),
-        ("T 01 01D0", false),
-        ("T 02 0084", true),
-        ("T 02 0184", false),
+        ("T 00 BC01", true),
+        ("T 00 BD01", false),
+        ("T 01 54AF", true),
+        ("T 01 55AF", false),
+        ("T 02 C0C6", true),
+        ("T 02 C1C6", false),
+        ("T 03 0280", true),
+        ("T 03 0380", false),
         ("T 00 0000", false),
-        ("T 03 0100", false),
+        ("T 04 0100", false),
         ("T FF 0100", false),
-        ("X 03 00000000 01", false),
-        ("X 00 00B00000 01", false),
-        ("X 01 00D00000 01", false),
-        ("X 02 00840000 01", false),
+        ("X 04 00000000 01", false),
+        ("X 00 BC010000 01", false),
+        ("X 01 54AF0000 01", false),
+        ("X 02 C0C60000 01", false),
+        ("X 03 02800000 01", false),
         ("X 00 00000100 01", false),
         ("X 00 FFFFFFFF 01", false),
     ] {
@@ -122,9 +125,10 @@ fn parts_and_missing_bytes() {
 fn a_fault_ends_the_run() {
     for item in [
         "X 00 00000000 00",
-        "X 00 FFAF0000 01",
-        "X 01 FFCF0000 FF",
-        "X 02 FF830000 80",
+        "X 00 BB010000 01",
+        "X 01 53AF0000 FF",
+        "X 02 BFC60000 80",
+        "X 03 01800000 01",
     ] {
         let script = script_of(&format!("M\n{item}\nE"));
         let mut output = Vec::new();

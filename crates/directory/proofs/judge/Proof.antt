@@ -28,22 +28,22 @@ enum-known-j-4 c = search needs
 returns : tie.Need-returns
 returns c =
     let a = c .before .before .before .before .before .before .before .args in
-    judged-window (now (a .dir)) (now (a .s)) (c .before .before .before .before .judge .ensures) (c .before .before .j .given .1) (c .plan-window .ensures)
+    judged-window (now (a .dir)) (now (a .s)) (c .before .before .before .before .judge .ensures .0) (c .before .before .j .given .1) (c .plan-window .ensures)
 
 returns-2 : tie.Need-returns-2
 returns-2 c =
     let a = c .before .before .before .before .before .before .before .args in
-    judged-notification (now (a .dir)) (now (a .s)) (c .before .before .before .before .judge .ensures) (c .before .before .j2 .given .1) (c .plan-notification .ensures)
+    judged-notification (now (a .dir)) (now (a .s)) (c .before .before .before .before .judge .ensures .0) (c .before .before .j2 .given .1) (c .plan-notification .ensures)
 
 returns-3 : tie.Need-returns-3
 returns-3 c =
     let a = c .before .before .before .before .before .before .args in
-    judged-desktop (now (a .dir)) (now (a .s)) (c .before .before .before .judge .ensures) (c .before .j3 .given .1)
+    judged-desktop (now (a .dir)) (now (a .s)) (c .before .before .before .judge .ensures .0) (c .before .j3 .given .1)
 
 returns-4 : tie.Need-returns-4
 returns-4 c =
     let a = c .before .before .before .before .before .before .args in
-    judged-refused (now (a .dir)) (now (a .s)) (c .before .before .before .judge .ensures) (c .before .j4 .given .1)
+    judged-refused (now (a .dir)) (now (a .s)) (c .before .before .before .judge .ensures .0) (c .before .j4 .given .1)
 
 pub judge-spec : {M : Type 1} → statement M
 judge-spec =

@@ -17,7 +17,7 @@ cached-numbers-bad-requires : tie.Need-cached-numbers-bad-requires
 cached-numbers-bad-requires c κs = search needs
 
 returns : tie.Need-returns
-returns c = let a = c .before .before .before .before .args in cached-join (now (a .s)) (a .at) (c .cached-numbers-bad .ensures) (c .before .before .read-u16 .ensures) (c .before .read-u8 .ensures)
+returns c = let a = c .before .before .before .before .args in cached-join (now (a .s)) (a .at) {entry = c .before .before .read-u16 .result} {cache = c .before .read-u8 .result} (c .cached-numbers-bad .ensures) (c .before .before .read-u16 .ensures) (c .before .read-u8 .ensures)
 
 pub cached-bad-spec : {M : Type 1} → statement M
 cached-bad-spec =

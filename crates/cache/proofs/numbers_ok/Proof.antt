@@ -1,0 +1,9 @@
+use mathlib.Core.Path.{refl}
+use Rattle.cache.proofs.numbers_ok.Statement.{statement}
+use Rattle.cache.proofs.numbers_ok.Tie as tie
+
+returns : tie.Need-returns
+returns c = refl
+
+pub numbers-ok-spec : {M : Type 1} → statement M
+numbers-ok-spec = tie.close (tie.spec returns)
