@@ -1,16 +1,11 @@
 //! Runs another program on generated scripts and compares what it prints.
 
-use std::io::{self, Read, Write};
+use std::io;
 use std::path::Path;
-use std::process::{Command, Stdio};
-use std::sync::atomic::{AtomicU64, Ordering};
 use std::sync::Mutex;
-use std::thread;
 
+use crate::program::{each_seed, run_program};
 use crate::script::take_item;
-
-/// Programs that run at the same time.
-const AT_ONCE: usize = 2;
 
 /// The scripts to compare on.
 pub struct Scripts<'a> {
@@ -49,32 +44,20 @@ pub fn compare(
     scripts: &Scripts<'_>,
     report: impl Fn(&str) + Sync,
 ) -> io::Result<Tally> {
-    let next = AtomicU64::new(from);
     let tally = Mutex::new(Tally::default());
-    let work = || -> io::Result<()> {
-        loop {
-            let seed = next.fetch_add(1, Ordering::Relaxed);
-            if !(from..=to).contains(&seed) {
-                return Ok(());
-            }
-            let script = (scripts.make)(seed);
-            let ours = (scripts.expected)(&script);
-            let theirs = run_program(program, &script)?;
-            let difference = difference(&script, scripts.silent, &ours, &theirs);
-            let mut tally = tally.lock().expect("no worker panics");
-            tally.scripts += 1;
-            tally.items += item_count(&script);
-            if let Some(text) = difference {
-                tally.differences += 1;
-                report(&format!("seed {seed}: {text}"));
-            }
+    each_seed(from, to, |seed| {
+        let script = (scripts.make)(seed);
+        let ours = (scripts.expected)(&script);
+        let theirs = run_program(program, &script)?;
+        let difference = difference(&script, scripts.silent, &ours, &theirs);
+        let mut tally = tally.lock().expect("no worker panics");
+        tally.scripts += 1;
+        tally.items += item_count(&script);
+        if let Some(text) = difference {
+            tally.differences += 1;
+            report(&format!("seed {seed}: {text}"));
         }
-    };
-    thread::scope(|scope| {
-        let workers: Vec<_> = (0..AT_ONCE).map(|_| scope.spawn(work)).collect();
-        workers
-            .into_iter()
-            .try_for_each(|worker| worker.join().expect("no worker panics"))
+        Ok(())
     })?;
     Ok(tally.into_inner().expect("no worker panics"))
 }
@@ -88,30 +71,6 @@ fn item_count(script: &[u8]) -> u64 {
         rest = take_item(rest).map_or(&[], |(_, tail)| tail);
     }
     count
-}
-
-/// The program's standard output, given the script on its standard input. Its
-/// end by a signal shows as a last line.
-fn run_program(program: &Path, script: &[u8]) -> io::Result<Vec<u8>> {
-    let mut child = Command::new(program)
-        .stdin(Stdio::piped())
-        .stdout(Stdio::piped())
-        .spawn()?;
-    let mut input = child.stdin.take().expect("a pipe");
-    let mut output = child.stdout.take().expect("a pipe");
-    let mut printed = Vec::new();
-    thread::scope(|scope| {
-        // A program that stops at a bad item may leave the rest unread.
-        scope.spawn(move || {
-            let _ = input.write_all(script);
-        });
-        output.read_to_end(&mut printed)
-    })?;
-    let status = child.wait()?;
-    if status.code().is_none() {
-        printed.extend_from_slice(format!("({status})\n").as_bytes());
-    }
-    Ok(printed)
 }
 
 /// Tells the first line in which two outputs differ, with its item. Items of the
@@ -137,12 +96,12 @@ pub fn difference(script: &[u8], silent: &[u8], ours: &[u8], theirs: &[u8]) -> O
     }
 }
 
-fn line_text(line: Option<&[u8]>) -> String {
+pub(crate) fn line_text(line: Option<&[u8]>) -> String {
     line.map_or("(no line)".into(), |line| line.escape_ascii().to_string())
 }
 
 /// The number (from 1), kind and hex of the item that prints after so many lines.
-fn item_text(script: &[u8], silent: &[u8], mut lines: usize) -> String {
+pub(crate) fn item_text(script: &[u8], silent: &[u8], mut lines: usize) -> String {
     let mut rest = script;
     let mut number = 1;
     while let Some((item, tail)) = take_item(rest) {

@@ -5,7 +5,8 @@
 //! [`table`] is what they change, and [`book`] keeps a list of them with a mark.
 //! The other modules drive these: [`script`] runs call scripts, [`generate`] makes
 //! them, [`coverage`] tells what they reach, [`compare`] runs another program on
-//! them, and [`hex`] turns hand-written text into them.
+//! them, [`fault`] has it meet faults in its memory, and [`hex`] turns hand-written
+//! text into them.
 
 #![forbid(unsafe_code)]
 #![warn(missing_docs)]
@@ -13,11 +14,13 @@
 pub mod book;
 pub mod compare;
 pub mod coverage;
+pub mod fault;
 pub mod generate;
 pub mod hex;
 pub mod ids;
 pub mod number;
 pub mod order;
 pub mod pdu;
+mod program;
 pub mod script;
 pub mod table;

@@ -8,6 +8,7 @@ use std::process::ExitCode;
 
 use second::compare::{compare, Scripts};
 use second::coverage::{self, Facts};
+use second::fault::fault_run;
 use second::script::parts::Parts;
 use second::script::session::End;
 use second::table::Table;
@@ -40,6 +41,12 @@ usage:
       Runs PROGRAM on the same scripts and compares what it prints, two at a time.
       A script for a table has no items that need a history.
       The status is 0 only if scripts were compared and none differs.
+  second fault-session PROGRAM FROM TO ITEMS [--parts L0,L1,..]
+      Runs PROGRAM on scripts with items X strewn in, each followed by an emptying
+      and the script of the next seed. Each call must answer a number listed for it,
+      and from that emptying on each line must be that of `second session`.
+      The status is 0 only if nothing is wrong, and of the calls on memory with
+      faults some answered 1 and some were granted.
   second hex-pdu < text > script
   second hex-session < text > script
       Makes a script of lines that have the letter of a kind and hex, such as
@@ -97,6 +104,10 @@ fn dispatch(arguments: &[&str]) -> Result<ExitCode, String> {
         }
         ["compare-table", program, from, to, items] => {
             compare_table(program, number(from)?, number(to)?, count(items)?)
+        }
+        ["fault-session", program, from, to, items, options @ ..] => {
+            let parts = parts(options)?;
+            fault_session(program, number(from)?, number(to)?, count(items)?, &parts)
         }
         ["hex-pdu"] => print_script(script::pdu::KINDS),
         ["hex-session"] => print_script(script::session::KINDS),
@@ -223,6 +234,29 @@ fn compare_scripts(
         tally.scripts, tally.items, tally.differences
     );
     Ok(ExitCode::from(u8::from(!tally.agrees())))
+}
+
+fn fault_session(
+    program: &str,
+    from: u64,
+    to: u64,
+    items: usize,
+    parts: &Parts,
+) -> Result<ExitCode, String> {
+    let report = |text: &str| println!("{text}");
+    let tally = fault_run(Path::new(program), from, to, items, parts, report)
+        .map_err(|fault| format!("{program}: {fault}"))?;
+    let met = tally.met;
+    println!(
+        "calls that answered 1: {}, and {} that were lent too little",
+        met.unfit, met.lent_short
+    );
+    println!("calls granted after a fault: {}", met.granted_after_fault);
+    println!(
+        "ran {} scripts, {} items, {} faults: {} wrong",
+        tally.scripts, met.items, met.faults, tally.wrong
+    );
+    Ok(ExitCode::from(u8::from(!tally.holds())))
 }
 
 fn print_script(kinds: &[u8]) -> Result<ExitCode, String> {

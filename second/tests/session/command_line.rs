@@ -40,6 +40,7 @@ fn help_names_every_command() {
         "gen-session SEED ITEMS",
         "coverage-session FROM TO ITEMS",
         "compare-session PROGRAM FROM TO ITEMS",
+        "fault-session PROGRAM FROM TO ITEMS",
         "hex-session",
     ] {
         assert!(help.contains(name), "{name}");
@@ -55,6 +56,7 @@ fn unknown_arguments_are_refused() {
         &["session", "--parts", "0"],
         &["gen-session", "1"],
         &["gen-session", "1", "x"],
+        &["fault-session", "p", "1", "1"],
         &["hex-session", "1"],
     ] {
         let output = second(arguments, b"");

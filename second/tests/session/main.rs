@@ -6,6 +6,7 @@ mod common;
 mod book;
 mod clashes;
 mod command_line;
+mod faults;
 mod generator;
 mod judging;
 mod lookups;

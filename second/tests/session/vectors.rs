@@ -26,3 +26,8 @@ fn public_document() {
         16,
     );
 }
+
+#[test]
+fn demo() {
+    check(include_str!("../../vectors/session.txt"), 23);
+}

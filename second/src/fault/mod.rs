@@ -1,0 +1,87 @@
+//! Runs another program on scripts with faults in its state memory.
+
+mod check;
+
+pub use check::check;
+
+use std::io;
+use std::ops::AddAssign;
+use std::path::Path;
+use std::sync::Mutex;
+
+use crate::generate::fault;
+use crate::program::{each_seed, run_program};
+use crate::script::parts::Parts;
+
+/// What was met in the lines of a script.
+#[derive(Clone, Copy, Debug, Default, PartialEq, Eq)]
+pub struct Met {
+    /// Items.
+    pub items: u64,
+    /// Those of them that change memory.
+    pub faults: u64,
+    /// Calls that were lent too little and answered 1.
+    pub lent_short: u64,
+    /// Calls that were lent the whole and answered 1.
+    pub unfit: u64,
+    /// Calls granted after a fault and before the next emptying.
+    pub granted_after_fault: u64,
+}
+
+impl AddAssign for Met {
+    fn add_assign(&mut self, other: Self) {
+        self.items += other.items;
+        self.faults += other.faults;
+        self.lent_short += other.lent_short;
+        self.unfit += other.unfit;
+        self.granted_after_fault += other.granted_after_fault;
+    }
+}
+
+/// What a fault run came to.
+#[derive(Clone, Copy, Debug, Default, PartialEq, Eq)]
+pub struct Tally {
+    /// Scripts run.
+    pub scripts: u64,
+    /// Scripts with a line that is wrong.
+    pub wrong: u64,
+    /// What was met in the others.
+    pub met: Met,
+}
+
+impl Tally {
+    /// Whether nothing is wrong, and faults were found out as well as lived with.
+    pub fn holds(&self) -> bool {
+        self.wrong == 0 && self.met.unfit > 0 && self.met.granted_after_fault > 0
+    }
+}
+
+/// Runs the program on the scripts of the seeds `from` to `to`. The first wrong
+/// line of a script is told to `report`. An error means that the program could not
+/// be run.
+pub fn fault_run(
+    program: &Path,
+    from: u64,
+    to: u64,
+    items: usize,
+    parts: &Parts,
+    report: impl Fn(&str) + Sync,
+) -> io::Result<Tally> {
+    let tally = Mutex::new(Tally::default());
+    each_seed(from, to, |seed| {
+        let faulty = fault::script(seed, items, parts);
+        let printed = run_program(program, &faulty.script)?;
+        let checked = check(&faulty, parts, &printed);
+        let mut tally = tally.lock().expect("no worker panics");
+        tally.scripts += 1;
+        match checked {
+            Ok(met) => tally.met += met,
+            Err(text) => {
+                tally.wrong += 1;
+                report(&format!("seed {seed}: {text}"));
+            }
+        }
+        Ok(())
+    })?;
+    Ok(tally.into_inner().expect("no worker panics"))
+}
