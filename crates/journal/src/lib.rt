@@ -10,6 +10,9 @@ ghost use Rattle.journal.specs.Journal.{endFrom, withinFrom};
 ghost use Rattle.journal.specs.View.{Memory, memory, tooShort};
 ghost use Rattle.journal.specs.Standing.{Replayed, Judges, Applied};
 
+// The bytes of a journal: the count and the orders' bytes.
+pub const LENGTH: usize = 32770;
+
 // How many orders stand and where they end; end 0 where the memory is not well formed.
 pub struct Standing {
     pub count: usize,

@@ -7,11 +7,11 @@ mod line;
 mod show;
 
 // The memories of a table.
-const DIRECTORY: usize = 444;
+const DIRECTORY: usize = directory::slots::LENGTH;
 
-const BODIES: usize = 44884;
+const BODIES: usize = table::BODIES;
 
-const CELLS: usize = 50880;
+const CELLS: usize = cache::LENGTH;
 
 // A proved loop has to end, and nothing says that the input does: the items are counted down from
 // a number that no run uses up.

@@ -10,13 +10,13 @@ pub mod lookups;
 mod replies;
 
 // The needed bytes of the four parts.
-pub const DIRECTORY: usize = 444;
+pub const DIRECTORY: usize = directory::slots::LENGTH;
 
-pub const BODIES: usize = 44884;
+pub const BODIES: usize = table::BODIES;
 
-pub const CELLS: usize = 50880;
+pub const CELLS: usize = cache::LENGTH;
 
-pub const JOURNAL: usize = 32770;
+pub const JOURNAL: usize = journal::LENGTH;
 
 // The number of an answer and, where it is 0, how many orders stand after the mark and their bytes in all.
 pub struct Reply {

@@ -1,5 +1,6 @@
 use Rattle.table.proofs.Ways.{cells-deleted, cells-kept, cell-filled, icon-fits}
 use denote.Ref.{now}
+use native.Mathlib.Omega.{arith}
 use borrow.Author.Needs.{needs}
 use Rattle.table.proofs.changes.change_cell.Statement.{statement}
 use Rattle.table.proofs.changes.change_cell.Tie as tie
@@ -25,7 +26,7 @@ fill-requires c κs =
     let b = c .before .before .before .before .before .before .before in
     let a = b .args in
     let f = icon-fits (now (a .s)) (a .c .flags) (a .c .icon) (c .before .before .before .if2 .left) (c .before .before .cell .ensures .0) (b .pre .1) in
-    ((b .pre .0, f .0), (f .1, f .2))
+    ((b .pre .0, omega (arith, f .0)), (f .1, f .2))
 
 same-length : tie.Need-same-length
 same-length c = search needs
