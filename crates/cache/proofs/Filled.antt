@@ -1,25 +1,22 @@
 -- A cell that an icon has filled holds that icon's picture, and the other cells are as they were. Assumes nothing.
-use mathlib.Core.Path.{_≡_, refl, sym, ap, subst, _∙_}
+use mathlib.Core.Path.{_≡_, refl, sym, ap, _∙_}
 use mathlib.Core.Bool.{Bool, true, false}
 use mathlib.Core.List.{List}
 use Prim.Native.Nat.{ℕ, _+_, _*_, _-_, _≤_, _<_}
 use native.Mathlib.Omega.{arith}
-use native.Mathlib.Nat.{zero-add}
-use lib.Dec.{leb, eqb}
+use lib.Dec.{leb}
 use lib.ListN.{length, take, drop}
 use lib.Seq.{drop-drop}
 use borrow.Author.Tests.{leb-true, leb-false, le-leb}
-use Rattle.wire.specs.Tests.{pick, both}
+use Rattle.wire.specs.Tests.{pick}
 use Rattle.wire.specs.Numbers.{numAt}
 use Rattle.wire.specs.Parts.{slice, splice}
-use Rattle.wire.proofs.Tests.{both-left, both-right}
-use Rattle.wire.proofs.Parts.{length-splice, length-slice, slice-take, slice-splice, slice-splice-before, slice-splice-after}
+use Rattle.wire.proofs.Parts.{length-splice, length-slice, slice-take, slice-last, slice-splice, slice-splice-before, slice-splice-after}
 use Rattle.wire.proofs.Numbers.{num-slice, num-in}
 use Rattle.order.specs.declared.IconParts.{IconParts}
-use Rattle.order.specs.Icons.{tabled, partsFrom, partsOf, bitsOk, sideOk}
-use Rattle.order.proofs.Pictures.{laid}
+use Rattle.order.specs.Icons.{tabled, partsFrom, partsOf}
 use Rattle.order.proofs.Accepted.{AnIcon}
-use Rattle.cache.specs.Cells.{cellOf, pictureOf, numbersOk, cellOk, carriedPicture, fillOf}
+use Rattle.cache.specs.Cells.{cellOf, pictureOf, numbersOk, cellOk, carriedPicture, fillOf, putOf}
 
 -- a part of a part
 slice-slice : (xs : List ℕ) (a m b n : ℕ) → b + n ≤ m → slice (slice xs a m) b n ≡ slice xs (a + b) n
@@ -31,41 +28,39 @@ slice-slice xs a m b n h = slice-in ∙ slice-on
     slice-on : slice (drop a xs) b n ≡ slice xs (a + b) n
     slice-on = unfold slice in ap (take n) (drop-drop b a xs)
 
-module _ (cells : List ℕ) (c : ℕ) (s : List ℕ) (icon : ℕ) (long : 50880 ≤ length cells) (inside : c < 12) (low : icon + 12 ≤ length s) (high : length s ≤ icon + 4238) where
+-- ---- a memory in which 4240 bytes from base on are a cell
+
+module _ (mem : List ℕ) (base : ℕ) (s : List ℕ) (icon : ℕ) (room : base + 4240 ≤ length mem) (low : icon + 12 ≤ length s) (high : length s ≤ icon + 4238) where
   abbrev cell : List ℕ
-  cell = cellOf (fillOf cells c s icon) c
+  cell = slice (splice mem (base + 3) (carriedPicture s icon)) base 4240
 
   part-length : length (carriedPicture s icon) ≡ length s - (icon + 3)
   unfolding carriedPicture
   part-length = length-slice s (icon + 3) (length s - (icon + 3)) (omega arith)
 
-  fits : 4240 * c + 3 + length (carriedPicture s icon) ≤ length cells
+  fits : base + 3 + length (carriedPicture s icon) ≤ length mem
   fits = omega (arith, part-length)
-
-  pub length-fill : length (fillOf cells c s icon) ≡ length cells
-  unfolding fillOf
-  length-fill = length-splice cells (4240 * c + 3) (carriedPicture s icon) fits
 
   -- the cell's numbers are the order's
   num-cell : (w i : ℕ) → i + 3 + w ≤ length s - icon → numAt w cell (i + 3) ≡ numAt w s (icon + (i + 3))
-  unfolding cellOf fillOf carriedPicture
+  unfolding carriedPicture
   num-cell w i h =
       let p = slice s (icon + 3) (length s - (icon + 3)) in
-      let x = splice cells (4240 * c + 3) p in
-      let e : 4240 * c + (i + 3) ≡ 4240 * c + 3 + i = omega arith in
+      let x = splice mem (base + 3) p in
+      let e : base + (i + 3) ≡ base + 3 + i = omega arith in
       let f : icon + 3 + i ≡ icon + (i + 3) = omega arith in
       let l = part-length in
-      num-slice w x (4240 * c) 4240 (i + 3) (omega arith)
+      num-slice w x base 4240 (i + 3) (omega arith)
       ∙ ap (numAt w x) e
-      ∙ num-in w cells (4240 * c + 3) p fits i (omega (arith, l))
+      ∙ num-in w mem (base + 3) p fits i (omega (arith, l))
       ∙ num-slice w s (icon + 3) (length s - (icon + 3)) i (omega arith)
       ∙ ap (numAt w s) f
 
-  pub record Same : Type 0 where
+  record Same : Type 0 where
     pub end : partsOf cell 0 .end ≡ length s - icon
     pub bytes : partsOf cell 0 .end - partsOf cell 0 .mask ≡ partsOf s icon .end - partsOf s icon .mask
 
-  pub same-parts : partsOf s icon .end ≡ length s → Same
+  same-parts : partsOf s icon .end ≡ length s → Same
   unfolding partsOf
   same-parts h = go (tabled (numAt 1 s (icon + 3))) refl h
     where
@@ -87,24 +82,45 @@ module _ (cells : List ℕ) (c : ℕ) (s : List ℕ) (icon : ℕ) (long : 50880 
       go false t h = record { end = rw (e3, t, e8, e10) (omega arith); bytes = rw (e3, t, e8, e10) (omega arith) }
 
   -- the picture is the one carried
-  pub filled-picture : partsOf s icon .end ≡ length s → pictureOf cell ≡ carriedPicture s icon
-  unfolding pictureOf cellOf fillOf
-  filled-picture h =
+  carried-picture : partsOf s icon .end ≡ length s → pictureOf cell ≡ carriedPicture s icon
+  unfolding pictureOf
+  carried-picture h =
       let e = same-parts h .end in
       let n : partsOf cell 0 .end - 3 ≡ length (carriedPicture s icon) = omega (arith, e, part-length) in
       let l = part-length in
       ap (slice cell 3) n
-      ∙ slice-slice (splice cells (4240 * c + 3) (carriedPicture s icon)) (4240 * c) 4240 3 (length (carriedPicture s icon)) (omega arith)
-      ∙ slice-splice cells (4240 * c + 3) (carriedPicture s icon) fits
+      ∙ slice-slice (splice mem (base + 3) (carriedPicture s icon)) base 4240 3 (length (carriedPicture s icon)) (omega arith)
+      ∙ slice-splice mem (base + 3) (carriedPicture s icon) fits
 
-  pub filled-ok : AnIcon s icon → cellOk cell ≡ true
+  carried-ok : AnIcon s icon → cellOk cell ≡ true
   unfolding cellOk
-  filled-ok w =
+  carried-ok w =
       let e = same-parts (w .ends) in
       let a : numAt 1 cell 3 ≡ numAt 1 s (icon + 3) = num-cell 1 0 (omega arith) in
       let b : numAt 2 cell 4 ≡ numAt 2 s (icon + 4) = num-cell 2 1 (omega arith) in
       let d : numAt 2 cell 6 ≡ numAt 2 s (icon + 6) = num-cell 2 3 (omega arith) in
       rw (a, b, d, e .bytes, w .bits, w .width, w .height) (le-leb (partsOf s icon .end - partsOf s icon .mask) 4224 (w .bytes))
+
+-- ---- the cells of the icon cache
+
+module _ (cells : List ℕ) (c : ℕ) (s : List ℕ) (icon : ℕ) (long : 50880 ≤ length cells) (inside : c < 12) (low : icon + 12 ≤ length s) (high : length s ≤ icon + 4238) where
+  there : 4240 * c + 4240 ≤ length cells
+  there = omega arith
+
+  within : 4240 * c + 3 + length (carriedPicture s icon) ≤ length cells
+  within = fits cells (4240 * c) s icon there low high
+
+  pub length-fill : length (fillOf cells c s icon) ≡ length cells
+  unfolding fillOf
+  length-fill = length-splice cells (4240 * c + 3) (carriedPicture s icon) within
+
+  pub filled-picture : partsOf s icon .end ≡ length s → pictureOf (cellOf (fillOf cells c s icon) c) ≡ carriedPicture s icon
+  unfolding cellOf fillOf
+  filled-picture h = carried-picture cells (4240 * c) s icon there low high h
+
+  pub filled-ok : AnIcon s icon → cellOk (cellOf (fillOf cells c s icon) c) ≡ true
+  unfolding cellOf fillOf
+  filled-ok w = carried-ok cells (4240 * c) s icon there low high w
 
   -- another cell is as it was
   pub other-cell : (k : ℕ) → (c ≡ k → ⊥) → cellOf (fillOf cells c s icon) k ≡ cellOf cells k
@@ -115,11 +131,31 @@ module _ (cells : List ℕ) (c : ℕ) (s : List ℕ) (icon : ℕ) (long : 50880 
       go true t =
           let l : k ≤ c = leb-true k c t in
           let m : k < c = omega arith in
-          slice-splice-before cells (4240 * c + 3) (carriedPicture s icon) fits (4240 * k) 4240 (omega arith)
+          slice-splice-before cells (4240 * c + 3) (carriedPicture s icon) within (4240 * k) 4240 (omega arith)
       go false t =
           let l : c < k = leb-false k c t in
-          let n = part-length in
-          slice-splice-after cells (4240 * c + 3) (carriedPicture s icon) fits (4240 * k) 4240 (omega arith)
+          let n = part-length cells (4240 * c) s icon there low high in
+          slice-splice-after cells (4240 * c + 3) (carriedPicture s icon) within (4240 * k) 4240 (omega arith)
+
+-- ---- a cell by itself
+
+module _ (one : List ℕ) (s : List ℕ) (icon : ℕ) (long : length one ≡ 4240) (low : icon + 12 ≤ length s) (high : length s ≤ icon + 4238) where
+  all : 0 + 4240 ≤ length one
+  all = omega arith
+
+  pub length-put : length (putOf one s icon) ≡ 4240
+  unfolding putOf
+  length-put = length-splice one 3 (carriedPicture s icon) (fits one 0 s icon all low high) ∙ long
+
+  -- it is the whole of its memory
+  whole : slice (putOf one s icon) 0 4240 ≡ putOf one s icon
+  whole = slice-last (putOf one s icon) 0 4240 (sym length-put)
+
+  pub put-picture : partsOf s icon .end ≡ length s → pictureOf (putOf one s icon) ≡ carriedPicture s icon
+  put-picture h = ap pictureOf (sym whole) ∙ (unfold putOf in carried-picture one 0 s icon all low high h)
+
+  pub put-ok : AnIcon s icon → cellOk (putOf one s icon) ≡ true
+  put-ok w = ap cellOk (sym whole) ∙ (unfold putOf in carried-ok one 0 s icon all low high w)
 
 -- ---- for the functions
 

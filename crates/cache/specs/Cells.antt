@@ -31,3 +31,7 @@ carriedPicture s icon = slice s (icon + 3) (length s - (icon + 3))
 -- cell c filled with it
 unfoldable pub fillOf : List ℕ → ℕ → List ℕ → ℕ → List ℕ
 fillOf cells c s icon = splice cells (4240 * c + 3) (carriedPicture s icon)
+
+-- a cell, by itself, filled with it
+unfoldable pub putOf : List ℕ → List ℕ → ℕ → List ℕ
+putOf cell s icon = splice cell 3 (carriedPicture s icon)

@@ -2,7 +2,7 @@
 ghost use mathlib.Core.Path.{_≡_};
 ghost use Prim.Native.Nat.{_+_, _*_, _<_, _≤_};
 ghost use lib.ListN.{length};
-ghost use Rattle.cache.specs.Cells.{cellOf, numbersOk, cellOk, fillOf};
+ghost use Rattle.cache.specs.Cells.{cellOf, numbersOk, cellOk, fillOf, putOf};
 
 // The bytes of a cell, and of the cache.
 pub const CELL: usize = 4240;
@@ -18,6 +18,16 @@ pub fn fill(cells: &mut [u8], c: usize, s: &[u8], icon: usize)
     let from = icon + 3;
     let n = s.len() - from;
     wire::copy_part(cells, 4240 * c + 3, s, from, n);
+}
+
+// Fills a cell with the icon at index icon of an order, which reaches to its end.
+pub fn put(cell: &mut [u8], s: &[u8], icon: usize)
+    requires { ⌜ (length (now cell) ≡ 4240) × (icon + 12 ≤ length (now s)) × (length (now s) ≤ icon + 4238) ⌝ }
+    ensures { λ _. ⌜ now (cell .exit) ≡ putOf (now (cell .entry)) (now (s .entry)) icon ⌝ }
+{
+    let from = icon + 3;
+    let n = s.len() - from;
+    wire::copy_part(cell, 3, s, from, n);
 }
 
 fn numbers_ok(bits: u8, width: u16, height: u16, n: usize) -> bool

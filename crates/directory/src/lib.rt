@@ -102,6 +102,19 @@ pub fn judge(dir: &[u8], s: &[u8]) -> Plan
     }
 }
 
+// Notes the change of an order that has been judged.
+pub fn note(dir: &mut [u8], s: &[u8], p: Plan)
+    requires { ⌜ (soundDirectory (now dir) ≡ true) × (p ≡ planOf (now dir) (now s)) ⌝ }
+    ensures { λ _. ⌜ now (dir .exit) ≡ markedBy (now (dir .entry)) (now (s .entry)) p ⌝ }
+{
+    match p {
+        Plan::ChangeWindow(c) => marks::mark(dir, s, c),
+        Plan::ChangeNotification(c) => marks::mark(dir, s, c),
+        Plan::ChangeDesktop(flags) => marks::none(dir, flags),
+        Plan::Refuse(_) => {}
+    }
+}
+
 // Judges an order on the directory and, where it is not refused, notes its change there. Its number.
 pub fn step(dir: &mut [u8], s: &[u8]) -> u8
     requires { ⌜ soundDirectory (now dir) ≡ true ⌝ }

@@ -27,13 +27,13 @@ use Rattle.journal.proofs.Logs.{within-first, within-rest, bytes-slice}
 
 -- ---- orders left
 
-left-all : (count : ℕ) → count - 0 ≡ count
+pub left-all : (count : ℕ) → count - 0 ≡ count
 left-all count = omega arith
 
-left-more : (count i : ℕ) → i < count → count - i ≡ suc (count - (i + 1))
+pub left-more : (count i : ℕ) → i < count → count - i ≡ suc (count - (i + 1))
 left-more count i h = omega arith
 
-left-none : (count i : ℕ) → count ≤ i → count - i ≡ 0
+pub left-none : (count i : ℕ) → count ≤ i → count - i ≡ 0
 left-none count i h = omega arith
 
 -- the part of a journal that is lent
@@ -121,20 +121,20 @@ module _ (d₀ j : List ℕ) (bytes : Bytes j) {count : ℕ} {d : List ℕ} {p i
         let w : withinFrom count 2 j ≡ false = g .within ∙ rw (left-more count i more, t) in
         stopped d₀ j count d (rw w)
 
-    abbrev o : List ℕ
+    abbrev pub o : List ℕ
     o = take (p + size - p) (drop p j)
 
-    o-is : o ≡ orderAt j p
+    pub o-is : o ≡ orderAt j p
     o-is = part-is j p size ∙ ap (slice j p) is
 
-    o-bytes : Bytes o
+    pub o-bytes : Bytes o
     o-bytes = rw (part-is j p size) (bytes-slice j p size bytes)
 
     module _ {r : ℕ} {d' : List ℕ} (says : r ≡ numberOf (planOf d o)) (makes : d' ≡ markedBy d o (planOf d o)) where
       number-is : r ≡ numberIn (directoryOf d) (orderAt j p)
       number-is = says ∙ judged-number d o ∙ ap (numberIn (directoryOf d)) o-is
 
-      directory-is : directoryOf d' ≡ directoryAfter (directoryOf d) (orderAt j p)
+      pub directory-is : directoryOf d' ≡ directoryAfter (directoryOf d) (orderAt j p)
       directory-is = ap directoryOf makes ∙ marked-directory d o o-bytes (g .sound) ∙ ap (directoryAfter (directoryOf d)) o-is
 
       -- an order is refused

@@ -2,3 +2,4 @@ pub mod State
 pub mod Journal
 pub mod View
 pub mod Standing
+pub mod Recall

@@ -10,6 +10,8 @@ ghost use Rattle.journal.specs.Journal.{endFrom, withinFrom};
 ghost use Rattle.journal.specs.View.{Memory, memory, tooShort};
 ghost use Rattle.journal.specs.Standing.{Replayed, Judges, Applied};
 
+pub mod recall;
+
 // The bytes of a journal: the count and the orders' bytes.
 pub const LENGTH: usize = 32770;
 

@@ -46,14 +46,14 @@ not-not : (b : Bool) → not b ≡ false → b ≡ true
 not-not true e = refl
 not-not false e = sym e
 
-record Granted (b : List ℕ) (p : Pdu) : Type 0 where
+pub record Granted (b : List ℕ) (p : Pdu) : Type 0 where
   pub length-told : numAt 2 b 2 ≡ length b
   pub kind-known : known (numAt 2 b 0) ≡ true
   pub fills : sizeOf (recordAs (numAt 2 b 0) b) ≡ length b
   pub fine : allowed (recordAs (numAt 2 b 0) b) ≡ true
   pub same-record : recordAs (numAt 2 b 0) b ≡ p
 
-reading : (b : List ℕ) (p : Pdu) → readOf b ≡ Message p → Granted b p
+pub reading : (b : List ℕ) (p : Pdu) → readOf b ≡ Message p → Granted b p
 unfolding readOf
 reading b p e =
     let r = recordAs (numAt 2 b 0) b in

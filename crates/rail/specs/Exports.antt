@@ -7,9 +7,15 @@ use lib.Dec.{leb}
 use Rattle.wire.specs.Tests.{pick}
 use Rattle.pdu.specs.declared.Read.{Read}
 use Rattle.pdu.specs.declared.Read.the-variants.{Message, Refused}
+use Rattle.pdu.specs.declared.Written.{Written}
+use Rattle.pdu.specs.declared.Written.the-variants as W
 use Rattle.pdu.specs.Reading.{readOf, numberOf}
+use Rattle.pdu.specs.Writing.{writtenOf, outAfter}
 use Rattle.pdu.specs.RoundTrip.{tidy}
+use Rattle.rail.specs.declared.write.Made.{Made}
+use Rattle.rail.specs.declared.write.Made.the-variants.{Record, Nothing}
 use Rattle.rail.specs.Words.{wordsOf}
+use Rattle.rail.specs.FromWords.{pduOf}
 
 -- the words of the record; on a refusal the words lent, as they were
 unfoldable pub wordsAfter : Read → List ℕ → List ℕ
@@ -33,3 +39,21 @@ tidyAfter (Refused k) s out = out
 pub record TidyExport (s out : List ℕ) (r : ℕ) (out' : List ℕ) : Type 0 where
   pub answer : r ≡ tidyAnswer (readOf s) s (length out)
   pub memory : out' ≡ tidyAfter (readOf s) s out
+
+-- what writing answers, in the same way
+abbrev pub packed : Written → ℕ
+packed (W.Bytes n) = n
+packed (W.Refused n) = n * 65536
+
+-- the answer and the output memory for what words make: 8 for nothing
+unfoldable pub writeAnswer : Made → List ℕ → ℕ → ℕ
+writeAnswer (Record p) src n = packed (writtenOf p src n)
+writeAnswer Nothing src n = 8 * 65536
+
+unfoldable pub writeAfter : Made → List ℕ → List ℕ → List ℕ
+writeAfter (Record p) src out = outAfter p src out
+writeAfter Nothing src out = out
+
+pub record WriteExport (words src out : List ℕ) (r : ℕ) (out' : List ℕ) : Type 0 where
+  pub answer : r ≡ writeAnswer (pduOf words) src (length out)
+  pub memory : out' ≡ writeAfter (pduOf words) src out

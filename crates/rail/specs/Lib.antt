@@ -1,2 +1,4 @@
 pub mod Words
+pub mod FromWords
 pub mod Exports
+pub mod States

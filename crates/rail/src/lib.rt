@@ -20,6 +20,9 @@ ghost use Rattle.pdu.specs.Records.{yesNumber};
 ghost use Rattle.rail.specs.Words.{executeWords, activateWords, systemCommandWords, handshakeWords, notifyEventWords, windowMoveWords, moveSizeWords, minMaxInfoWords, clientInformationWords, systemMenuWords, getApplicationIdWords, applicationIdResponseWords, executeResultWords, wordsOf};
 ghost use Rattle.rail.specs.Exports.{ReadExport, TidyExport};
 
+mod state;
+mod write;
+
 fn yes_number(b: bool) -> u32
     ensures { λ r. ⌜ r ≡ yesNumber b ⌝ }
 {

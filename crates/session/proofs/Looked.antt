@@ -1,213 +1,227 @@
--- The lookups, on a copy of the table at the mark to which the journal's orders were applied. Assumes nothing.
-use mathlib.Core.Path.{_≡_, refl, sym, ap, _∙_}
+-- The lookups: what each answers by what it sought. Assumes nothing.
+use mathlib.Core.Path.{_≡_, refl, sym, ap, subst, _∙_}
 use mathlib.Core.Bool.{Bool, true, false, not}
-use mathlib.Core.List.{List, [], _∷_}
+use mathlib.Core.List.{List}
 use mathlib.Core.Option.{Option, none, some}
-use Prim.Native.Nat.{ℕ, _+_, _*_, _-_, _≤_, _<_}
+use Prim.Native.Nat.{ℕ, _+_, _*_, _-_, _≤_}
 use native.Mathlib.Omega.{arith}
-use lib.Dec.{leb}
-use lib.ListN.{length}
-use Rattle.wire.specs.Tests.{pick, both, either}
+use lib.Dec.{leb, ltb}
+use borrow.Author.Tests.{lt-ltb, leb-true}
+use Rattle.wire.specs.Tests.{pick, both}
 use Rattle.directory.specs.Directory.{windows, notifications}
-use Rattle.directory.specs.Sound.{slotsOk}
-use Rattle.body.specs.Bodies.{Body, desktopFields, slotOf, bodyOf, bodyOk}
-use Rattle.table.specs.Table.{Table}
-use Rattle.table.specs.Memory.{recordIn, cellIn, decode, windowOk, notificationOk, filledOk, soundTable}
-use Rattle.table.proofs.Sounded.{Sound, table-has, windows-are, notifications-are, filled-are}
+use Rattle.body.specs.Bodies.{windowFields, notificationFields, desktopFields, bodyOf, bodyOk}
+use Rattle.cache.specs.Cells.{pictureOf, cellOk}
+use Rattle.table.specs.declared.Want.{Want}
+use Rattle.table.specs.declared.Want.the-variants.{Window, Notification, Cell, Desktop}
+use Rattle.table.specs.Table.{there, directory}
+use Rattle.table.specs.Follow.{Holds}
+use Rattle.view.specs.declared.WindowRecord.{WindowRecord}
+use Rattle.view.specs.declared.NotificationRecord.{NotificationRecord}
+use Rattle.view.specs.declared.Picture.{Picture}
 use Rattle.view.specs.declared.DesktopRecord.{DesktopRecord}
 use Rattle.view.specs.Views.{windowOf, notificationOf, desktopOf, pictureView}
-use Rattle.lookup.specs.declared.WindowAnswer.{WindowAnswer}
-use Rattle.lookup.specs.declared.NotificationAnswer.{NotificationAnswer}
-use Rattle.lookup.specs.declared.CellAnswer.{CellAnswer}
-use Rattle.lookup.specs.Answers.{windowAnswer, notificationAnswer, cellAnswer}
-use Rattle.lookup.specs.Answers as L
-use Rattle.journal.specs.declared.Standing.{Standing}
-use Rattle.journal.specs.State.{run, present, bytesIn}
-use Rattle.journal.specs.Journal.{countOf, ordersFrom, endFrom, withinFrom, logOf}
-use Rattle.journal.specs.View.{Memory, memory, tooShort, wellFormed, stateOf, formed, viewOf}
-use Rattle.journal.specs.Standing.{Applied, Judges}
-use Rattle.journal.proofs.Logs.{length-orders, bytes-orders}
+use Rattle.journal.specs.State.{State, present, bytesIn}
+use Rattle.journal.specs.View.{Memory, View, short, unformed, formed, viewOf}
 use Rattle.session.specs.declared.Reply.{Reply}
-use Rattle.session.specs.declared.WindowReply.{WindowReply}
-use Rattle.session.specs.declared.NotificationReply.{NotificationReply}
-use Rattle.session.specs.declared.CellReply.{CellReply}
-use Rattle.session.specs.declared.DesktopReply.{DesktopReply}
-use Rattle.session.specs.Calls.{Call, window, notification, cell, desktop, body, picture, refuse, grant, foundBody, foundPicture, cellAsked, isReset, answer, next}
-use Rattle.session.specs.Replies.{Shown, aWindow, aNotification, aCell, aDesktop, shown, replyOf, windowReply, notificationReply, cellReply, desktopReply, Stepped, Knows}
-use Rattle.session.proofs.Refusals.{stays-short, stays-unformed, stays-formed}
-use Rattle.session.proofs.Granted.{Long, long-has}
-use Rattle.session.proofs.Moved.{Formed, formed-has}
+use Rattle.session.specs.declared.Sought.{Sought}
+use Rattle.session.specs.Calls.{Call, window, notification, cell, desktop, Given, body, picture, Answer, refuse, grant, foundPicture, cellAsked, answer, next, answerView, nextView}
+use Rattle.session.specs.Replies.{Shown, aWindow, aNotification, aCell, aDesktop, shown, Stepped}
+use Rattle.session.specs.Seek.{listedIn, cellWanted, seekNumber, Has, Seeks}
+use Rattle.session.proofs.Refusals.{stays}
 
--- ---- what is known of the memory
+-- a lookup and what it seeks
+pub data Asks : Call → Want → Type 0 where
+  a-window : (id : ℕ) → Asks (window id) (Window id)
+  an-icon : (x y : ℕ) → Asks (notification x y) (Notification x y)
+  a-cell : (cache entry : ℕ) → Asks (cell cache entry) (Cell (cellWanted cache entry))
+  the-desktop : Asks desktop Desktop
 
--- too short
-pub knows-short : (m : Memory) (w : Standing) → tooShort m ≡ true → w ≡ record { count = 0; end = 0 } → Knows m w
-knows-short m w t e =
-    let z : w .end ≡ 0 = ap (λ (w : Standing). w .end) e in
-    record { refused = λ h. rw t; formed = λ h. absurd (h z); count = λ h. absurd (h z); end = λ h. absurd (h z) }
+-- what a memory that holds it gives
+abbrev pub givenIn : Want → List ℕ → Given
+givenIn (Window a) m = body (bodyOf windowFields m)
+givenIn (Notification a b) m = body (bodyOf notificationFields m)
+givenIn (Cell k) m = picture (pictureOf m)
+givenIn Desktop m = body (bodyOf desktopFields m)
 
-pub knows-judged : (m : Memory) (w : Standing) {d : List ℕ} → tooShort m ≡ false → Judges m w d → Knows m w
-knows-judged m w t j =
-    record {
-      refused = λ h. rw (t, j .unformed h);
-      formed = λ h. (t, j .formed h .rule);
-      count = λ h. (j .formed h .count, j .formed h .few);
-      end = λ h. (j .formed h .end, j .formed h .low, j .formed h .high);
-    }
+-- and its sets
+abbrev pub inSets : Want → List ℕ → Bool
+inSets (Window a) m = bodyOk windowFields 12 12 m
+inSets (Notification a b) m = bodyOk notificationFields 12 0 m
+inSets (Cell k) m = cellOk m
+inSets Desktop m = bodyOk desktopFields 1 1 m
 
--- 1, whatever the lookup
-pub knows-refused : (c : Call) (m : Memory) (w : Standing) {r : Shown} → isReset c ≡ false → Knows m w → w .end ≡ 0 → r ≡ shown c (refuse 1) → Stepped c m r m
-knows-refused c m w {r} n k z e = go (tooShort m) (wellFormed m) refl refl (k .refused z)
-  where
-    go : (t u : Bool) → tooShort m ≡ t → wellFormed m ≡ u → either t (not u) ≡ true → Stepped c m r m
-    go true u x y h = stays-short c m x e
-    go false false x y h = stays-unformed c m n x y e
-    go false true x y h = let z : _≡_ {A = ℕ} 0 1 = cc in absurd (omega arith)
+-- ---- what is there
 
--- ---- a well-formed memory and a copy of its table with the orders applied
+clash : {A : Type 0} → _≡_ {A = Bool} false true → A
+clash e = let z : _≡_ {A = ℕ} 0 1 = cc in absurd (omega arith)
 
-module _ (m : Memory) (w : Standing) (k : Knows m w) (some-end : w .end ≡ 0 → ⊥) where
-  ok : Formed m
-  ok = formed-has m (k .formed some-end .1)
+not-there : {A : Type 0} (x : Option A) → there x ≡ false → x ≡ none
+not-there none e = refl
+not-there (some x) e = clash (sym e)
 
-  -- what the copy asks
-  pub copy-asks : ((soundTable (m .dir) (m .bodies) (m .cells) ≡ true) × ((32770 ≤ length (m .journal)) × (withinFrom (w .count) 2 (m .journal) ≡ true)))
-  copy-asks =
-      (ok .sound, (long-has m (k .formed some-end .0) .journal, ap (λ (n : ℕ). withinFrom n 2 (m .journal)) (k .count some-end .0) ∙ ok .within))
+record Some {A : Type 0} (x : Option A) : Type 0 where
+  it : A
+  is : x ≡ some it
 
-  -- what a grant asks
-  pub grant-asks : (w .count ≤ 128) × (2 ≤ w .end) × (w .end ≤ 32770)
-  grant-asks = (k .count some-end .1, k .end some-end .1, k .end some-end .2)
+is-there : {A : Type 0} (x : Option A) → there x ≡ true → Some x
+is-there none e = clash e
+is-there (some x) e = record { it = x; is = refl }
 
-  log-count : length (stateOf m .log) ≡ w .count
-  log-count = unfold stateOf logOf in length-orders (countOf (m .journal)) 2 (m .journal) ∙ sym (k .count some-end .0)
+pub both-true : (a b : Bool) → both a b ≡ true → (a ≡ true) × (b ≡ true)
+both-true true b e = (refl, e)
+both-true false b e = clash e
 
-  log-bytes : bytesIn (stateOf m .log) ≡ w .end - 2
-  log-bytes =
-      unfold stateOf logOf in
-      bytes-orders (countOf (m .journal)) 2 (m .journal) (ok .within) (omega arith) (long-has m (k .formed some-end .0) .journal)
-      ∙ ap (λ (n : ℕ). endFrom n 2 (m .journal) - 2) (sym (k .count some-end .0)) ∙ ap (λ (e : ℕ). e - 2) (sym (k .end some-end .0))
+-- ---- a cell: outside the caches, or within
 
-  abbrev granted : Reply
-  granted = record { number = 0; count = w .count; bytes = w .end - 2 }
+module _ (cache entry : ℕ) where
+  abbrev outside : Bool
+  outside = not (both (leb cache 1) (leb entry 5))
 
-  granted-is : granted ≡ record { number = 0; count = length (stateOf m .log); bytes = bytesIn (stateOf m .log) }
-  granted-is = rw (log-count, log-bytes)
+  within-caches : outside ≡ false → ltb (6 * cache + entry) 12 ≡ true
+  within-caches e = go (both (leb cache 1) (leb entry 5)) refl e
+    where
+      go : (x : Bool) → both (leb cache 1) (leb entry 5) ≡ x → not x ≡ false → ltb (6 * cache + entry) 12 ≡ true
+      go false x e = clash (sym e)
+      go true x e =
+          let b = both-true (leb cache 1) (leb entry 5) x in
+          let p = leb-true cache 1 (b .0) in
+          let q = leb-true entry 5 (b .1) in
+          lt-ltb (6 * cache + entry) 12 (omega arith)
 
-  module _ {d b c : List ℕ} (p : Applied (m .dir) (m .bodies) (m .cells) (m .journal) (w .count) d b c) where
-    good : Sound d b c
-    good = table-has d b c (p .sound)
+  cell-refused : (s : State) → listedIn (Cell (cellWanted cache entry)) (directory (present s)) ≡ false → answer (cell cache entry) s ≡ refuse 9
+  unfolding answer listedIn directory
+  cell-refused s = go outside refl
+    where
+      go : (o : Bool) → outside ≡ o → both (ltb (pick o 12 (6 * cache + entry)) 12) (there (present s .cells (pick o 12 (6 * cache + entry)))) ≡ false
+          → foundPicture (s .log) (pick o none (present s .cells (6 * cache + entry))) ≡ refuse 9
+      go true x e = refl
+      go false x e =
+          let l = within-caches x in
+          let n : there (present s .cells (6 * cache + entry)) ≡ false = rw l at e in
+          rw (not-there (present s .cells (6 * cache + entry)) n)
 
-    pub windows-ask : (44884 ≤ length b) × (slotsOk 32 0 (windowOk d b) ≡ true)
-    windows-ask = (good .big, windows-are d b c good)
+  -- what the cell is
+  cell-is : (s : State) → listedIn (Cell (cellWanted cache entry)) (directory (present s)) ≡ true
+      → cellAsked (present s) cache entry ≡ present s .cells (cellWanted cache entry)
+  unfolding listedIn directory
+  cell-is s = go outside
+    where
+      go : (o : Bool) → both (ltb (pick o 12 (6 * cache + entry)) 12) (there (present s .cells (pick o 12 (6 * cache + entry)))) ≡ true
+          → pick o none (present s .cells (6 * cache + entry)) ≡ present s .cells (pick o 12 (6 * cache + entry))
+      go true e = clash e
+      go false e = refl
 
-    pub notifications-ask : (44884 ≤ length b) × (slotsOk 16 32 (notificationOk d b) ≡ true)
-    notifications-ask = (good .big, notifications-are d b c good)
+-- ---- on a state: 9, or what is held
 
-    pub cells-ask : (50880 ≤ length c) × (slotsOk 12 0 (filledOk d c) ≡ true)
-    cells-ask = (good .wide, filled-are d b c good)
+refused-on : {c : Call} {want : Want} → Asks c want → (s : State) → listedIn want (directory (present s)) ≡ false → answer c s ≡ refuse 9
+unfolding answer listedIn directory
+refused-on (a-window id) s e = rw (not-there (present s .records windows id 0) e)
+refused-on (an-icon x y) s e = rw (not-there (present s .records notifications x y) e)
+refused-on (a-cell cache entry) s e = cell-refused cache entry s e
+refused-on the-desktop s e = clash (sym e)
 
-    pub desktop-asks : (44884 ≤ length b) × (bodyOk desktopFields 1 1 (slotOf b 48) ≡ true)
-    desktop-asks = (good .big, good .desktop)
+-- what is listed and held
+record Held (c : Call) (want : Want) (s : State) (m : List ℕ) : Type 0 where
+  answers : answer c s ≡ grant (s .log) (givenIn want m)
+  sets : inSets want m ≡ true
 
-    table-is : decode d b c ≡ present (stateOf m)
-    table-is = unfold stateOf logOf in p .table ∙ ap (λ (n : ℕ). run (decode (m .dir) (m .bodies) (m .cells)) (ordersFrom n 2 (m .journal))) (k .count some-end .0)
+held-on : {c : Call} {want : Want} → Asks c want → (s : State) (m : List ℕ) → listedIn want (directory (present s)) ≡ true → Holds want (present s) m
+    → Held c want s m
+unfolding answer listedIn directory Holds
+held-on (a-window id) s m e h =
+    let x = is-there (present s .records windows id 0) e in
+    record { answers = rw (x .is, h (x .it) (x .is) .0); sets = h (x .it) (x .is) .1 }
+held-on (an-icon a b) s m e h =
+    let x = is-there (present s .records notifications a b) e in
+    record { answers = rw (x .is, h (x .it) (x .is) .0); sets = h (x .it) (x .is) .1 }
+held-on (a-cell cache entry) s m e h =
+    let x = is-there (present s .cells (cellWanted cache entry)) (both-true (ltb (cellWanted cache entry) 12) (there (present s .cells (cellWanted cache entry))) e .1) in
+    record { answers = rw (cell-is cache entry s e, x .is, h (x .it) (x .is) .0); sets = h (x .it) (x .is) .1 }
+held-on the-desktop s m e h = record { answers = rw (h .0); sets = h .1 }
 
-    -- a lookup changes nothing
-    looks : (q : Call) {r : Shown} → next q (stateOf m) ≡ stateOf m → r ≡ shown q (answer q (stateOf m)) → Stepped q m r m
-    looks q e f = stays-formed m (k .formed some-end .0) (k .formed some-end .1) q f e
+-- ---- on any memory
 
-    -- ---- a window
+-- a lookup changes nothing
+same-next : {c : Call} {want : Want} → Asks c want → (v : View) → nextView c v ≡ v
+unfolding nextView next
+same-next a short = refl
+same-next (a-window id) unformed = refl
+same-next (an-icon x y) unformed = refl
+same-next (a-cell cache entry) unformed = refl
+same-next the-desktop unformed = refl
+same-next (a-window id) (formed s) = refl
+same-next (an-icon x y) (formed s) = refl
+same-next (a-cell cache entry) (formed s) = refl
+same-next the-desktop (formed s) = refl
 
-    window-is : (id : ℕ) → recordIn d b windows id 0 ≡ present (stateOf m) .records windows id 0
-    window-is id = unfold decode in ap (λ (t : Table). t .records windows id 0) table-is
+not-listed : (b : Bool) {n : ℕ} → n ≡ pick b 0 9 → (n ≡ 0 → ⊥) → (b ≡ false) × (n ≡ 9)
+not-listed true e h = absurd (h e)
+not-listed false e h = (refl, e)
 
-    pub window-absent : (id : ℕ) {a : WindowAnswer} {r : WindowReply} → a ≡ windowAnswer (recordIn d b windows id 0) → (a .number ≡ 0 → ⊥)
-        → r ≡ windowReply (refuse 9) → Stepped (window id) m (aWindow r) m
-    unfolding answer next
-    window-absent id {a} {r} e h f = go (recordIn d b windows id 0) refl e
-      where
-        go : (x : Option Body) → recordIn d b windows id 0 ≡ x → a ≡ windowAnswer x → Stepped (window id) m (aWindow r) m
-        go none y e = looks (window id) refl (ap aWindow f ∙ rw (sym (window-is id) ∙ y))
-        go (some z) y e = absurd (h (ap (λ (a : WindowAnswer). a .number) e))
+refused-view : {c : Call} {want : Want} → Asks c want → (v : View) {n : ℕ} → n ≡ seekNumber want v → (n ≡ 0 → ⊥) → answerView c v ≡ refuse n
+unfolding answerView seekNumber
+refused-view a short e h = rw e
+refused-view (a-window id) unformed e h = rw e
+refused-view (an-icon x y) unformed e h = rw e
+refused-view (a-cell cache entry) unformed e h = rw e
+refused-view the-desktop unformed e h = rw e
+refused-view {want = want} a (formed s) e h =
+    let n = not-listed (listedIn want (directory (present s))) e h in
+    refused-on a s (n .0) ∙ ap refuse (sym (n .1))
 
-    pub window-found : (id : ℕ) {a : WindowAnswer} {g : Reply} → a ≡ windowAnswer (recordIn d b windows id 0) → a .number ≡ 0 → g ≡ granted
-        → Stepped (window id) m (aWindow (record { reply = g; found = a .found })) m
-    unfolding answer next
-    window-found id {a} {g} e h f = go (recordIn d b windows id 0) refl e
-      where
-        go : (x : Option Body) → recordIn d b windows id 0 ≡ x → a ≡ windowAnswer x
-            → Stepped (window id) m (aWindow (record { reply = g; found = a .found })) m
-        go none y e = absurd (omega (arith, h, ap (λ (a : WindowAnswer). a .number) e))
-        go (some z) y e =
-            let s : present (stateOf m) .records windows id 0 ≡ some z = sym (window-is id) ∙ y in
-            let v : a .found ≡ windowOf z = ap (λ (a : WindowAnswer). a .found) e in
-            let q : g ≡ record { number = 0; count = length (stateOf m .log); bytes = bytesIn (stateOf m .log) } = f ∙ granted-is in
-            looks (window id) refl (rw (v, q, s))
+-- the number of a cell, as the code made it
+pub cell-sought : (mem : Memory) {w : Sought} {m : List ℕ} {k n : ℕ} → k ≡ n → Seeks (Cell k) mem w m → Seeks (Cell n) mem w m
+cell-sought mem {w} {m} e s = subst (λ (n : ℕ). Seeks (Cell n) mem w m) e s
 
-    -- ---- a notification icon
+-- a granted lookup's answer
+abbrev pub grantOf : Sought → Given → Answer
+grantOf w g = record { number = 0; count = w .count; bytes = w .end - 2; given = g }
 
-    notification-is : (x y : ℕ) → recordIn d b notifications x y ≡ present (stateOf m) .records notifications x y
-    notification-is x y = unfold decode in ap (λ (t : Table). t .records notifications x y) table-is
+module _ {c : Call} {want : Want} (a : Asks c want) (mem : Memory) (w : Sought) (m : List ℕ) (s : Seeks want mem w m) where
+  pub refuses : (w .number ≡ 0 → ⊥) → answerView c (viewOf mem) ≡ refuse (w .number)
+  refuses h = refused-view a (viewOf mem) (s .number) h
 
-    pub notification-absent : (x y : ℕ) {a : NotificationAnswer} {r : NotificationReply} → a ≡ notificationAnswer (recordIn d b notifications x y)
-        → (a .number ≡ 0 → ⊥) → r ≡ notificationReply (refuse 9) → Stepped (notification x y) m (aNotification r) m
-    unfolding answer next
-    notification-absent i j {a} {r} e h f = go (recordIn d b notifications i j) refl e
-      where
-        go : (x : Option Body) → recordIn d b notifications i j ≡ x → a ≡ notificationAnswer x → Stepped (notification i j) m (aNotification r) m
-        go none y e = looks (notification i j) refl (ap aNotification f ∙ rw (sym (notification-is i j) ∙ y))
-        go (some z) y e = absurd (h (ap (λ (a : NotificationAnswer). a .number) e))
+  module _ (zero : w .number ≡ 0) where
+    has : Has want mem w m
+    has = s .found zero
 
-    pub notification-found : (x y : ℕ) {a : NotificationAnswer} {g : Reply} → a ≡ notificationAnswer (recordIn d b notifications x y) → a .number ≡ 0
-        → g ≡ granted → Stepped (notification x y) m (aNotification (record { reply = g; found = a .found })) m
-    unfolding answer next
-    notification-found i j {a} {g} e h f = go (recordIn d b notifications i j) refl e
-      where
-        go : (x : Option Body) → recordIn d b notifications i j ≡ x → a ≡ notificationAnswer x
-            → Stepped (notification i j) m (aNotification (record { reply = g; found = a .found })) m
-        go none y e = absurd (omega (arith, h, ap (λ (a : NotificationAnswer). a .number) e))
-        go (some z) y e =
-            let s : present (stateOf m) .records notifications i j ≡ some z = sym (notification-is i j) ∙ y in
-            let v : a .found ≡ notificationOf z = ap (λ (a : NotificationAnswer). a .found) e in
-            let q : g ≡ record { number = 0; count = length (stateOf m .log); bytes = bytesIn (stateOf m .log) } = f ∙ granted-is in
-            looks (notification i j) refl (rw (v, q, s))
+    held : Held c want (has .state) m
+    held = held-on a (has .state) m (has .listed) (has .holds)
 
-    -- ---- a cell
+    pub in-sets : inSets want m ≡ true
+    in-sets = held .sets
 
-    cell-is : (cache entry : ℕ) → L.cellAsked (cellIn d c) cache entry ≡ cellAsked (present (stateOf m)) cache entry
-    cell-is cache entry = unfold decode in ap (λ (t : Table). cellAsked t cache entry) table-is
+    -- what a grant asks
+    pub grant-asks : (w .count ≤ 128) × (2 ≤ w .end) × (w .end ≤ 32770)
+    grant-asks = (has .few, has .low, has .high)
 
-    pub cell-absent : (cache entry : ℕ) {a : CellAnswer} {r : CellReply} → a ≡ cellAnswer (L.cellAsked (cellIn d c) cache entry) → (a .number ≡ 0 → ⊥)
-        → r ≡ cellReply (refuse 9) → Stepped (cell cache entry) m (aCell r) m
-    unfolding answer next
-    cell-absent i j {a} {r} e h f = go (L.cellAsked (cellIn d c) i j) refl e
-      where
-        go : (x : Option (List ℕ)) → L.cellAsked (cellIn d c) i j ≡ x → a ≡ cellAnswer x → Stepped (cell i j) m (aCell r) m
-        go none y e = looks (cell i j) refl (ap aCell f ∙ rw (sym (cell-is i j) ∙ y))
-        go (some z) y e = absurd (h (ap (λ (a : CellAnswer). a .number) e))
+    pub grants : answerView c (viewOf mem) ≡ grantOf w (givenIn want m)
+    unfolding answerView
+    grants =
+        let b : bytesIn (has .state .log) ≡ w .end - 2 = omega (arith, has .end) in
+        ap (answerView c) (has .is) ∙ held .answers ∙ rw (← (has .count), b)
 
-    pub cell-found : (cache entry : ℕ) {a : CellAnswer} {g : Reply} → a ≡ cellAnswer (L.cellAsked (cellIn d c) cache entry) → a .number ≡ 0 → g ≡ granted
-        → Stepped (cell cache entry) m (aCell (record { reply = g; found = a .picture })) m
-    unfolding answer next
-    cell-found i j {a} {g} e h f = go (L.cellAsked (cellIn d c) i j) refl e
-      where
-        go : (x : Option (List ℕ)) → L.cellAsked (cellIn d c) i j ≡ x → a ≡ cellAnswer x
-            → Stepped (cell i j) m (aCell (record { reply = g; found = a .picture })) m
-        go none y e = absurd (omega (arith, h, ap (λ (a : CellAnswer). a .number) e))
-        go (some z) y e =
-            let s : cellAsked (present (stateOf m)) i j ≡ some z = sym (cell-is i j) ∙ y in
-            let v : a .picture ≡ pictureView z = ap (λ (a : CellAnswer). a .picture) e in
-            let q : g ≡ record { number = 0; count = length (stateOf m .log); bytes = bytesIn (stateOf m .log) } = f ∙ granted-is in
-            looks (cell i j) refl (rw (v, q, s))
+  -- ---- what the typed lookups state
 
-    -- ---- the desktop state
+  pub look-refused : {r : Shown} → (w .number ≡ 0 → ⊥) → r ≡ shown c (refuse (w .number)) → Stepped c mem r mem
+  look-refused h e = stays c mem (viewOf mem) refl (e ∙ ap (shown c) (sym (refuses h))) (same-next a (viewOf mem))
 
-    pub desktop-found : {a : DesktopRecord} {g : Reply} → a ≡ desktopOf (bodyOf desktopFields (slotOf b 48)) → g ≡ granted
-        → Stepped desktop m (aDesktop (record { reply = g; found = a })) m
-    unfolding answer next
-    desktop-found {a} {g} e f =
-        let s : bodyOf desktopFields (slotOf b 48) ≡ present (stateOf m) .desktop = unfold decode in ap (λ (t : Table). t .desktop) table-is in
-        let v : a ≡ desktopOf (present (stateOf m) .desktop) = e ∙ ap desktopOf s in
-        let q : g ≡ record { number = 0; count = length (stateOf m .log); bytes = bytesIn (stateOf m .log) } = f ∙ granted-is in
-        looks desktop refl (rw (v, q))
+  look-found : {r : Shown} → w .number ≡ 0 → r ≡ shown c (grantOf w (givenIn want m)) → Stepped c mem r mem
+  look-found z e = stays c mem (viewOf mem) refl (e ∙ ap (shown c) (sym (grants z))) (same-next a (viewOf mem))
+
+module _ (mem : Memory) (w : Sought) (m : List ℕ) {g : Reply} (granted : g ≡ record { number = 0; count = w .count; bytes = w .end - 2 }) (zero : w .number ≡ 0) where
+  pub window-found : (id : ℕ) {f : WindowRecord} → Seeks (Window id) mem w m → f ≡ windowOf (bodyOf windowFields m)
+      → Stepped (window id) mem (aWindow (record { reply = g; found = f })) mem
+  window-found id s e = look-found (a-window id) mem w m s zero (rw (granted, e))
+
+  pub notification-found : (x y : ℕ) {f : NotificationRecord} → Seeks (Notification x y) mem w m → f ≡ notificationOf (bodyOf notificationFields m)
+      → Stepped (notification x y) mem (aNotification (record { reply = g; found = f })) mem
+  notification-found x y s e = look-found (an-icon x y) mem w m s zero (rw (granted, e))
+
+  pub cell-found : (cache entry : ℕ) {f : Picture} → Seeks (Cell (cellWanted cache entry)) mem w m → f ≡ pictureView (pictureOf m)
+      → Stepped (cell cache entry) mem (aCell (record { reply = g; found = f })) mem
+  cell-found cache entry s e = look-found (a-cell cache entry) mem w m s zero (rw (granted, e))
+
+  pub desktop-found : {f : DesktopRecord} → Seeks Desktop mem w m → f ≡ desktopOf (bodyOf desktopFields m)
+      → Stepped desktop mem (aDesktop (record { reply = g; found = f })) mem
+  desktop-found s e = look-found the-desktop mem w m s zero (rw (granted, e))

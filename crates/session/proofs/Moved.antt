@@ -66,10 +66,10 @@ either-false false b e = (refl, e)
 either-false true b e = let z : _≡_ {A = ℕ} 0 1 = cc in absurd (omega arith)
 
 module _ (m : Memory) (t : tooShort m ≡ false) (w : Standing) (d : List ℕ) (s : Stands m w d) where
-  log-count : length (stateOf m .log) ≡ w .count
+  pub log-count : length (stateOf m .log) ≡ w .count
   log-count = unfold stateOf logOf in length-orders (countOf (m .journal)) 2 (m .journal) ∙ sym (s .count)
 
-  log-bytes : bytesIn (stateOf m .log) ≡ w .end - 2
+  pub log-bytes : bytesIn (stateOf m .log) ≡ w .end - 2
   log-bytes =
       unfold stateOf logOf in
       bytes-orders (countOf (m .journal)) 2 (m .journal) (formed-has m (s .rule) .within) (omega arith) (long-has m t .journal)

@@ -1,2 +1,4 @@
 pub mod Calls
 pub mod Replies
+pub mod Seek
+pub mod Handouts

@@ -1,9 +1,7 @@
 -- Answers as the entry points give them, and what each entry point states. Assumes nothing.
-use Prim.Native.Nat.{ℕ, _≤_}
+use Prim.Native.Nat.{ℕ}
 use mathlib.Core.Path.{_≡_}
-use mathlib.Core.Bool.{Bool, true, false, not}
 use mathlib.Core.List.{List}
-use Rattle.wire.specs.Tests.{either}
 use lib.ListN.{replicate}
 use Rattle.body.specs.Bodies.{Body, windowFields, notificationFields, desktopFields, emptyBody}
 use Rattle.view.specs.Views.{windowOf, notificationOf, desktopOf, pictureView}
@@ -12,9 +10,7 @@ use Rattle.session.specs.declared.WindowReply.{WindowReply}
 use Rattle.session.specs.declared.NotificationReply.{NotificationReply}
 use Rattle.session.specs.declared.CellReply.{CellReply}
 use Rattle.session.specs.declared.DesktopReply.{DesktopReply}
-use Rattle.journal.specs.declared.Standing.{Standing}
-use Rattle.journal.specs.Journal.{countOf, endFrom}
-use Rattle.journal.specs.View.{Memory, tooShort, wellFormed, viewOf}
+use Rattle.journal.specs.View.{Memory, viewOf}
 use Rattle.session.specs.Calls.{Call, reset, deliver, checkpoint, undo, window, notification, cell, desktop, Given, nothing, body, picture, Answer, answerView, nextView}
 
 abbrev pub replyOf : Answer → Reply
@@ -66,10 +62,3 @@ pub record Stepped (c : Call) (m : Memory) (r : Shown) (m' : Memory) : Type 0 wh
   pub says : r ≡ shown c (answerView c (viewOf m))
   pub holds : viewOf m' ≡ nextView c (viewOf m)
   pub kept : (answerView c (viewOf m) .number ≡ 0 → ⊥) → m' ≡ m
-
--- for the lookups: the memory is refused with 1 where end is 0, and else is known to be well formed
-pub record Knows (m : Memory) (w : Standing) : Type 0 where
-  pub refused : w .end ≡ 0 → either (tooShort m) (not (wellFormed m)) ≡ true
-  pub formed : (w .end ≡ 0 → ⊥) → (tooShort m ≡ false) × (wellFormed m ≡ true)
-  pub count : (w .end ≡ 0 → ⊥) → (w .count ≡ countOf (m .journal)) × (w .count ≤ 128)
-  pub end : (w .end ≡ 0 → ⊥) → (w .end ≡ endFrom (w .count) 2 (m .journal)) × (2 ≤ w .end) × (w .end ≤ 32770)

@@ -6,8 +6,10 @@ use view::Picture;
 use view::WindowRecord;
 
 pub mod calls;
+pub mod handouts;
 pub mod lookups;
 mod replies;
+mod seek;
 
 // The needed bytes of the four parts.
 pub const DIRECTORY: usize = directory::slots::LENGTH;
@@ -23,6 +25,13 @@ pub struct Reply {
     pub number: u8,
     pub count: u32,
     pub bytes: u32,
+}
+
+// What a lookup finds: its number and, where it is 0, how many orders stand and where they end in the journal.
+pub struct Sought {
+    pub number: u8,
+    pub count: usize,
+    pub end: usize,
 }
 
 // What a lookup hands out; an empty record where it is refused.

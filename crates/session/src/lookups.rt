@@ -1,56 +1,19 @@
-// The lookups, each on a copy of the table at the mark to which the journal's orders are applied.
+// The lookups: what is wanted is followed from the mark through the journal's orders, and handed out as a typed record.
 ghost use mathlib.Core.Path.{_≡_};
-ghost use mathlib.Core.Bool.{true};
-ghost use Prim.Native.Nat.{_≤_};
-ghost use lib.ListN.{length};
-ghost use Rattle.table.specs.Memory.{soundTable};
-ghost use Rattle.journal.specs.Journal.{withinFrom};
 ghost use Rattle.journal.specs.View.{memory};
-ghost use Rattle.journal.specs.Standing.{Applied};
 ghost use Rattle.session.specs.Calls.{window, notification, cell, desktop, refuse};
-ghost use Rattle.session.specs.Replies.{windowReply, notificationReply, cellReply, desktopReply, aWindow, aNotification, aCell, aDesktop, Stepped, Knows};
+ghost use Rattle.session.specs.Replies.{windowReply, notificationReply, cellReply, desktopReply, aWindow, aNotification, aCell, aDesktop, Stepped};
 use crate::CellReply;
 use crate::DesktopReply;
 use crate::NotificationReply;
 use crate::WindowReply;
 use crate::replies::granted;
 use crate::replies::refused;
+use crate::seek::cell_wanted;
+use crate::seek::seek;
 use ids::NotifyIconId;
 use ids::WindowId;
-use journal::Standing;
-
-// Copies the table at the mark and applies the journal's first count orders to the copy.
-fn present(
-    dir: &[u8],
-    bodies: &[u8],
-    cells: &[u8],
-    journal: &[u8],
-    count: usize,
-    d: &mut [u8],
-    b: &mut [u8],
-    c: &mut [u8],
-)
-    requires { ⌜ soundTable (now dir) (now bodies) (now cells) ≡ true ⌝ }
-    requires { ⌜ (32770 ≤ length (now journal)) × (withinFrom count 2 (now journal) ≡ true) ⌝ }
-    requires { ⌜ (length (now d) ≡ 444) × (length (now b) ≡ 44884) × (length (now c) ≡ 50880) ⌝ }
-    ensures { λ _. ⌜ Applied (now (dir .entry)) (now (bodies .entry)) (now (cells .entry)) (now (journal .entry)) count (now (d .exit)) (now (b .exit)) (now (c .exit)) ⌝ }
-{
-    wire::copy_part(d, 0, dir, 0, 444);
-    wire::copy_part(b, 0, bodies, 0, 44884);
-    wire::copy_part(c, 0, cells, 0, 50880);
-    journal::apply(d, b, c, journal, count);
-}
-
-// What a journal holds; end 0 where the memory is too short or not well formed.
-fn standing_in(dir: &[u8], bodies: &[u8], cells: &[u8], journal: &[u8]) -> Standing
-    ensures { λ r. ⌜ Knows (memory (now (dir .entry)) (now (bodies .entry)) (now (cells .entry)) (now (journal .entry))) r ⌝ }
-{
-    if journal::too_short(dir, bodies, cells, journal) {
-        return Standing { count: 0, end: 0 };
-    }
-    let mut d = [0u8; 444];
-    journal::establish(dir, bodies, cells, journal, &mut d)
-}
+use table::Want;
 
 fn no_window(number: u8) -> WindowReply
     ensures { λ r. ⌜ r ≡ windowReply (refuse number) ⌝ }
@@ -63,20 +26,13 @@ fn no_window(number: u8) -> WindowReply
 pub fn window(dir: &[u8], bodies: &[u8], cells: &[u8], journal: &[u8], id: WindowId) -> WindowReply
     ensures { λ r. ⌜ Stepped (window (id .id)) (memory (now (dir .entry)) (now (bodies .entry)) (now (cells .entry)) (now (journal .entry))) (aWindow r) (memory (now (dir .entry)) (now (bodies .entry)) (now (cells .entry)) (now (journal .entry))) ⌝ }
 {
-    let w = standing_in(dir, bodies, cells, journal);
-    if w.end == 0 {
-        return no_window(1);
-    }
-    let mut d = [0u8; 444];
-    let mut b = [0u8; 44884];
-    let mut c = [0u8; 50880];
-    present(dir, bodies, cells, journal, w.count, &mut d, &mut b, &mut c);
-    let a = lookup::window(&d, &b, id);
-    if a.number != 0 {
-        return no_window(9);
+    let mut m = [0u8; 916];
+    let w = seek(dir, bodies, cells, journal, Want::Window(id.id), &mut m);
+    if w.number != 0 {
+        return no_window(w.number);
     }
     let reply = granted(w.count, w.end);
-    let found = a.found;
+    let found = view::records::window_in(&m);
     WindowReply { reply, found }
 }
 
@@ -98,20 +54,20 @@ pub fn notification(
 ) -> NotificationReply
     ensures { λ r. ⌜ Stepped (notification (id .id) (icon .id)) (memory (now (dir .entry)) (now (bodies .entry)) (now (cells .entry)) (now (journal .entry))) (aNotification r) (memory (now (dir .entry)) (now (bodies .entry)) (now (cells .entry)) (now (journal .entry))) ⌝ }
 {
-    let w = standing_in(dir, bodies, cells, journal);
-    if w.end == 0 {
-        return no_notification(1);
-    }
-    let mut d = [0u8; 444];
-    let mut b = [0u8; 44884];
-    let mut c = [0u8; 50880];
-    present(dir, bodies, cells, journal, w.count, &mut d, &mut b, &mut c);
-    let a = lookup::notification(&d, &b, id, icon);
-    if a.number != 0 {
-        return no_notification(9);
+    let mut m = [0u8; 916];
+    let w = seek(
+        dir,
+        bodies,
+        cells,
+        journal,
+        Want::Notification(id.id, icon.id),
+        &mut m,
+    );
+    if w.number != 0 {
+        return no_notification(w.number);
     }
     let reply = granted(w.count, w.end);
-    let found = a.found;
+    let found = view::records::notification_in(&m);
     NotificationReply { reply, found }
 }
 
@@ -133,20 +89,14 @@ pub fn cell(
 ) -> CellReply
     ensures { λ r. ⌜ Stepped (cell cache entry) (memory (now (dir .entry)) (now (bodies .entry)) (now (cells .entry)) (now (journal .entry))) (aCell r) (memory (now (dir .entry)) (now (bodies .entry)) (now (cells .entry)) (now (journal .entry))) ⌝ }
 {
-    let w = standing_in(dir, bodies, cells, journal);
-    if w.end == 0 {
-        return no_cell(1);
-    }
-    let mut d = [0u8; 444];
-    let mut b = [0u8; 44884];
-    let mut c = [0u8; 50880];
-    present(dir, bodies, cells, journal, w.count, &mut d, &mut b, &mut c);
-    let a = lookup::cell(&d, &c, cache, entry);
-    if a.number != 0 {
-        return no_cell(9);
+    let k = cell_wanted(cache, entry);
+    let mut m = [0u8; 4240];
+    let w = seek(dir, bodies, cells, journal, Want::Cell(k), &mut m);
+    if w.number != 0 {
+        return no_cell(w.number);
     }
     let reply = granted(w.count, w.end);
-    let found = a.picture;
+    let found = view::records::picture_in(&m);
     CellReply { reply, found }
 }
 
@@ -161,15 +111,12 @@ fn no_desktop(number: u8) -> DesktopReply
 pub fn desktop(dir: &[u8], bodies: &[u8], cells: &[u8], journal: &[u8]) -> DesktopReply
     ensures { λ r. ⌜ Stepped desktop (memory (now (dir .entry)) (now (bodies .entry)) (now (cells .entry)) (now (journal .entry))) (aDesktop r) (memory (now (dir .entry)) (now (bodies .entry)) (now (cells .entry)) (now (journal .entry))) ⌝ }
 {
-    let w = standing_in(dir, bodies, cells, journal);
-    if w.end == 0 {
-        return no_desktop(1);
+    let mut m = [0u8; 916];
+    let w = seek(dir, bodies, cells, journal, Want::Desktop, &mut m);
+    if w.number != 0 {
+        return no_desktop(w.number);
     }
-    let mut d = [0u8; 444];
-    let mut b = [0u8; 44884];
-    let mut c = [0u8; 50880];
-    present(dir, bodies, cells, journal, w.count, &mut d, &mut b, &mut c);
-    let found = lookup::desktop(&b);
     let reply = granted(w.count, w.end);
+    let found = view::records::desktop_in(&m);
     DesktopReply { reply, found }
 }

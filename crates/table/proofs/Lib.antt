@@ -6,3 +6,7 @@ pub mod Copied
 pub mod Delivered
 pub mod Promises
 pub mod Ways
+pub mod Begun
+pub mod Followed
+pub mod Following
+pub mod FollowWays

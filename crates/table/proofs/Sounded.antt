@@ -56,7 +56,7 @@ unless-is : (t b : Bool) → (t ≡ true → b ≡ true) → pick (not t) true b
 unless-is true b h = h refl
 unless-is false b h = refl
 
-below-cells : (dir : List ℕ) (c : ℕ) → filledAt dir c ≡ true → c < 12
+pub below-cells : (dir : List ℕ) (c : ℕ) → filledAt dir c ≡ true → c < 12
 unfolding filledAt
 below-cells dir c e = ltb-true c 12 (both-left (ltb c 12) _ e)
 

@@ -23,10 +23,10 @@ use Rattle.cache.specs.Cells.{cellOf, cellOk, fillOf}
 use Rattle.table.specs.Changes.{markOf, slotAfter, bodiesAfter, cellsAfter, desktopSlot, IconFits}
 use Rattle.table.specs.Memory.{recordOk, windowOk, notificationOk, filledOk, soundTable}
 
-lacks : (flags mask : ℕ) → bitAnd flags mask ≡ 0 → has flags mask ≡ false
+pub lacks : (flags mask : ℕ) → bitAnd flags mask ≡ 0 → has flags mask ≡ false
 lacks flags mask h = rw (eq-eqb (bitAnd flags mask) 0 h)
 
-holds : (flags mask : ℕ) → (bitAnd flags mask ≡ 0 → ⊥) → has flags mask ≡ true
+pub holds : (flags mask : ℕ) → (bitAnd flags mask ≡ 0 → ⊥) → has flags mask ≡ true
 holds flags mask h = rw (ne-eqb (bitAnd flags mask) 0 h)
 
 -- ---- a slot

@@ -21,7 +21,7 @@ fn pointer(s: &[u8], icon: u32) -> u8
 }
 
 // Changes a slot of the bodies.
-fn change_slot(
+pub fn change_slot(
     slot: &mut [u8],
     s: &[u8],
     c: Change,
@@ -80,7 +80,7 @@ fn change_cell(cells: &mut [u8], s: &[u8], c: Change)
 }
 
 // The mark of a window's icon: small, or big.
-fn window_mark(flags: u32) -> usize
+pub fn window_mark(flags: u32) -> usize
     ensures { λ r. ⌜ (r ≡ markOf flags) × (r < 2) ⌝ }
 {
     if flags & 0x0000_2000 != 0 {
@@ -115,7 +115,7 @@ pub fn notification(dir: &mut [u8], bodies: &mut [u8], cells: &mut [u8], s: &[u8
 }
 
 // Changes the slot of the desktop state.
-fn desktop_slot(slot: &mut [u8], s: &[u8], flags: u32)
+pub fn desktop_slot(slot: &mut [u8], s: &[u8], flags: u32)
     requires { ⌜ (length (now slot) ≡ 916) × (7 ≤ length (now s)) ⌝ }
     requires { ⌜ EndsWell desktopFields flags (now s) 7 ⌝ }
     ensures { λ _. ⌜ now (slot .exit) ≡ desktopSlot flags (now (s .entry)) (now (slot .entry)) ⌝ }

@@ -9,10 +9,19 @@ ghost use Rattle.table.specs.Outcome.{Emptied, Delivered};
 use directory::Plan;
 
 mod changes;
+pub mod follow;
 pub mod sound;
 
 // The bytes of the bodies of 48 records and of the desktop state.
 pub const BODIES: usize = 44884;
+
+// What is followed: a window by its id, a notification icon by its two ids, a cell by its number, or the desktop state.
+pub enum Want {
+    Window(u32),
+    Notification(u32, u32),
+    Cell(usize),
+    Desktop,
+}
 
 // Empties a table: no record, no filled cell, and a desktop state of zeros. The cells' bytes stay.
 pub fn empty(dir: &mut [u8], bodies: &mut [u8], cells: &[u8])

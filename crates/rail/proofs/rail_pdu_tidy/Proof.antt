@@ -27,7 +27,7 @@ enum-known-done c = search needs
 
 -- src/lib.rt:283:38
 cast-result : tie.Need-cast-result
-cast-result c = let small = bytes-small (now (c .before .before .before .before .before .before .before .before .before .before .before .before .before .args .message)) (now (c .before .before .before .before .before .before .before .before .before .before .before .before .before .args .out)) _ _ _ _ (c .before .before .before .before .before .before .before .before .before .before .read-pdu .ensures) (c .before .before .before .before .before .before .before .before .answer .given .1) (c .before .before .before .before .before .write-pdu .ensures) _ (c .before .done .given .1) in omega arith
+cast-result c = let small = bytes-small _ _ _ _ _ (c .before .before .before .before .before .write-pdu .ensures) _ (c .before .done .given .1) in omega arith
 
 -- src/lib.rt:284:34
 enum-known-done-2 : tie.Need-enum-known-done-2

@@ -1,21 +1,14 @@
 use borrow.Author.Needs.{needs}
 use Rattle.session.proofs.lookups.no_cell.Statement.{statement}
 use Rattle.session.proofs.lookups.no_cell.Tie as tie
-use Rattle.session.proofs.lookups.no_cell.Reads as reads
-use Rattle.session.proofs.lookups.no_cell.Lts as lts
-use Rattle.session.proofs.replies.refused.Reads as refused-reads
-use Rattle.view.proofs.records.no_picture.Reads as no-picture-reads
 use Rattle.session.proofs.LookWays.{empty-cell}
 
--- src/lookups.rt:121:9
 refused-requires : tie.Need-refused-requires
 refused-requires c κs = search needs
 
--- src/lookups.rt:122:9
 no-picture-requires : tie.Need-no-picture-requires
 no-picture-requires c κs = search needs
 
--- src/lookups.rt:118:1
 returns : tie.Need-returns
 returns c = empty-cell _ (c .before .refused .ensures) (c .no-picture .ensures)
 

@@ -1,0 +1,197 @@
+/* The terminal's end of RDP Remote Programs (RAIL): the library librail.a for C11 and C++17.
+ *
+ * The library keeps the table that a server's windowing orders describe (32 windows, 16 notification icons, an icon cache of
+ * 2 x 6 cells and the desktop state) with a history that can be stepped back, and reads and writes the control messages of
+ * MS-RDPERP. An order or a message is used whole or refused whole; a refusal changes no byte of what was lent.
+ *
+ * Rules for the caller
+ *   Pointers   None may be NULL, also where the length is 0. Bytes need no alignment, words that of uint32_t.
+ *   Overlap    No two parts given to one call may overlap where one of them is written.
+ *   Lifetimes  Nothing is kept: what a call was given may be freed or moved once it has returned.
+ *   Threads    The library has no state of its own and allocates nothing. Calls on different memory may run in parallel, and so
+ *              may lookups on the same memory. A call that writes has its memory for itself: serialize those.
+ *   Stack      A call takes less than 16 KB of stack.
+ *   State      Its bytes may be stored and copied, but only rail_ calls should write them. Whatever they hold, every call
+ *              ends with a number of its list: memory that describes no state meets RAIL_BAD_STATE, and rail_reset mends it.
+ *              Damage that happens to describe another state is not seen.
+ *
+ * What is proved of each call (docs/STATEMENTS.md) speaks of the library's source. These are not proved: this header with its
+ * macros and inline functions (tests/c tries them), the compiler's back end, the linker, and that the rules above are kept.
+ */
+#ifndef RAIL_H
+#define RAIL_H
+
+#include <stddef.h>
+#include <stdint.h>
+
+/* ---- Measures, in bytes. A longer part is fine; what lies past the measure is never changed. rail_size tells them too. */
+
+#define RAIL_DIRECTORY_SIZE 444   /* state memory, part 0 */
+#define RAIL_BODIES_SIZE 44884    /* part 1 */
+#define RAIL_CELLS_SIZE 50880     /* part 2 */
+#define RAIL_JOURNAL_SIZE 32770   /* part 3 */
+#define RAIL_WINDOW_SIZE 850      /* records handed out by lookups: rail/records.h has their fields */
+#define RAIL_NOTIFICATION_SIZE 916
+#define RAIL_DESKTOP_SIZE 263
+#define RAIL_PICTURE_SIZE 4235
+
+/* What rail_size is asked for. */
+enum rail_measure {
+    RAIL_MEASURE_DIRECTORY = 0,
+    RAIL_MEASURE_BODIES = 1,
+    RAIL_MEASURE_CELLS = 2,
+    RAIL_MEASURE_JOURNAL = 3,
+    RAIL_MEASURE_WINDOW = 4,
+    RAIL_MEASURE_NOTIFICATION = 5,
+    RAIL_MEASURE_DESKTOP = 6,
+    RAIL_MEASURE_PICTURE = 7
+};
+
+/* ---- Limits of the table and of its history. */
+
+#define RAIL_WINDOWS_MAX 32
+#define RAIL_NOTIFICATIONS_MAX 16
+#define RAIL_ICON_CACHES 2        /* to be announced as NumIconCaches */
+#define RAIL_ICON_CACHE_ENTRIES 6 /* to be announced as NumIconCacheEntries */
+#define RAIL_HISTORY_ORDERS_MAX 128
+#define RAIL_HISTORY_BYTES_MAX 32768
+#define RAIL_TITLE_MAX 520        /* bytes, as the three below */
+#define RAIL_TOOL_TIP_MAX 256
+#define RAIL_INFO_TIP_TEXT_MAX 510
+#define RAIL_INFO_TIP_TITLE_MAX 126
+#define RAIL_RECTANGLES_MAX 16    /* of each of a window's two lists */
+#define RAIL_WINDOW_IDS_MAX 64    /* of the z-order */
+#define RAIL_ICON_SIDE_MAX 32
+#define RAIL_ICON_BITS_MAX 4224   /* BitsMask, ColorTable and BitsColor together */
+
+/* ---- The number of an answer. Of all conditions that hold the first in this list is given. */
+
+enum rail_numbers {
+    RAIL_DONE = 0,
+    RAIL_BAD_STATE = 1,        /* lent state memory is shorter than needed, or not well formed */
+    RAIL_TOO_SHORT = 2,        /* fewer than 4 bytes (message) or 7 bytes (order) */
+    RAIL_LENGTH_DIFFERS = 3,   /* declared length differs from the bytes given */
+    RAIL_UNKNOWN_TYPE = 4,     /* unknown message type; first order byte is not 2E; not exactly one of the type bits */
+    RAIL_UNKNOWN_FLAG = 5,     /* order has a flag bit outside its kind's closed list */
+    RAIL_FLAGS_CLASH = 6,      /* order flags clash */
+    RAIL_FIELDS_MISFIT = 7,    /* the fields do not fill the declared length exactly */
+    RAIL_BAD_VALUE = 8,        /* a field's number is outside its allowed set */
+    RAIL_UNKNOWN_ID = 9,       /* the id must be in the table and is not, or must not be and is */
+    RAIL_TABLE_FULL = 10,      /* a new record is asked for and its table is full */
+    RAIL_NO_CELL = 11,         /* icon with cache id FF, or cached icon naming an empty cell */
+    RAIL_HISTORY_FULL = 12,    /* history room would be passed: rail_checkpoint makes room */
+    RAIL_TOO_MANY_STEPS = 13,  /* more steps back than stand after the mark */
+    RAIL_OUTPUT_TOO_SMALL = 14 /* output memory too small */
+};
+
+/* ---- Answers. A state call: the number, and where it is 0 how many orders stand after the mark and their bytes in all. */
+
+static inline uint32_t rail_number(uint32_t answer) { return answer & 255u; }
+static inline uint32_t rail_count(uint32_t answer) { return answer >> 8 & 255u; }
+static inline uint32_t rail_bytes(uint32_t answer) { return answer >> 16; }
+
+/* rail_pdu_tidy and rail_pdu_write: the number, and where it is 0 how many bytes were written. */
+static inline uint32_t rail_written_number(uint32_t answer) { return answer >> 16; }
+static inline uint32_t rail_written_bytes(uint32_t answer) { return answer & 65535u; }
+
+/* The condition of a number, in words. */
+static inline const char *rail_number_words(uint32_t number) {
+    static const char *const words[] = {
+        "done",
+        "lent state memory is shorter than needed, or not well formed",
+        "fewer than 4 bytes (PDU) or 7 bytes (order)",
+        "declared length differs from the bytes given",
+        "unknown PDU type; or first order byte isn't 2E; or not the case that exactly one of the three type bits is set",
+        "order has a flag bit outside its kind's closed list",
+        "order flags clash",
+        "the fields don't fill the declared length exactly",
+        "a field's number is outside its allowed set",
+        "the id must be in the table and isn't, or must not be and is",
+        "a new record is asked for and its table is full",
+        "icon with cache id FF, or cached icon naming an empty cell",
+        "history room would be passed",
+        "more steps back than stand after the mark",
+        "output memory too small",
+    };
+    return number < sizeof words / sizeof words[0] ? words[number] : "no number of this library";
+}
+
+/* ---- State calls. State memory is lent in four parts, always in this order. The table that it describes is the one at the mark
+ * with the orders since then applied in turn. A window is known by its id, a notification icon by the id of its window and its own;
+ * the two kinds of ids are separate, and one never serves for the other. */
+
+#ifdef __cplusplus
+extern "C" {
+#endif
+
+/* The measure `what` (enum rail_measure) in bytes, and 0 for any other number. */
+uint32_t rail_size(uint32_t what);
+
+/* Empties: no window, no icon, no filled cell, not hooked, not syncing, nothing after the mark. Takes memory with any contents.
+ * Refuses with 1, and only where a part is too short. */
+uint32_t rail_reset(uint8_t *directory, size_t directory_size, uint8_t *bodies, size_t bodies_size,
+                    const uint8_t *cells, size_t cells_size, uint8_t *journal, size_t journal_size);
+
+/* Delivers one windowing order as the server sends it, from its byte 2E on, cut to its OrderSize. Where it is granted the order
+ * stands after the mark, and the table has exactly its flagged fields changed. Refuses with 1 to 12. Only the journal is written. */
+uint32_t rail_deliver(const uint8_t *directory, size_t directory_size, const uint8_t *bodies, size_t bodies_size,
+                      const uint8_t *cells, size_t cells_size, uint8_t *journal, size_t journal_size,
+                      const uint8_t *order, size_t order_size);
+
+/* Sets the mark to the present table: nothing stands after it, all history room is free, and no step back goes over it.
+ * Refuses with 1. */
+uint32_t rail_checkpoint(uint8_t *directory, size_t directory_size, uint8_t *bodies, size_t bodies_size,
+                         uint8_t *cells, size_t cells_size, uint8_t *journal, size_t journal_size);
+
+/* Takes the last `steps` granted orders back; the table, its cells too, is as it was before them. 0 steps are granted and change
+ * nothing. Refuses with 1 and 13. Only the journal is written. */
+uint32_t rail_undo(const uint8_t *directory, size_t directory_size, const uint8_t *bodies, size_t bodies_size,
+                   const uint8_t *cells, size_t cells_size, uint8_t *journal, size_t journal_size, uint64_t steps);
+
+/* Lookups: the whole record as the present table has it, in the first RAIL_.._SIZE bytes of `out`; no other byte is written.
+ * Refuse with 1, with 9 where there is no such record (an absent id, an empty cell or one outside the caches; never for the
+ * desktop), and then with 14 where `out` is smaller than the record. */
+uint32_t rail_window(const uint8_t *directory, size_t directory_size, const uint8_t *bodies, size_t bodies_size,
+                     const uint8_t *cells, size_t cells_size, const uint8_t *journal, size_t journal_size,
+                     uint32_t window_id, uint8_t *out, size_t out_size);
+uint32_t rail_notification(const uint8_t *directory, size_t directory_size, const uint8_t *bodies, size_t bodies_size,
+                           const uint8_t *cells, size_t cells_size, const uint8_t *journal, size_t journal_size,
+                           uint32_t window_id, uint32_t notify_icon_id, uint8_t *out, size_t out_size);
+uint32_t rail_cell(const uint8_t *directory, size_t directory_size, const uint8_t *bodies, size_t bodies_size,
+                   const uint8_t *cells, size_t cells_size, const uint8_t *journal, size_t journal_size,
+                   uint8_t cache_id, uint16_t cache_entry, uint8_t *out, size_t out_size);
+uint32_t rail_desktop(const uint8_t *directory, size_t directory_size, const uint8_t *bodies, size_t bodies_size,
+                      const uint8_t *cells, size_t cells_size, const uint8_t *journal, size_t journal_size,
+                      uint8_t *out, size_t out_size);
+
+/* ---- Control messages, as 12 words: rail/messages.h has the words of each kind. */
+
+/* Reads one message, from its header on. The answer is the number; where it is 0 the words are those of the record. Refuses with
+ * 2, 3, 4, 7 and 8, and then no word is written. */
+uint32_t rail_pdu_read(const uint8_t *message, size_t message_size, uint32_t words[12]);
+
+/* Reads one message and writes it again, with Padding 0 and a nonzero IsMoveSizeStart 1. Refuses as rail_pdu_read does and with
+ * 14. A granted call writes exactly as many bytes of `out` as it answers. */
+uint32_t rail_pdu_tidy(const uint8_t *message, size_t message_size, uint8_t *out, size_t out_size);
+
+/* Writes the message of a record whose strings lie in `strings`. An Application ID of fewer than 520 bytes is filled with zeros.
+ * Refuses with 8 words that are no record (unknown type, a number too great for its field or outside its set, a nonzero word after
+ * the last, a string, also an empty one, that does not lie whole in `strings`), and then with 14. A granted call writes exactly as
+ * many bytes of `out` as it answers. What was written reads back as the same record, with the strings at their places in the
+ * message. */
+uint32_t rail_pdu_write(const uint32_t words[12], const uint8_t *strings, size_t strings_size, uint8_t *out, size_t out_size);
+
+#ifdef __cplusplus
+}
+#endif
+
+#include "rail/messages.h"
+#include "rail/records.h"
+#include "rail/state.h"
+
+/* The names of MS-RDPERP. Define this before the include where another header has them too. */
+#ifndef RAIL_NO_PROTOCOL_NAMES
+#include "rail/protocol.h"
+#endif
+
+#endif

@@ -1,0 +1,60 @@
+/* State memory of exactly the measure, and the state calls on it. 128,978 bytes: better static or from the heap than on a stack.
+ * Empty it with rail_state_reset before any other call. Included by rail.h. */
+#ifndef RAIL_STATE_H
+#define RAIL_STATE_H
+
+#include <stddef.h>
+#include <stdint.h>
+
+struct rail_state {
+    uint8_t directory[RAIL_DIRECTORY_SIZE];
+    uint8_t bodies[RAIL_BODIES_SIZE];
+    uint8_t cells[RAIL_CELLS_SIZE];
+    uint8_t journal[RAIL_JOURNAL_SIZE];
+};
+
+#define RAIL_STATE_PARTS(s)                                                                                       \
+    (s)->directory, sizeof(s)->directory, (s)->bodies, sizeof(s)->bodies, (s)->cells, sizeof(s)->cells,           \
+        (s)->journal, sizeof(s)->journal
+
+static inline uint32_t rail_state_reset(struct rail_state *s) {
+    return rail_reset(RAIL_STATE_PARTS(s));
+}
+
+/* `order` may be NULL where `order_size` is 0. */
+static inline uint32_t rail_state_deliver(struct rail_state *s, const uint8_t *order, size_t order_size) {
+    return rail_deliver(RAIL_STATE_PARTS(s), order_size != 0 ? order : s->directory, order_size);
+}
+
+static inline uint32_t rail_state_checkpoint(struct rail_state *s) {
+    return rail_checkpoint(RAIL_STATE_PARTS(s));
+}
+
+static inline uint32_t rail_state_undo(struct rail_state *s, uint64_t steps) {
+    return rail_undo(RAIL_STATE_PARTS(s), steps);
+}
+
+/* How many orders stand after the mark and their bytes; changes nothing. */
+static inline uint32_t rail_state_history(struct rail_state *s) {
+    return rail_undo(RAIL_STATE_PARTS(s), 0);
+}
+
+static inline uint32_t rail_state_window(const struct rail_state *s, uint32_t window_id, uint8_t out[RAIL_WINDOW_SIZE]) {
+    return rail_window(RAIL_STATE_PARTS(s), window_id, out, RAIL_WINDOW_SIZE);
+}
+
+static inline uint32_t rail_state_notification(const struct rail_state *s, uint32_t window_id, uint32_t notify_icon_id,
+                                               uint8_t out[RAIL_NOTIFICATION_SIZE]) {
+    return rail_notification(RAIL_STATE_PARTS(s), window_id, notify_icon_id, out, RAIL_NOTIFICATION_SIZE);
+}
+
+static inline uint32_t rail_state_cell(const struct rail_state *s, uint8_t cache_id, uint16_t cache_entry,
+                                       uint8_t out[RAIL_PICTURE_SIZE]) {
+    return rail_cell(RAIL_STATE_PARTS(s), cache_id, cache_entry, out, RAIL_PICTURE_SIZE);
+}
+
+static inline uint32_t rail_state_desktop(const struct rail_state *s, uint8_t out[RAIL_DESKTOP_SIZE]) {
+    return rail_desktop(RAIL_STATE_PARTS(s), out, RAIL_DESKTOP_SIZE);
+}
+
+#endif

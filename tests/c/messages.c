@@ -1,0 +1,358 @@
+/* Control messages: the 13 kinds by their words, read, written and refused. */
+#include "check.h"
+
+/* A kind: builds a message of it in `order`, and its words. */
+struct kind {
+    void (*build)(uint32_t *w);
+    int words;       /* how many it uses */
+    uint32_t narrow; /* bit i: word i is a field of fewer than 32 bits */
+};
+
+static void finish(void) {
+    order.at[2] = (uint8_t)(order.size & 255);
+    order.at[3] = (uint8_t)(order.size >> 8);
+}
+
+static void execute(uint32_t *w) {
+    begin_message(w[RAIL_WORD_TYPE] = TS_RAIL_ORDER_EXEC);
+    put16(w[RAIL_WORD_EXEC_FLAGS] = TS_RAIL_EXEC_FLAG_EXPAND_ARGUMENTS | TS_RAIL_EXEC_FLAG_EXPAND_WORKINGDIRECTORY);
+    put16(w[RAIL_WORD_EXEC_EXE_OR_FILE_LENGTH] = 20);
+    put16(w[RAIL_WORD_EXEC_WORKING_DIR_LENGTH] = 38);
+    put16(w[RAIL_WORD_EXEC_ARGUMENTS_LENGTH] = 24);
+    w[RAIL_WORD_EXEC_EXE_OR_FILE_AT] = (uint32_t)order.size;
+    w[RAIL_WORD_EXEC_WORKING_DIR_AT] = (uint32_t)order.size + 20;
+    w[RAIL_WORD_EXEC_ARGUMENTS_AT] = (uint32_t)order.size + 58;
+    put_run(82, 0x30);
+}
+
+static void activate(uint32_t *w) {
+    begin_message(w[RAIL_WORD_TYPE] = TS_RAIL_ORDER_ACTIVATE);
+    put32(w[RAIL_WORD_ACTIVATE_WINDOW_ID] = 0xF001014E);
+    put8(w[RAIL_WORD_ACTIVATE_ENABLED] = 1);
+}
+
+static void system_command(uint32_t *w) {
+    begin_message(w[RAIL_WORD_TYPE] = TS_RAIL_ORDER_SYSCOMMAND);
+    put32(w[RAIL_WORD_SYSCOMMAND_WINDOW_ID] = 0xF0020052);
+    put16(w[RAIL_WORD_SYSCOMMAND_COMMAND] = SC_MINIMIZE);
+}
+
+static void handshake(uint32_t *w) {
+    begin_message(w[RAIL_WORD_TYPE] = TS_RAIL_ORDER_HANDSHAKE);
+    put32(w[RAIL_WORD_HANDSHAKE_BUILD_NUMBER] = 0xF0001DB1);
+}
+
+static void notify_event(uint32_t *w) {
+    begin_message(w[RAIL_WORD_TYPE] = TS_RAIL_ORDER_NOTIFY_EVENT);
+    put32(w[RAIL_WORD_NOTIFY_EVENT_WINDOW_ID] = 0xF00201AA);
+    put32(w[RAIL_WORD_NOTIFY_EVENT_NOTIFY_ICON_ID] = 0xF0000002);
+    put32(w[RAIL_WORD_NOTIFY_EVENT_MESSAGE] = NIN_BALLOONUSERCLICK);
+}
+
+static void window_move(uint32_t *w) {
+    begin_message(w[RAIL_WORD_TYPE] = TS_RAIL_ORDER_WINDOWMOVE);
+    put32(w[RAIL_WORD_WINDOWMOVE_WINDOW_ID] = 0xF0000101);
+    put16(w[RAIL_WORD_WINDOWMOVE_LEFT] = rail_coordinate_word(-100));
+    put16(w[RAIL_WORD_WINDOWMOVE_TOP] = 0x0102);
+    put16(w[RAIL_WORD_WINDOWMOVE_RIGHT] = 0x0304);
+    put16(w[RAIL_WORD_WINDOWMOVE_BOTTOM] = 0x8506);
+}
+
+static void move_size(uint32_t *w) {
+    begin_message(w[RAIL_WORD_TYPE] = TS_RAIL_ORDER_LOCALMOVESIZE);
+    put32(w[RAIL_WORD_LOCALMOVESIZE_WINDOW_ID] = 0xF0000202);
+    put16(w[RAIL_WORD_LOCALMOVESIZE_IS_START] = 1);
+    put16(w[RAIL_WORD_LOCALMOVESIZE_TYPE] = RAIL_WMSZ_BOTTOMRIGHT);
+    put16(w[RAIL_WORD_LOCALMOVESIZE_POS_X] = rail_coordinate_word(-1));
+    put16(w[RAIL_WORD_LOCALMOVESIZE_POS_Y] = 0x0708);
+}
+
+static void min_max_info(uint32_t *w) {
+    begin_message(w[RAIL_WORD_TYPE] = TS_RAIL_ORDER_MINMAXINFO);
+    put32(w[RAIL_WORD_MINMAXINFO_WINDOW_ID] = 0xF0000303);
+    put16(w[RAIL_WORD_MINMAXINFO_MAX_WIDTH] = 0x8102);
+    put16(w[RAIL_WORD_MINMAXINFO_MAX_HEIGHT] = 0x8304);
+    put16(w[RAIL_WORD_MINMAXINFO_MAX_POS_X] = rail_coordinate_word(-8));
+    put16(w[RAIL_WORD_MINMAXINFO_MAX_POS_Y] = rail_coordinate_word(-9));
+    put16(w[RAIL_WORD_MINMAXINFO_MIN_TRACK_WIDTH] = 0x0506);
+    put16(w[RAIL_WORD_MINMAXINFO_MIN_TRACK_HEIGHT] = 0x0708);
+    put16(w[RAIL_WORD_MINMAXINFO_MAX_TRACK_WIDTH] = 0x090A);
+    put16(w[RAIL_WORD_MINMAXINFO_MAX_TRACK_HEIGHT] = 0x0B0C);
+}
+
+static void client_information(uint32_t *w) {
+    begin_message(w[RAIL_WORD_TYPE] = TS_RAIL_ORDER_CLIENTSTATUS);
+    put32(w[RAIL_WORD_CLIENTSTATUS_FLAGS] = TS_RAIL_CLIENTSTATUS_ALLOWLOCALMOVESIZE | TS_RAIL_CLIENTSTATUS_AUTORECONNECT);
+}
+
+static void system_menu(uint32_t *w) {
+    begin_message(w[RAIL_WORD_TYPE] = TS_RAIL_ORDER_SYSMENU);
+    put32(w[RAIL_WORD_SYSMENU_WINDOW_ID] = 0xF0090122);
+    put16(w[RAIL_WORD_SYSMENU_LEFT] = rail_coordinate_word(-92));
+    put16(w[RAIL_WORD_SYSMENU_TOP] = 0x024A);
+}
+
+static void get_application_id(uint32_t *w) {
+    begin_message(w[RAIL_WORD_TYPE] = TS_RAIL_ORDER_GET_APPID_REQ);
+    put32(w[RAIL_WORD_GET_APPID_REQ_WINDOW_ID] = 0xF0020052);
+}
+
+static void application_id_response(uint32_t *w) {
+    begin_message(w[RAIL_WORD_TYPE] = TS_RAIL_ORDER_GET_APPID_RESP);
+    put32(w[RAIL_WORD_GET_APPID_RESP_WINDOW_ID] = 0xF0020053);
+    w[RAIL_WORD_GET_APPID_RESP_APPLICATION_ID_AT] = (uint32_t)order.size;
+    put_run(w[RAIL_WORD_GET_APPID_RESP_APPLICATION_ID_LENGTH] = RAIL_APPLICATION_ID_SIZE, 0x21);
+}
+
+static void execute_result(uint32_t *w) {
+    begin_message(w[RAIL_WORD_TYPE] = TS_RAIL_ORDER_EXEC_RESULT);
+    put16(w[RAIL_WORD_EXEC_RESULT_FLAGS] = 0xFFFF);
+    put16(w[RAIL_WORD_EXEC_RESULT_EXEC_RESULT] = RAIL_EXEC_E_NOT_IN_ALLOWLIST);
+    put32(w[RAIL_WORD_EXEC_RESULT_RAW_RESULT] = 0xF0000015);
+    put16(0);
+    put16(w[RAIL_WORD_EXEC_RESULT_EXE_OR_FILE_LENGTH] = 23);
+    w[RAIL_WORD_EXEC_RESULT_EXE_OR_FILE_AT] = (uint32_t)order.size;
+    put_run(23, 0x61);
+}
+
+#define KINDS 13
+static const struct kind kinds[KINDS] = {
+    {execute, 8, 0x02},          {activate, 3, 0x04},      {system_command, 3, 0x04},
+    {handshake, 2, 0},           {notify_event, 4, 0},     {window_move, 6, 0x3C},
+    {move_size, 6, 0x3C},        {min_max_info, 10, 0x3FC}, {client_information, 2, 0},
+    {system_menu, 4, 0x0C},      {get_application_id, 2, 0}, {application_id_response, 4, 0},
+    {execute_result, 6, 0x06},
+};
+
+static void build(int k, uint32_t w[RAIL_WORDS]) {
+    memset(w, 0, RAIL_WORDS * sizeof w[0]);
+    kinds[k].build(w);
+    finish();
+}
+
+/* The message in `order` meets the number, from both calls, and nothing is written. */
+static void refuse_read(size_t size, uint32_t number) {
+    uint32_t words[RAIL_WORDS], i, same = 0;
+    uint8_t out[RAIL_MESSAGE_MAX];
+    memset(words, 0xEE, sizeof words);
+    memset(out, 0xEE, sizeof out);
+    CHECK(rail_pdu_read(order.at, size, words) == number);
+    for (i = 0; i < RAIL_WORDS; i++)
+        same += words[i] == 0xEEEEEEEEu;
+    CHECK(same == RAIL_WORDS);
+    CHECK(rail_pdu_tidy(order.at, size, out, sizeof out) == number * 65536);
+    CHECK(filled(out, sizeof out, 0xEE));
+}
+
+/* Out memory one byte too small, just enough, and more. */
+static void check_out(uint32_t (*write)(const uint32_t *w, uint8_t *out, size_t size), const uint32_t *w) {
+    const size_t n = order.size;
+    uint8_t *less = fenced(n - 1), *exact = fenced(n), *more = fenced(n + 99);
+    memset(less, 0xEE, n - 1);
+    memset(more, 0xEE, n + 99);
+    CHECK(write(w, less, n - 1) == RAIL_OUTPUT_TOO_SMALL * 65536);
+    CHECK(filled(less, n - 1, 0xEE));
+    CHECK(write(w, exact, n) == n && memcmp(exact, order.at, n) == 0);
+    CHECK(write(w, more, n + 99) == n && memcmp(more, order.at, n) == 0);
+    CHECK(filled(more + n, 99, 0xEE));
+}
+
+static uint32_t tidy(const uint32_t *w, uint8_t *out, size_t size) {
+    (void)w;
+    return rail_pdu_tidy(order.at, order.size, out, size);
+}
+
+static uint32_t write_words(const uint32_t *w, uint8_t *out, size_t size) {
+    return rail_pdu_write(w, order.at, order.size, out, size);
+}
+
+/* How many of the numbers 0 to 65,535 at `at` the reader grants; `sum` is the sum of those. */
+static uint32_t granted_at(size_t at, uint32_t *sum) {
+    uint32_t number, count = 0, words[RAIL_WORDS];
+    *sum = 0;
+    for (number = 0; number < 65536; number++) {
+        order.at[at] = (uint8_t)(number & 255);
+        order.at[at + 1] = (uint8_t)(number >> 8);
+        if (rail_pdu_read(order.at, order.size, words) == RAIL_DONE) {
+            count++;
+            *sum += number;
+        }
+    }
+    return count;
+}
+
+/* The fields with closed sets grant exactly the values named in rail/protocol.h. */
+static void closed_sets(void) {
+    uint32_t w[RAIL_WORDS], sum;
+    build(2, w);
+    CHECK(granted_at(8, &sum) == 8);
+    CHECK(sum == SC_SIZE + SC_MOVE + SC_MINIMIZE + SC_MAXIMIZE + SC_CLOSE + SC_KEYMENU + SC_RESTORE + SC_DEFAULT);
+    build(6, w);
+    CHECK(granted_at(10, &sum) == 11);
+    CHECK(sum == RAIL_WMSZ_LEFT + RAIL_WMSZ_RIGHT + RAIL_WMSZ_TOP + RAIL_WMSZ_TOPLEFT + RAIL_WMSZ_TOPRIGHT + RAIL_WMSZ_BOTTOM +
+                     RAIL_WMSZ_BOTTOMLEFT + RAIL_WMSZ_BOTTOMRIGHT + RAIL_WMSZ_MOVE + RAIL_WMSZ_KEYMOVE + RAIL_WMSZ_KEYSIZE);
+    build(12, w);
+    CHECK(granted_at(6, &sum) == 7);
+    CHECK(sum == RAIL_EXEC_S_OK + RAIL_EXEC_E_HOOK_NOT_LOADED + RAIL_EXEC_E_DECODE_FAILED + RAIL_EXEC_E_NOT_IN_ALLOWLIST +
+                     RAIL_EXEC_E_FILE_NOT_FOUND + RAIL_EXEC_E_FAIL + RAIL_EXEC_E_SESSION_LOCKED);
+}
+
+/* Of all flags of Execute those are granted that have named bits only, and TRANSLATE_FILES only beside FILE. */
+static void execute_flags(void) {
+    const uint32_t any = TS_RAIL_EXEC_FLAG_EXPAND_WORKINGDIRECTORY | TS_RAIL_EXEC_FLAG_EXPAND_ARGUMENTS |
+                         TS_RAIL_EXEC_FLAG_APP_USER_MODEL_ID;
+    uint32_t flags, wrong = 0, w[RAIL_WORDS];
+    build(0, w);
+    for (flags = 0; flags < 65536; flags++) {
+        const uint32_t files = flags & ~any;
+        const int granted = files == 0 || files == TS_RAIL_EXEC_FLAG_FILE ||
+                            files == (TS_RAIL_EXEC_FLAG_FILE | TS_RAIL_EXEC_FLAG_TRANSLATE_FILES);
+        order.at[4] = (uint8_t)(flags & 255);
+        order.at[5] = (uint8_t)(flags >> 8);
+        wrong += rail_pdu_read(order.at, order.size, w) != (granted ? RAIL_DONE : RAIL_BAD_VALUE);
+    }
+    CHECK(wrong == 0);
+    CHECK(TS_RAIL_EXEC_FLAG_EXPAND_WORKINGDIRECTORY + TS_RAIL_EXEC_FLAG_TRANSLATE_FILES + TS_RAIL_EXEC_FLAG_FILE +
+              TS_RAIL_EXEC_FLAG_EXPAND_ARGUMENTS + TS_RAIL_EXEC_FLAG_APP_USER_MODEL_ID == 0x1F); /* a bit each */
+}
+
+/* An Execute whose strings have these lengths. */
+static void build_execute(size_t exe_or_file, size_t working_dir, size_t arguments) {
+    begin_message(TS_RAIL_ORDER_EXEC);
+    put16(0);
+    put16((uint32_t)exe_or_file);
+    put16((uint32_t)working_dir);
+    put16((uint32_t)arguments);
+    put_run(exe_or_file + working_dir + arguments, 0x20);
+    finish();
+}
+
+/* The greatest message, and each of its strings longer by the least. */
+static void longest(void) {
+    uint32_t words[RAIL_WORDS];
+    build_execute(RAIL_EXE_OR_FILE_MAX, RAIL_WORKING_DIR_MAX, RAIL_ARGUMENTS_MAX);
+    CHECK(order.size == RAIL_MESSAGE_MAX);
+    CHECK(rail_pdu_read(order.at, order.size, words) == RAIL_DONE);
+    CHECK(words[RAIL_WORD_EXEC_ARGUMENTS_AT] + words[RAIL_WORD_EXEC_ARGUMENTS_LENGTH] == RAIL_MESSAGE_MAX);
+    check_out(tidy, words);
+    build_execute(RAIL_EXE_OR_FILE_MAX + 2, 0, 0);
+    refuse_read(order.size, RAIL_BAD_VALUE);
+    build_execute(2, RAIL_WORKING_DIR_MAX + 2, 0);
+    refuse_read(order.size, RAIL_BAD_VALUE);
+    build_execute(2, 0, RAIL_ARGUMENTS_MAX + 2);
+    refuse_read(order.size, RAIL_BAD_VALUE);
+    build_execute(0, 2, 2);
+    refuse_read(order.size, RAIL_BAD_VALUE);
+}
+
+/* Message `k`: its words, written again, and cut. */
+static void read_kind(int k) {
+    uint32_t w[RAIL_WORDS], words[RAIL_WORDS];
+    build(k, w);
+    memset(words, 0xEE, sizeof words);
+    CHECK(rail_pdu_read(order.at, order.size, words) == RAIL_DONE);
+    CHECK(memcmp(words, w, sizeof w) == 0);
+    check_out(tidy, w);
+    refuse_read(3, RAIL_TOO_SHORT);
+    refuse_read(order.size - 1, RAIL_LENGTH_DIFFERS);
+    order.size = 4;
+    finish();
+    refuse_read(4, RAIL_FIELDS_MISFIT);
+}
+
+static void refuse_type(uint32_t type) {
+    begin_message(type);
+    finish();
+    refuse_read(4, RAIL_UNKNOWN_TYPE);
+}
+
+void test_reading(void) {
+    uint32_t w[RAIL_WORDS], words[RAIL_WORDS];
+    int k;
+    for (k = 0; k < KINDS; k++)
+        read_kind(k);
+    refuse_type(TS_RAIL_ORDER_SYSPARAM);
+    refuse_type(TS_RAIL_ORDER_LANGBARINFO);
+    refuse_type(TS_RAIL_ORDER_HANDSHAKE_EX);
+    build(1, w);
+    order.at[8] = 2;
+    refuse_read(order.size, RAIL_BAD_VALUE);
+    build(6, w);
+    order.at[9] = 0x80; /* IsMoveSizeStart 8001 reads as yes */
+    CHECK(rail_pdu_read(order.at, order.size, words) == RAIL_DONE && memcmp(words, w, sizeof w) == 0);
+    closed_sets();
+    execute_flags();
+    longest();
+}
+
+/* These words are no record. */
+static void refuse_words(const uint32_t *w) {
+    uint8_t out[RAIL_MESSAGE_MAX];
+    memset(out, 0xEE, sizeof out);
+    CHECK(rail_pdu_write(w, order.at, order.size, out, sizeof out) == RAIL_BAD_VALUE * 65536);
+    CHECK(rail_pdu_write(w, order.at, order.size, out, 0) == RAIL_BAD_VALUE * 65536); /* before 14 */
+    CHECK(filled(out, sizeof out, 0xEE));
+}
+
+/* Strings from elsewhere, in another order, and a short Application ID. */
+static void write_strings(void) {
+    static const uint8_t strings[] = {'a', 0, 'w', 0, 'w', 0, 'e', 0, 'x', 0, 'e', 0};
+    static const uint8_t wanted[] = {1, 0, 24, 0, 0, 0, 6, 0, 4, 0, 2, 0, 'e', 0, 'x', 0, 'e', 0, 'w', 0, 'w', 0, 'a', 0};
+    uint32_t w[RAIL_WORDS] = {TS_RAIL_ORDER_EXEC, 0, 6, 6, 2, 4, 0, 2, 0, 0, 0, 0};
+    uint8_t out[RAIL_MESSAGE_MAX];
+    uint32_t id[RAIL_WORDS] = {TS_RAIL_ORDER_GET_APPID_RESP, 7, 2, 3, 0, 0, 0, 0, 0, 0, 0, 0};
+    CHECK(rail_pdu_write(w, strings, sizeof strings, out, sizeof out) == sizeof wanted);
+    CHECK(memcmp(out, wanted, sizeof wanted) == 0);
+    w[RAIL_WORD_EXEC_WORKING_DIR_AT] = 9; /* runs over the end */
+    CHECK(rail_pdu_write(w, strings, sizeof strings, out, sizeof out) == RAIL_BAD_VALUE * 65536);
+    w[RAIL_WORD_EXEC_WORKING_DIR_AT] = UINT32_MAX;
+    CHECK(rail_pdu_write(w, strings, sizeof strings, out, sizeof out) == RAIL_BAD_VALUE * 65536);
+    w[RAIL_WORD_EXEC_WORKING_DIR_LENGTH] = 0; /* empty, and past the end */
+    CHECK(rail_pdu_write(w, strings, sizeof strings, out, sizeof out) == RAIL_BAD_VALUE * 65536);
+    w[RAIL_WORD_EXEC_WORKING_DIR_AT] = sizeof strings;
+    CHECK(rail_pdu_write(w, strings, sizeof strings, out, sizeof out) == sizeof wanted - 4);
+    memset(out, 0xEE, sizeof out);
+    CHECK(rail_pdu_write(id, strings, sizeof strings, out, sizeof out) == 528);
+    CHECK(out[8] == 'w' && out[9] == 0 && out[10] == 'w' && filled(out + 11, 517, 0) && out[528] == 0xEE);
+}
+
+/* Words of kind `k` with one word after the last, or one too great for its field. */
+static void refuse_word(int k, int i) {
+    uint32_t w[RAIL_WORDS];
+    build(k, w);
+    if (i >= kinds[k].words) {
+        w[i] = 1;
+        refuse_words(w);
+    } else if (kinds[k].narrow >> i & 1) {
+        w[i] += 65536;
+        refuse_words(w);
+    }
+}
+
+static void write_kind(int k) {
+    uint32_t w[RAIL_WORDS];
+    int i;
+    build(k, w);
+    check_out(write_words, w);
+    for (i = 0; i < RAIL_WORDS; i++)
+        refuse_word(k, i);
+    build(k, w);
+    w[RAIL_WORD_TYPE] += 65536;
+    refuse_words(w);
+    w[RAIL_WORD_TYPE] = TS_RAIL_ORDER_SYSPARAM;
+    refuse_words(w);
+}
+
+void test_writing(void) {
+    uint32_t w[RAIL_WORDS];
+    int k;
+    for (k = 0; k < KINDS; k++)
+        write_kind(k);
+    build(6, w);
+    w[RAIL_WORD_LOCALMOVESIZE_IS_START] = 2;
+    refuse_words(w);
+    build(1, w);
+    w[RAIL_WORD_ACTIVATE_ENABLED] = 257;
+    refuse_words(w);
+    write_strings();
+}

@@ -1,0 +1,146 @@
+/* Runs a script of control messages through rail.h and prints every answer, as the program rail_pdu does. */
+#include <stdio.h>
+
+#include "script.h"
+
+#define MEMORY_MAX 17408
+
+/* A kind: its fields by name, each with its width in a P item; s is a string, b a byte that stands for no or yes. */
+struct field {
+    const char *name;
+    char width;
+};
+
+struct kind {
+    uint32_t type;
+    struct field fields[RAIL_WORDS];
+};
+
+static const struct kind kinds[] = {
+    {TS_RAIL_ORDER_EXEC, {{"flags", 2}, {"program", 's'}, {"directory", 's'}, {"arguments", 's'}}},
+    {TS_RAIL_ORDER_ACTIVATE, {{"window", 4}, {"enabled", 1}}},
+    {TS_RAIL_ORDER_SYSCOMMAND, {{"window", 4}, {"command", 2}}},
+    {TS_RAIL_ORDER_HANDSHAKE, {{"build", 4}}},
+    {TS_RAIL_ORDER_NOTIFY_EVENT, {{"window", 4}, {"icon", 4}, {"message", 4}}},
+    {TS_RAIL_ORDER_WINDOWMOVE, {{"window", 4}, {"left", 2}, {"top", 2}, {"right", 2}, {"bottom", 2}}},
+    {TS_RAIL_ORDER_LOCALMOVESIZE, {{"window", 4}, {"start", 'b'}, {"move_type", 2}, {"x", 2}, {"y", 2}}},
+    {TS_RAIL_ORDER_MINMAXINFO,
+     {{"window", 4}, {"max_width", 2}, {"max_height", 2}, {"max_x", 2}, {"max_y", 2}, {"min_track_width", 2},
+      {"min_track_height", 2}, {"max_track_width", 2}, {"max_track_height", 2}}},
+    {TS_RAIL_ORDER_CLIENTSTATUS, {{"flags", 4}}},
+    {TS_RAIL_ORDER_SYSMENU, {{"window", 4}, {"left", 2}, {"top", 2}}},
+    {TS_RAIL_ORDER_GET_APPID_REQ, {{"window", 4}}},
+    {TS_RAIL_ORDER_GET_APPID_RESP, {{"window", 4}, {"string", 's'}}},
+    {TS_RAIL_ORDER_EXEC_RESULT, {{"flags", 2}, {"result", 2}, {"raw", 4}, {"string", 's'}}},
+};
+
+static const struct kind *kind_of(uint32_t type) {
+    size_t k;
+    for (k = 0; k < sizeof kinds / sizeof kinds[0]; k++)
+        if (kinds[k].type == type)
+            return &kinds[k];
+    return NULL;
+}
+
+static void print_record(const uint8_t *message, const uint32_t words[RAIL_WORDS]) {
+    const struct kind *kind = kind_of(words[RAIL_WORD_TYPE]);
+    const struct field *f;
+    const uint32_t *w = words + 1;
+    printf("R 0 type=%04x", kind->type);
+    for (f = kind->fields; f->name != NULL; f++) {
+        printf(" %s=", f->name);
+        if (f->width == 's') {
+            print_hex("", message + w[0], w[1]);
+            w += 2;
+        } else {
+            printf("%u", *w++);
+        }
+    }
+}
+
+/* The words of a P item's record, but for the places of its strings. Where its strings begin, or 0 where the item is too short. */
+static size_t take_numbers(const struct kind *kind, const struct item *item, uint32_t words[RAIL_WORDS]) {
+    const struct field *f;
+    uint32_t *w = words + 1;
+    size_t at = 4;
+    for (f = kind->fields; f->name != NULL; f++) {
+        const size_t width = f->width == 's' ? 2 : f->width == 'b' ? 1 : (size_t)f->width;
+        uint32_t number;
+        if (item->size < at + width)
+            return 0;
+        number = width == 4 ? rail_get32(item->payload + at) : width == 2 ? rail_get16(item->payload + at) : item->payload[at];
+        w += f->width == 's';
+        *w++ = f->width == 'b' ? number != 0 : number;
+        at += width;
+    }
+    return at;
+}
+
+/* Sets the places of the strings, which lie one after the other from `at` on. Whether they fill the item. */
+static int place_strings(const struct kind *kind, const struct item *item, size_t at, uint32_t words[RAIL_WORDS]) {
+    const struct field *f;
+    uint32_t *w = words + 1;
+    for (f = kind->fields; f->name != NULL; f++) {
+        if (f->width == 's') {
+            *w++ = (uint32_t)at;
+            at += *w;
+        }
+        w++;
+    }
+    return at == item->size;
+}
+
+static int untouched(const uint8_t *memory, size_t from) {
+    for (; from < MEMORY_MAX; from++)
+        if (memory[from] != 0xEE)
+            return 0;
+    return 1;
+}
+
+/* P: writes a record. Whether the run goes on. */
+static int write_record(const struct item *item) {
+    static uint8_t memory[MEMORY_MAX];
+    uint32_t words[RAIL_WORDS] = {0}, answer, n;
+    const struct kind *kind = item->size < 4 ? NULL : kind_of(rail_get16(item->payload + 2));
+    const size_t size = kind == NULL ? 0 : rail_get16(item->payload);
+    const size_t at = kind == NULL || size > MEMORY_MAX ? 0 : take_numbers(kind, item, words);
+    if (at == 0 || !place_strings(kind, item, at, words)) {
+        puts("bad item");
+        return 0;
+    }
+    words[RAIL_WORD_TYPE] = kind->type;
+    memset(memory, 0xEE, sizeof memory);
+    answer = rail_pdu_write(words, item->payload, item->size, memory, size);
+    n = rail_written_number(answer) == RAIL_DONE ? rail_written_bytes(answer) : 0;
+    if (n > size || !untouched(memory, n)) {
+        puts("output memory changed");
+        return 0;
+    }
+    printf("P %u", rail_written_number(answer));
+    if (rail_written_number(answer) == RAIL_DONE)
+        print_hex(" ", memory, n);
+    putchar('\n');
+    return 1;
+}
+
+static int read_message(const struct item *item) {
+    uint32_t words[RAIL_WORDS] = {0};
+    const uint32_t number = rail_pdu_read(item->payload, item->size, words);
+    if (number == RAIL_DONE)
+        print_record(item->payload, words);
+    else
+        printf("R %u", number);
+    putchar('\n');
+    return 1;
+}
+
+int main(void) {
+    static struct item item;
+    int got;
+    while ((got = next_item(&item)) == 1 && (item.kind == 'R' || item.kind == 'P'))
+        if (!(item.kind == 'R' ? read_message(&item) : write_record(&item)))
+            return 0;
+    if (got != 0)
+        puts("bad item");
+    return 0;
+}

@@ -1,0 +1,198 @@
+/* Runs a script of state calls through rail.h and prints every answer, as the program rail_session does. After each call it looks at
+ * all memory lent: a byte that the call may not change ends the run with a line of its own. */
+#include <stdio.h>
+#include <stdlib.h>
+
+#include "script.h"
+
+static struct rail_state state, before;
+static uint8_t *const part[4] = {state.directory, state.bodies, state.cells, state.journal};
+static const size_t whole[4] = {RAIL_DIRECTORY_SIZE, RAIL_BODIES_SIZE, RAIL_CELLS_SIZE, RAIL_JOURNAL_SIZE};
+static size_t lent[4];
+static uint8_t out[RAIL_PICTURE_SIZE + 64];
+
+#define LENT part[0], lent[0], part[1], lent[1], part[2], lent[2], part[3], lent[3]
+
+static void print_pair(const char *name, uint32_t x, uint32_t y) {
+    printf(" %s=%u,%u", name, x, y);
+}
+
+static void print_rectangles(const char *name, const struct rail_rectangle *r, uint32_t count) {
+    uint32_t i;
+    printf(" %s=", name);
+    for (i = 0; i < count; i++)
+        printf("%s%u,%u,%u,%u", i == 0 ? "" : ";", r[i].left, r[i].top, r[i].right, r[i].bottom);
+}
+
+static void print_icon(const char *name, struct rail_icon icon) {
+    if (icon.present)
+        printf(" %s=%u/%u", name, icon.cache_id, icon.cache_entry);
+    else
+        printf(" %s=none", name);
+}
+
+/* Offsets are printed as the second program has them, unsigned. */
+static void print_window(uint32_t id) {
+    struct rail_window w;
+    rail_window_decode(&w, out);
+    printf(" id=%u owner=%u style=%u ext=%u show=%u", id, w.owner_window_id, w.style, w.extended_style, w.show_state);
+    print_hex(" title=", w.title.at, w.title.bytes);
+    print_pair("client", (uint32_t)w.client_offset_x, (uint32_t)w.client_offset_y);
+    print_pair("client_size", w.client_area_width, w.client_area_height);
+    printf(" rp=%u root=%u", w.rp_content, w.root_parent_handle);
+    print_pair("offset", (uint32_t)w.window_offset_x, (uint32_t)w.window_offset_y);
+    print_pair("delta", (uint32_t)w.window_client_delta_x, (uint32_t)w.window_client_delta_y);
+    print_pair("size", w.window_width, w.window_height);
+    print_rectangles("rects", w.window_rects, w.num_window_rects);
+    print_pair("visible", (uint32_t)w.visible_offset_x, (uint32_t)w.visible_offset_y);
+    print_rectangles("vis_rects", w.visibility_rects, w.num_visibility_rects);
+    print_icon("small", w.small_icon);
+    print_icon("big", w.big_icon);
+}
+
+static void print_notification(uint32_t window_id, uint32_t notify_icon_id) {
+    struct rail_notification n;
+    rail_notification_decode(&n, out);
+    printf(" window=%u icon=%u version=%u", window_id, notify_icon_id, n.version);
+    print_hex(" tip=", n.tool_tip.at, n.tool_tip.bytes);
+    printf(" timeout=%u flags=%u", n.timeout, n.info_flags);
+    print_hex(" text=", n.info_tip_text.at, n.info_tip_text.bytes);
+    print_hex(" title=", n.title.at, n.title.bytes);
+    printf(" state=%u", n.state);
+    print_icon("picture", n.icon);
+}
+
+static void print_cell(void) {
+    struct rail_picture p;
+    rail_picture_decode(&p, out);
+    printf(" bpp=%u width=%u height=%u", p.bpp, p.width, p.height);
+    print_hex(" mask=", p.bits_mask, p.cb_bits_mask);
+    print_hex(" table=", p.color_table, p.cb_color_table);
+    print_hex(" color=", p.bits_color, p.cb_bits_color);
+}
+
+static void print_desktop(void) {
+    struct rail_desktop d;
+    uint32_t i;
+    rail_desktop_decode(&d, out);
+    printf(" active=%u hooked=%u syncing=%u stack=", d.active_window_id, d.hooked, d.syncing);
+    for (i = 0; i < d.num_window_ids; i++)
+        printf("%s%u", i == 0 ? "" : ",", d.window_ids[i]);
+}
+
+/* Which of the parts from 0 on differ from those before the call. */
+static int changed(int parts) {
+    return memcmp(state.directory, before.directory, sizeof state.directory) != 0 ||
+           memcmp(state.bodies, before.bodies, sizeof state.bodies) != 0 ||
+           memcmp(state.cells, before.cells, sizeof state.cells) != 0 ||
+           (parts == 4 && memcmp(state.journal, before.journal, sizeof state.journal) != 0);
+}
+
+static int untouched(size_t from) {
+    for (; from < sizeof out; from++)
+        if (out[from] != 0xEE)
+            return 0;
+    return 1;
+}
+
+/* What a call of this kind may not have done. */
+static int is_wrong(int kind, uint32_t number, size_t record) {
+    if (!untouched(number == RAIL_DONE ? record : 0))
+        return 1;
+    if (number != RAIL_DONE || strchr("WNCS", kind) != NULL)
+        return changed(4);
+    return strchr("DB", kind) != NULL && changed(3);
+}
+
+/* Makes the call of an item; `record` is the size of what a lookup hands out. */
+static uint32_t call(const struct item *item, size_t *record) {
+    const uint8_t *p = item->payload;
+    *record = 0;
+    switch (item->kind) {
+    case 'E': return rail_reset(LENT);
+    case 'D': return rail_deliver(LENT, p, item->size);
+    case 'M': return rail_checkpoint(LENT);
+    case 'B': return rail_undo(LENT, rail_get32(p));
+    case 'W': return rail_window(LENT, rail_get32(p), out, *record = RAIL_WINDOW_SIZE);
+    case 'N': return rail_notification(LENT, rail_get32(p), rail_get32(p + 4), out, *record = RAIL_NOTIFICATION_SIZE);
+    case 'C': return rail_cell(LENT, p[2], (uint16_t)rail_get16(p), out, *record = RAIL_PICTURE_SIZE);
+    default: return rail_desktop(LENT, out, *record = RAIL_DESKTOP_SIZE);
+    }
+}
+
+static void print_found(const struct item *item) {
+    const uint8_t *p = item->payload;
+    switch (item->kind) {
+    case 'W': print_window(rail_get32(p)); break;
+    case 'N': print_notification(rail_get32(p), rail_get32(p + 4)); break;
+    case 'C': print_cell(); break;
+    case 'S': print_desktop(); break;
+    default: break;
+    }
+}
+
+/* T and X: no call. Whether the item is a good one. */
+static int prepare(const struct item *item) {
+    const uint8_t *p = item->payload;
+    if (p[0] > 3)
+        return 0;
+    if (item->kind == 'T') {
+        const size_t missing = rail_get16(p + 1);
+        if (missing == 0 || missing > whole[p[0]])
+            return 0;
+        lent[p[0]] = whole[p[0]] - missing;
+    } else {
+        if (rail_get32(p + 1) >= whole[p[0]])
+            return 0;
+        part[p[0]][rail_get32(p + 1)] ^= p[5];
+    }
+    return 1;
+}
+
+/* Makes a call and prints its line. Whether the run goes on. */
+static int run(const struct item *item) {
+    size_t record;
+    uint32_t answer;
+    before = state;
+    memset(out, 0xEE, sizeof out);
+    answer = call(item, &record);
+    memcpy(lent, whole, sizeof lent);
+    if (is_wrong(item->kind, rail_number(answer), record)) {
+        puts("memory changed");
+        return 0;
+    }
+    printf("%c %u", item->kind, rail_number(answer));
+    if (rail_number(answer) == RAIL_DONE) {
+        printf(" %u %u", rail_count(answer), rail_bytes(answer));
+        print_found(item);
+    }
+    putchar('\n');
+    return 1;
+}
+
+/* The item's kind and length are listed. */
+static int listed(const struct item *item) {
+    static const char kinds[] = "EMBWNCSTX";
+    static const size_t sizes[] = {0, 0, 4, 4, 8, 3, 0, 3, 6};
+    const char *kind = item->kind == '\0' ? NULL : strchr(kinds, item->kind);
+    return item->kind == 'D' || (kind != NULL && sizes[kind - kinds] == item->size);
+}
+
+int main(void) {
+    static struct item item;
+    int got;
+    memcpy(lent, whole, sizeof lent);
+    if (rail_state_reset(&state) != RAIL_DONE)
+        return 1;
+    while ((got = next_item(&item)) == 1 && listed(&item)) {
+        if (item.kind == 'T' || item.kind == 'X') {
+            if (!prepare(&item))
+                break;
+        } else if (!run(&item)) {
+            return 1;
+        }
+    }
+    if (got != 0)
+        puts("bad item");
+    return 0;
+}

@@ -1,0 +1,277 @@
+/* Every number that a state call can answer, and that a refusal changes no byte. */
+#include "check.h"
+
+/* Call `which` of the eight state calls on memory whose parts have these sizes. */
+static uint32_t call(int which, const size_t size[4], uint8_t *out) {
+#define SIZED now.directory, size[0], now.bodies, size[1], now.cells, size[2], now.journal, size[3]
+    switch (which) {
+    case 0: return rail_reset(SIZED);
+    case 1: return rail_deliver(SIZED, order.at, order.size);
+    case 2: return rail_checkpoint(SIZED);
+    case 3: return rail_undo(SIZED, 0);
+    case 4: return rail_window(SIZED, 7, out, RAIL_PICTURE_SIZE);
+    case 5: return rail_notification(SIZED, 7, 9, out, RAIL_PICTURE_SIZE);
+    case 6: return rail_cell(SIZED, 0, 0, out, RAIL_PICTURE_SIZE);
+    default: return rail_desktop(SIZED, out, RAIL_PICTURE_SIZE);
+    }
+}
+
+/* All calls from `first` on answer 1 and change nothing. */
+static void all_meet_1(int first, const size_t size[4], uint8_t *out) {
+    int which;
+    remember();
+    memset(out, 0xEE, RAIL_PICTURE_SIZE);
+    for (which = first; which < 8; which++)
+        CHECK(call(which, size, out) == RAIL_BAD_STATE);
+    CHECK(unchanged() && filled(out, RAIL_PICTURE_SIZE, 0xEE));
+}
+
+void test_state_refusals(void) {
+    static const size_t whole[4] = {RAIL_DIRECTORY_SIZE, RAIL_BODIES_SIZE, RAIL_CELLS_SIZE, RAIL_JOURNAL_SIZE};
+    uint8_t *out = fenced(RAIL_PICTURE_SIZE);
+    size_t size[4];
+    int part;
+    empty_state();
+    begin_window(WINDOW_ORDER_STATE_NEW, 7);
+    grant();
+    for (part = 0; part < 4; part++) {
+        memcpy(size, whole, sizeof size);
+        size[part] = whole[part] - 1;
+        all_meet_1(0, size, out);
+        size[part] = 0;
+        all_meet_1(0, size, out);
+    }
+    now.directory[0] = 2; /* neither free nor used */
+    all_meet_1(1, whole, out);
+    CHECK(call(0, whole, out) == RAIL_DONE); /* emptying takes any contents */
+    now.journal[0] = RAIL_HISTORY_ORDERS_MAX + 1;
+    all_meet_1(1, whole, out);
+    CHECK(call(0, whole, out) == RAIL_DONE);
+    now.journal[0] = 1; /* one order, and its first byte is wrong */
+    now.journal[2] = 0;
+    all_meet_1(1, whole, out);
+    CHECK(call(0, whole, out) == RAIL_DONE);
+    CHECK(call(2, whole, out) == RAIL_DONE);
+}
+
+/* Parts longer than needed: the calls answer as on the measure, and what lies behind is untouched. */
+void test_longer_parts(void) {
+    static const size_t longer[4] = {RAIL_DIRECTORY_SIZE + 999, RAIL_BODIES_SIZE + 999, RAIL_CELLS_SIZE + 999, 65536};
+    const struct parts exact = now;
+    uint8_t *out = fenced(RAIL_PICTURE_SIZE);
+    int which;
+    now.directory = (uint8_t *)memset(fenced(longer[0]), 0xEE, longer[0]);
+    now.bodies = (uint8_t *)memset(fenced(longer[1]), 0xEE, longer[1]);
+    now.cells = (uint8_t *)memset(fenced(longer[2]), 0xEE, longer[2]);
+    now.journal = (uint8_t *)memset(fenced(longer[3]), 0xEE, longer[3]);
+    begin_window(WINDOW_ORDER_STATE_NEW, 7);
+    order.at[1] = (uint8_t)order.size;
+    CHECK(call(0, longer, out) == RAIL_DONE);
+    CHECK(call(1, longer, out) == 65536 * 11 + 256);
+    for (which = 3; which < 8; which++)
+        CHECK(call(which, longer, out) == (which == 5 || which == 6 ? RAIL_UNKNOWN_ID : 65536 * 11 + 256));
+    CHECK(call(2, longer, out) == RAIL_DONE);
+    CHECK(call(4, longer, out) == RAIL_DONE);
+    CHECK(filled(now.directory + RAIL_DIRECTORY_SIZE, 999, 0xEE) && filled(now.bodies + RAIL_BODIES_SIZE, 999, 0xEE));
+    CHECK(filled(now.cells + RAIL_CELLS_SIZE, 999, 0xEE) && filled(now.journal + RAIL_JOURNAL_SIZE, 65536 - RAIL_JOURNAL_SIZE, 0xEE));
+    now = exact;
+}
+
+/* Delivers `size` bytes as they stand. */
+static void refuse_bytes(size_t size, uint32_t number) {
+    remember();
+    CHECK(rail_deliver(NOW, order.at, size) == number);
+    CHECK(unchanged());
+}
+
+static void refuse_window(uint32_t flags, uint32_t number) {
+    begin_window(flags, 7);
+    refuse(number);
+}
+
+static void refuse_desktop(uint32_t flags, uint32_t number) {
+    begin_desktop(flags);
+    refuse(number);
+}
+
+/* 2, 3, 4, 5 and 6: bytes, type and flags. */
+static void refuse_headers(void) {
+    begin_window(0, 7);
+    refuse_bytes(0, RAIL_TOO_SHORT);
+    refuse_bytes(6, RAIL_TOO_SHORT);
+    refuse_bytes(7, RAIL_LENGTH_DIFFERS);
+    order.at[1] = 12;
+    refuse_bytes(11, RAIL_LENGTH_DIFFERS);
+    order.at[1] = 11;
+    order.at[0] = 0x2F;
+    refuse_bytes(11, RAIL_UNKNOWN_TYPE);
+    begin_window(WINDOW_ORDER_TYPE_NOTIFY, 7);
+    refuse(RAIL_UNKNOWN_TYPE);
+    begin_window(0, 7);
+    order.at[6] = 0; /* no type bit */
+    refuse(RAIL_UNKNOWN_TYPE);
+    refuse_window(0x00000001, RAIL_UNKNOWN_FLAG);
+    refuse_window(0x00080000, RAIL_UNKNOWN_FLAG);
+    refuse_desktop(WINDOW_ORDER_STATE_NEW, RAIL_UNKNOWN_FLAG);
+    begin_notification(WINDOW_ORDER_FIELD_ICON_BIG, 7, 9);
+    refuse(RAIL_UNKNOWN_FLAG);
+    refuse_window(WINDOW_ORDER_STATE_DELETED | WINDOW_ORDER_STATE_NEW, RAIL_FLAGS_CLASH);
+    refuse_window(WINDOW_ORDER_ICON | WINDOW_ORDER_CACHEDICON, RAIL_FLAGS_CLASH);
+    refuse_window(WINDOW_ORDER_ICON | WINDOW_ORDER_FIELD_TITLE, RAIL_FLAGS_CLASH);
+    refuse_window(WINDOW_ORDER_FIELD_ICON_BIG, RAIL_FLAGS_CLASH);
+    refuse_desktop(WINDOW_ORDER_FIELD_DESKTOP_NONE | WINDOW_ORDER_FIELD_DESKTOP_HOOKED, RAIL_FLAGS_CLASH);
+    refuse_desktop(WINDOW_ORDER_FIELD_DESKTOP_ARC_COMPLETED | WINDOW_ORDER_FIELD_DESKTOP_ARC_BEGAN, RAIL_FLAGS_CLASH);
+}
+
+/* 8: a string, a list or a number that passes its limit by the least. */
+static void refuse_values(void) {
+    begin_window(WINDOW_ORDER_FIELD_TITLE, 7);
+    put_string(RAIL_TITLE_MAX + 2, 0);
+    refuse(RAIL_BAD_VALUE);
+    begin_window(WINDOW_ORDER_FIELD_TITLE, 7);
+    put_string(3, 0); /* odd */
+    refuse(RAIL_BAD_VALUE);
+    begin_window(WINDOW_ORDER_FIELD_WNDRECTS, 7);
+    put_rectangles(RAIL_RECTANGLES_MAX + 1, 0);
+    refuse(RAIL_BAD_VALUE);
+    begin_window(WINDOW_ORDER_FIELD_VISIBILITY, 7);
+    put_rectangles(RAIL_RECTANGLES_MAX + 1, 0);
+    refuse(RAIL_BAD_VALUE);
+    begin_window(WINDOW_ORDER_FIELD_RPCONTENT, 7);
+    put8(2);
+    refuse(RAIL_BAD_VALUE);
+    begin_notification(WINDOW_ORDER_FIELD_NOTIFY_TIP, 7, 9);
+    put_string(RAIL_TOOL_TIP_MAX + 2, 0);
+    refuse(RAIL_BAD_VALUE);
+    begin_notification(WINDOW_ORDER_FIELD_NOTIFY_INFO_TIP, 7, 9);
+    put_run(8, 0);
+    put_string(RAIL_INFO_TIP_TEXT_MAX + 2, 0);
+    put_string(0, 0);
+    refuse(RAIL_BAD_VALUE);
+    begin_notification(WINDOW_ORDER_FIELD_NOTIFY_INFO_TIP, 7, 9);
+    put_run(8, 0);
+    put_string(0, 0);
+    put_string(RAIL_INFO_TIP_TITLE_MAX + 2, 0);
+    refuse(RAIL_BAD_VALUE);
+    begin_desktop(WINDOW_ORDER_FIELD_DESKTOP_ZORDER);
+    put8(RAIL_WINDOW_IDS_MAX + 1);
+    put_run(4 * (RAIL_WINDOW_IDS_MAX + 1), 0);
+    refuse(RAIL_BAD_VALUE);
+}
+
+static void refuse_icon(uint32_t entry, uint32_t cache, uint32_t bpp, size_t color, uint32_t number) {
+    begin_window(WINDOW_ORDER_ICON, 7);
+    put_icon(entry, cache, bpp, 0, 0, color, 0);
+    refuse(number);
+}
+
+/* Of all 256 show states exactly the named four are granted. */
+static void show_states(void) {
+    uint32_t state, granted = 0;
+    for (state = 0; state < 256; state++) {
+        uint32_t number;
+        begin_window(WINDOW_ORDER_FIELD_SHOW, 7);
+        put8(state);
+        number = rail_number(deliver());
+        if (state == RAIL_SHOW_HIDDEN || state == RAIL_SHOW_MINIMIZED || state == RAIL_SHOW_MAXIMIZED || state == RAIL_SHOW_NORMAL)
+            granted += number == RAIL_DONE;
+        else
+            granted += number == RAIL_BAD_VALUE;
+    }
+    CHECK(granted == 256);
+}
+
+void test_order_refusals(void) {
+    empty_state();
+    begin_window(WINDOW_ORDER_STATE_NEW, 7);
+    grant();
+    begin_notification(WINDOW_ORDER_STATE_NEW, 7, 9);
+    grant();
+    refuse_headers();
+    begin_window(WINDOW_ORDER_FIELD_OWNER, 7);
+    put_run(3, 0); /* one byte less than the field has */
+    refuse(RAIL_FIELDS_MISFIT);
+    put_run(2, 0); /* one byte more */
+    refuse(RAIL_FIELDS_MISFIT);
+    refuse_values();
+    show_states();
+    refuse_icon(0, RAIL_ICON_CACHES, 32, 1, RAIL_BAD_VALUE);
+    refuse_icon(RAIL_ICON_CACHE_ENTRIES, 0, 32, 1, RAIL_BAD_VALUE);
+    refuse_icon(0, 0, 2, 1, RAIL_BAD_VALUE);
+    refuse_icon(0, 0, 32, RAIL_ICON_BITS_MAX + 1, RAIL_BAD_VALUE);
+    refuse_icon(0, 0xFF, 32, 1, RAIL_NO_CELL);
+    begin_window(WINDOW_ORDER_ICON, 7);
+    put_icon(0, 0, 32, 0, 0, 1, 0);
+    order.at[15] = RAIL_ICON_SIDE_MAX + 1; /* the width */
+    refuse(RAIL_BAD_VALUE);
+    order.at[15] = 0;
+    refuse(RAIL_BAD_VALUE);
+    begin_window(WINDOW_ORDER_CACHEDICON, 7);
+    put16(0);
+    put8(0);
+    refuse(RAIL_NO_CELL);
+}
+
+/* 9: an absent id, and one that is there; lookups of what is not there, for which 9 comes before 14. */
+static void refuse_ids(uint8_t *out) {
+    begin_window(0, 8);
+    refuse(RAIL_UNKNOWN_ID);
+    begin_window(WINDOW_ORDER_STATE_DELETED, 8);
+    refuse(RAIL_UNKNOWN_ID);
+    begin_window(WINDOW_ORDER_STATE_NEW, 0);
+    refuse(RAIL_UNKNOWN_ID);
+    begin_notification(0, 0, 9);
+    refuse(RAIL_UNKNOWN_ID);
+    begin_notification(WINDOW_ORDER_STATE_NEW, 0, 0);
+    refuse(RAIL_UNKNOWN_ID);
+    memset(out, 0xEE, RAIL_PICTURE_SIZE);
+    CHECK(rail_window(NOW, 99, out, 0) == RAIL_UNKNOWN_ID);
+    CHECK(rail_notification(NOW, 9, 0, out, 0) == RAIL_UNKNOWN_ID);
+    CHECK(rail_notification(NOW, 0, 9, out, RAIL_PICTURE_SIZE) == RAIL_UNKNOWN_ID);
+    CHECK(rail_cell(NOW, 0, 0, out, RAIL_PICTURE_SIZE) == RAIL_UNKNOWN_ID);
+    CHECK(rail_cell(NOW, 0, RAIL_ICON_CACHE_ENTRIES, out, RAIL_PICTURE_SIZE) == RAIL_UNKNOWN_ID);
+    CHECK(rail_cell(NOW, RAIL_ICON_CACHES, 0, out, RAIL_PICTURE_SIZE) == RAIL_UNKNOWN_ID);
+    CHECK(rail_cell(NOW, 255, 65535, out, 0) == RAIL_UNKNOWN_ID);
+    CHECK(filled(out, RAIL_PICTURE_SIZE, 0xEE) && unchanged());
+}
+
+/* 10: the window after the last. A delete makes a place. */
+static void fill_windows(uint8_t *out) {
+    uint32_t id;
+    for (id = 1; id < RAIL_WINDOWS_MAX; id++) {
+        begin_window(WINDOW_ORDER_STATE_NEW, id);
+        grant();
+    }
+    begin_window(WINDOW_ORDER_STATE_NEW, id);
+    refuse(RAIL_TABLE_FULL);
+    begin_window(WINDOW_ORDER_STATE_DELETED, 5);
+    grant();
+    CHECK(rail_window(NOW, 5, out, RAIL_PICTURE_SIZE) == RAIL_UNKNOWN_ID);
+    begin_window(WINDOW_ORDER_STATE_NEW, id);
+    grant();
+}
+
+static void fill_notifications(uint8_t *out) {
+    uint32_t id;
+    for (id = 1; id < RAIL_NOTIFICATIONS_MAX; id++) {
+        begin_notification(WINDOW_ORDER_STATE_NEW, 0, id);
+        grant();
+    }
+    begin_notification(WINDOW_ORDER_STATE_NEW, 0, id);
+    refuse(RAIL_TABLE_FULL);
+    begin_notification(WINDOW_ORDER_STATE_DELETED, 0, 3);
+    grant();
+    CHECK(rail_notification(NOW, 0, 3, out, RAIL_PICTURE_SIZE) == RAIL_UNKNOWN_ID);
+}
+
+void test_table_refusals(void) {
+    uint8_t *out = fenced(RAIL_PICTURE_SIZE);
+    empty_state();
+    begin_window(WINDOW_ORDER_STATE_NEW, 0);
+    grant();
+    begin_notification(WINDOW_ORDER_STATE_NEW, 0, 0);
+    grant();
+    refuse_ids(out);
+    fill_windows(out);
+    fill_notifications(out);
+}

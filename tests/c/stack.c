@@ -1,0 +1,75 @@
+/* How much stack the calls take: each is made in a thread whose stack was painted before. */
+#ifndef _DEFAULT_SOURCE
+#define _DEFAULT_SOURCE
+#endif
+#include "check.h"
+
+#include <pthread.h>
+
+#define STACK 524288
+#define STACK_MAX 16384 /* rail.h says so */
+#define CALLS 12
+
+static uint8_t *out;
+
+static void *call(void *argument) {
+    static const uint32_t handshake[RAIL_WORDS] = {TS_RAIL_ORDER_HANDSHAKE, 7601, 0, 0, 0, 0, 0, 0, 0, 0, 0, 0};
+    uint32_t words[RAIL_WORDS];
+    switch (*(const int *)argument) {
+    case 0: rail_size(0); break;
+    case 1: rail_deliver(NOW, order.at, order.size); break;
+    case 2: rail_undo(NOW, 1); break;
+    case 3: rail_window(NOW, 7, out, RAIL_PICTURE_SIZE); break;
+    case 4: rail_notification(NOW, 7, 9, out, RAIL_PICTURE_SIZE); break;
+    case 5: rail_cell(NOW, 1, 2, out, RAIL_PICTURE_SIZE); break;
+    case 6: rail_desktop(NOW, out, RAIL_PICTURE_SIZE); break;
+    case 7: rail_checkpoint(NOW); break;
+    case 8: rail_reset(NOW); break;
+    case 9: rail_pdu_read(order.at, order.size, words); break;
+    case 10: rail_pdu_tidy(order.at, order.size, out, RAIL_PICTURE_SIZE); break;
+    default: rail_pdu_write(handshake, order.at, 0, out, RAIL_PICTURE_SIZE);
+    }
+    return NULL;
+}
+
+/* The bytes of stack that a thread takes with this call. */
+static size_t used(uint8_t *stack, int which) {
+    pthread_attr_t attributes;
+    pthread_t thread;
+    size_t untouched = 0;
+    memset(stack, 0xA5, STACK);
+    if (pthread_attr_init(&attributes) != 0 || pthread_attr_setstack(&attributes, stack, STACK) != 0 ||
+        pthread_create(&thread, &attributes, call, &which) != 0)
+        return STACK;
+    pthread_join(thread, NULL);
+    pthread_attr_destroy(&attributes);
+    while (untouched < STACK && stack[untouched] == 0xA5)
+        untouched++;
+    return STACK - untouched;
+}
+
+void test_stack(void) {
+    uint8_t *stack = fenced(STACK);
+    size_t least;
+    int which;
+    out = fenced(RAIL_PICTURE_SIZE);
+    empty_state();
+    begin_window(WINDOW_ORDER_STATE_NEW, 7);
+    grant();
+    begin_notification(WINDOW_ORDER_STATE_NEW, 7, 9);
+    grant();
+    begin_window(WINDOW_ORDER_ICON, 7);
+    put_icon(2, 1, 32, 100, 0, 4000, 0);
+    grant();
+    least = used(stack, 0);
+    CHECK(least > 0 && least < STACK);
+    for (which = 1; which < CALLS; which++) {
+        if (which == 9) { /* the longest message with one string */
+            begin_message(TS_RAIL_ORDER_GET_APPID_RESP);
+            put_run(4 + RAIL_APPLICATION_ID_SIZE, 1);
+            order.at[2] = 0x10;
+            order.at[3] = 0x02;
+        }
+        CHECK(used(stack, which) < least + STACK_MAX);
+    }
+}
