@@ -164,6 +164,26 @@ uint32_t rail_desktop(const uint8_t *directory, size_t directory_size, const uin
                       const uint8_t *cells, size_t cells_size, const uint8_t *journal, size_t journal_size,
                       uint8_t *out, size_t out_size);
 
+/* ---- A list of calls in one. Empties the state memory and does the calls of `script` on it, in turn. A call is its kind (1 byte), the
+ * size of what it carries (2 bytes) and so many bytes: an order, 8 bytes of steps, or the ids of a lookup as its function takes them, in 4
+ * bytes each (a cell: 1 and 2 bytes). What is missing of them counts 0; any other kind empties. The list ends where no whole call is left or
+ * `out` has no room for the next answer. Each answer takes a block of `out`: the 4 bytes that the call itself answers, and for a lookup
+ * RAIL_.._SIZE bytes more, zeros where it is refused. Numbers are little-endian. Answers how many calls were done; where a part is
+ * too short that is 0, and no byte is changed. */
+enum rail_call {
+    RAIL_CALL_RESET = 0,
+    RAIL_CALL_DELIVER = 1,
+    RAIL_CALL_CHECKPOINT = 2,
+    RAIL_CALL_UNDO = 3,
+    RAIL_CALL_WINDOW = 4,
+    RAIL_CALL_NOTIFICATION = 5,
+    RAIL_CALL_CELL = 6,
+    RAIL_CALL_DESKTOP = 7
+};
+uint64_t rail_run(uint8_t *directory, size_t directory_size, uint8_t *bodies, size_t bodies_size,
+                  uint8_t *cells, size_t cells_size, uint8_t *journal, size_t journal_size,
+                  const uint8_t *script, size_t script_size, uint8_t *out, size_t out_size);
+
 /* ---- Control messages, as 12 words: rail/messages.h has the words of each kind. */
 
 /* Reads one message, from its header on. The answer is the number; where it is 0 the words are those of the record. Refuses with

@@ -16,7 +16,7 @@ type ReadFn = unsafe extern "C" fn(message: *const u8, length: usize, words: *mu
 type TidyFn =
     unsafe extern "C" fn(message: *const u8, length: usize, out: *mut u8, out_length: usize) -> u32;
 
-// The proved library, from librail.a.
+// The proved library, from librail.a, which the crate `rail` links.
 extern "C" {
     fn rail_pdu_read(message: *const u8, length: usize, words: *mut u32) -> u32;
     fn rail_pdu_tidy(message: *const u8, length: usize, out: *mut u8, out_length: usize) -> u32;

@@ -13,8 +13,24 @@ pub struct Counted {
 
 /// Runs a program with these words and this input.
 pub fn count(program: &Path, words: &[&str], input: Stdio) -> Result<Counted, String> {
+    count_with(&[], program, words, input)
+}
+
+/// Runs a program and counts only what a function takes, with all that it calls.
+pub fn count_within(function: &str, program: &Path, words: &[&str]) -> Result<Counted, String> {
+    let option = format!("--toggle-collect={function}");
+    count_with(&[&option], program, words, Stdio::null())
+}
+
+fn count_with(
+    options: &[&str],
+    program: &Path,
+    words: &[&str],
+    input: Stdio,
+) -> Result<Counted, String> {
     let output = Command::new("valgrind")
         .args(["--tool=callgrind", "--callgrind-out-file=/dev/null"])
+        .args(options)
         .arg(program)
         .args(words)
         .stdin(input)

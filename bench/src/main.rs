@@ -8,6 +8,7 @@ mod inputs;
 mod instructions;
 mod orders;
 mod plain;
+mod state;
 mod table;
 mod time;
 
@@ -17,7 +18,7 @@ use std::process::ExitCode;
 const HELP: &str = "\
 bench: the proved code beside the plain Rust of `second`
 
-  bench                check, time, instructions and orders, in turn
+  bench                check, time, instructions, orders and state, in turn
   bench check          compare the two sides' answers, words and bytes on every
                        benchmark message and on generated ones
   bench time           print nanoseconds per call as a Markdown table
@@ -31,6 +32,12 @@ bench: the proved code beside the plain Rust of `second`
                        print instructions and nanoseconds per delivery of an order
                        as a Markdown table: PROGRAM, by default the repository's
                        target/bin/rail_table, beside `second table`
+  bench state          print instructions and nanoseconds per state call at the C
+                       boundary as a Markdown table, beside the book of `second`
+  bench state-one CALL ORDERS SIDE N
+                       make N state calls and print nothing, for callgrind.
+                       ORDERS: in the journal; SIDE: proved or plain
+  bench state-calls    list the state calls
 
 Jobs: `read` takes a message's bytes to a judged record and its fields to 12
 words; `tidy` takes a message's bytes to a record and the record to bytes in an
@@ -56,6 +63,9 @@ fn main() -> ExitCode {
         ["messages"] => list_messages(),
         ["orders"] => orders::run(None),
         ["orders", program] => orders::run(Some(program)),
+        ["state"] => state::run(),
+        ["state-one", call, orders, side, calls] => state::one(call, orders, side, calls),
+        ["state-calls"] => state::list(),
         ["--help" | "-h" | "help"] => {
             print!("{HELP}");
             Ok(())
@@ -81,7 +91,9 @@ fn everything() -> Result<(), String> {
     println!();
     instructions::run()?;
     println!();
-    orders::run(None)
+    orders::run(None)?;
+    println!();
+    state::run()
 }
 
 fn list_messages() -> Result<(), String> {

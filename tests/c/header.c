@@ -182,6 +182,7 @@ int main(void) {
     test_decoders();
     test_reading();
     test_writing();
+    test_script();
     test_stack();
     printf("%d passed, %d failed\n", passed, failed);
     return failed == 0 && passed > 0 ? 0 : 1;

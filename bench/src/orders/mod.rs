@@ -7,7 +7,7 @@
 //! divided by the copies, is what one order takes beyond such a refusal.
 
 mod count;
-mod kinds;
+pub mod kinds;
 mod program;
 mod script;
 mod time;

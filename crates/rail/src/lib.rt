@@ -20,6 +20,7 @@ ghost use Rattle.pdu.specs.Records.{yesNumber};
 ghost use Rattle.rail.specs.Words.{executeWords, activateWords, systemCommandWords, handshakeWords, notifyEventWords, windowMoveWords, moveSizeWords, minMaxInfoWords, clientInformationWords, systemMenuWords, getApplicationIdWords, applicationIdResponseWords, executeResultWords, wordsOf};
 ghost use Rattle.rail.specs.Exports.{ReadExport, TidyExport};
 
+mod script;
 mod state;
 mod write;
 

@@ -26,7 +26,7 @@ fn library_folder() -> PathBuf {
         Some(folder) => PathBuf::from(folder),
         None => {
             let package = env::var_os("CARGO_MANIFEST_DIR").expect("cargo names the package");
-            Path::new(&package).join("../target/staticlib")
+            Path::new(&package).join("../../target/staticlib")
         }
     }
 }

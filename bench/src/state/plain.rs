@@ -1,0 +1,231 @@
+//! The same calls on the book of `second`, with records in the library's layouts.
+
+use second::book::Book;
+use second::ids::{NotifyIconId, WindowId};
+use second::order::CellPlace;
+use second::table::{Cell, Rect, Window};
+
+use super::jobs::{Call, Job};
+use super::{Answer, State};
+use crate::orders::kinds::Order;
+
+/// A book with the orders of its journal, to deliver them again.
+pub struct Plain {
+    book: Book,
+    journal: Vec<Order>,
+}
+
+impl Plain {
+    /// The state that a job begins with.
+    pub fn new(job: &Job, journal: &[Order]) -> Self {
+        let mut book = Book::new();
+        deliver_all(&mut book, &job.at_mark);
+        book.mark();
+        deliver_all(&mut book, journal);
+        let journal = journal.to_vec();
+        Self { book, journal }
+    }
+}
+
+fn deliver_all(book: &mut Book, orders: &[Order]) {
+    for order in orders {
+        assert_eq!(book.deliver(order), Ok(()), "the orders before are granted");
+    }
+}
+
+impl State for Plain {
+    #[inline]
+    fn call(&mut self, call: &Call, out: &mut [u8]) -> Answer {
+        let book = &mut self.book;
+        match *call {
+            Call::Deliver(ref order) => plain_deliver(book, order),
+            Call::Undo => plain_undo(book, 1),
+            Call::Checkpoint => plain_checkpoint(book),
+            Call::Window(id) => plain_window(book, id, out),
+            Call::Notification(window, icon) => plain_notification(book, window, icon, out),
+            Call::Cell(cache, entry) => plain_cell(book, cache, entry, out),
+            Call::Desktop => plain_desktop(book, out),
+        }
+    }
+
+    fn restore(&mut self, call: &Call) {
+        match call {
+            Call::Deliver(_) => assert_eq!(self.book.step_back(1), Ok(())),
+            Call::Undo => deliver_all(&mut self.book, &self.journal[..1]),
+            Call::Checkpoint => deliver_all(&mut self.book, &self.journal),
+            _ => {}
+        }
+    }
+}
+
+#[no_mangle]
+#[inline(never)]
+pub fn plain_deliver(book: &mut Book, order: &[u8]) -> Answer {
+    let done = book.deliver(order);
+    answer(book, done)
+}
+
+#[no_mangle]
+#[inline(never)]
+pub fn plain_undo(book: &mut Book, steps: u32) -> Answer {
+    let done = book.step_back(steps);
+    answer(book, done)
+}
+
+#[no_mangle]
+#[inline(never)]
+pub fn plain_checkpoint(book: &mut Book) -> Answer {
+    book.mark();
+    answer(book, Ok(()))
+}
+
+#[no_mangle]
+#[inline(never)]
+pub fn plain_window(book: &Book, id: u32, out: &mut [u8]) -> Answer {
+    let done = book.window(WindowId(id)).map(|window| {
+        let mut to = Writer::new(&mut out[..850]);
+        put_window(&mut to, window);
+    });
+    answer(book, done)
+}
+
+#[no_mangle]
+#[inline(never)]
+pub fn plain_notification(book: &Book, window: u32, icon: u32, out: &mut [u8]) -> Answer {
+    let found = book.icon(WindowId(window), NotifyIconId(icon));
+    let done = found.map(|icon| {
+        let mut to = Writer::new(&mut out[..916]);
+        to.cell(icon.picture);
+        to.skip(1);
+        to.u32(icon.version);
+        to.text(&icon.tip, 256);
+        to.u32(icon.balloon_timeout);
+        to.u32(icon.balloon_flags);
+        to.text(&icon.balloon_text, 510);
+        to.text(&icon.balloon_title, 126);
+        to.u32(icon.state);
+    });
+    answer(book, done)
+}
+
+#[no_mangle]
+#[inline(never)]
+pub fn plain_cell(book: &Book, cache: u8, entry: u16, out: &mut [u8]) -> Answer {
+    let found = book.cell(CellPlace { cache, entry });
+    let done = found.map(|cell| put_cell(&mut Writer::new(&mut out[..4_235]), cell));
+    answer(book, done)
+}
+
+#[no_mangle]
+#[inline(never)]
+pub fn plain_desktop(book: &Book, out: &mut [u8]) -> Answer {
+    let desktop = book.desktop();
+    let mut to = Writer::new(&mut out[..263]);
+    to.u8(desktop.hooked.into());
+    to.u8(desktop.syncing.into());
+    to.u32(desktop.active.0);
+    to.u8(desktop.stack.len() as u8);
+    for id in &desktop.stack {
+        to.u32(id.0);
+    }
+    answer(book, Ok(()))
+}
+
+fn answer(book: &Book, done: Result<(), u8>) -> Answer {
+    done?;
+    let standing = book.standing();
+    Ok((standing.orders, standing.bytes))
+}
+
+fn put_window(to: &mut Writer<'_>, window: &Window) {
+    to.cell(window.small_icon);
+    to.cell(window.big_icon);
+    to.u32(window.owner.0);
+    to.u32(window.style);
+    to.u32(window.extended_style);
+    to.u8(window.show_state);
+    to.text(&window.title, 520);
+    to.pair(window.client_offset);
+    to.pair(window.client_size);
+    to.u8(window.rp_content);
+    to.u32(window.root_parent.0);
+    to.pair(window.window_offset);
+    to.pair(window.client_delta);
+    to.pair(window.window_size);
+    to.rects(&window.window_rects);
+    to.pair(window.visible_offset);
+    to.rects(&window.visibility_rects);
+}
+
+fn put_cell(to: &mut Writer<'_>, cell: &Cell) {
+    to.u8(cell.bits_per_pixel);
+    to.u16(cell.width);
+    to.u16(cell.height);
+    if matches!(cell.bits_per_pixel, 1 | 4 | 8) {
+        to.u16(cell.color_table.len() as u16);
+    }
+    to.u16(cell.mask.len() as u16);
+    to.u16(cell.color.len() as u16);
+    to.bytes(&cell.mask);
+    to.bytes(&cell.color_table);
+    to.bytes(&cell.color);
+}
+
+/// Zeroed output memory, filled from its beginning.
+struct Writer<'a> {
+    out: &'a mut [u8],
+    at: usize,
+}
+
+impl<'a> Writer<'a> {
+    fn new(out: &'a mut [u8]) -> Self {
+        out.fill(0);
+        Self { out, at: 0 }
+    }
+
+    fn bytes(&mut self, bytes: &[u8]) {
+        self.out[self.at..self.at + bytes.len()].copy_from_slice(bytes);
+        self.at += bytes.len();
+    }
+
+    fn skip(&mut self, bytes: usize) {
+        self.at += bytes;
+    }
+
+    fn u8(&mut self, number: u8) {
+        self.bytes(&[number]);
+    }
+
+    fn u16(&mut self, number: u16) {
+        self.bytes(&number.to_le_bytes());
+    }
+
+    fn u32(&mut self, number: u32) {
+        self.bytes(&number.to_le_bytes());
+    }
+
+    fn pair(&mut self, (x, y): (u32, u32)) {
+        self.u32(x);
+        self.u32(y);
+    }
+
+    fn cell(&mut self, place: Option<CellPlace>) {
+        self.u8(place.map_or(0, |place| 1 + 6 * place.cache + place.entry as u8));
+    }
+
+    fn text(&mut self, text: &[u8], room: usize) {
+        self.u16(text.len() as u16);
+        self.bytes(text);
+        self.skip(room - text.len());
+    }
+
+    fn rects(&mut self, rects: &[Rect]) {
+        self.u16(rects.len() as u16);
+        for rect in rects {
+            for side in [rect.left, rect.top, rect.right, rect.bottom] {
+                self.u16(side);
+            }
+        }
+        self.skip(8 * (16 - rects.len()));
+    }
+}

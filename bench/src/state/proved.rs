@@ -1,0 +1,66 @@
+//! The state calls of the proved library, on lent memory.
+
+use rail::{CacheCell, Memory, NotifyIconId, Refusal, WindowId};
+
+use super::jobs::{Call, Job};
+use super::{Answer, State};
+use crate::orders::kinds::Order;
+
+/// Memory lent to the library.
+#[derive(Clone, PartialEq, Eq)]
+pub struct Proved {
+    memory: Memory,
+    /// The journal's first two bytes, which tell how many orders it has.
+    count: [u8; 2],
+}
+
+impl Proved {
+    /// The state that a job begins with.
+    pub fn new(job: &Job, journal: &[Order]) -> Self {
+        let mut memory = Memory::new();
+        let mut lent = memory.lend();
+        lent.reset().expect("an emptying is granted");
+        for order in &job.at_mark {
+            lent.deliver(order).expect("the orders before are granted");
+        }
+        lent.checkpoint().expect("a mark is granted");
+        for order in journal {
+            lent.deliver(order)
+                .expect("the journal's orders are granted");
+        }
+        let count = [memory.journal[0], memory.journal[1]];
+        Self { memory, count }
+    }
+}
+
+impl State for Proved {
+    #[inline]
+    fn call(&mut self, call: &Call, out: &mut [u8]) -> Answer {
+        let view = self.memory.view();
+        let standing = match *call {
+            Call::Deliver(ref order) => self.memory.lend().deliver(order),
+            Call::Undo => self.memory.lend().undo(1),
+            Call::Checkpoint => self.memory.lend().checkpoint(),
+            Call::Window(id) => view.window_bytes(WindowId(id), out),
+            Call::Notification(window, icon) => {
+                view.notification_icon_bytes(WindowId(window), NotifyIconId(icon), out)
+            }
+            Call::Cell(cache_id, cache_entry) => {
+                let cell = CacheCell {
+                    cache_id,
+                    cache_entry,
+                };
+                view.picture_bytes(cell, out)
+            }
+            Call::Desktop => view.desktop_bytes(out),
+        };
+        let standing = standing.map_err(Refusal::number)?;
+        Ok((standing.orders, standing.bytes))
+    }
+
+    /// The journal's bytes still stand behind its count, so the count is enough. The
+    /// updates that a checkpoint applied set the same fields again the next time.
+    fn restore(&mut self, _: &Call) {
+        self.memory.journal[..2].copy_from_slice(&self.count);
+    }
+}

@@ -1,0 +1,365 @@
+//! The library's C boundary, and the only unsafe code of this crate.
+//!
+//! What each call relies on: a slice goes over as its pointer, which is never null,
+//! and its length; the library reads and writes within these lengths only, for all
+//! bytes that they may hold, and keeps no pointer. A slice that is written is
+//! borrowed mutably, so no other one overlaps it.
+#![allow(unsafe_code)]
+
+use crate::memory::{LentSession, View};
+
+/// A record's fields as numbers: the type, then the fields in carried order, a string
+/// as its place and its length, then zeros.
+pub(crate) type Words = [u32; 12];
+
+extern "C" {
+    fn rail_reset(
+        directory: *mut u8,
+        directory_length: usize,
+        bodies: *mut u8,
+        bodies_length: usize,
+        cells: *const u8,
+        cells_length: usize,
+        journal: *mut u8,
+        journal_length: usize,
+    ) -> u32;
+    fn rail_deliver(
+        directory: *const u8,
+        directory_length: usize,
+        bodies: *const u8,
+        bodies_length: usize,
+        cells: *const u8,
+        cells_length: usize,
+        journal: *mut u8,
+        journal_length: usize,
+        order: *const u8,
+        order_length: usize,
+    ) -> u32;
+    fn rail_checkpoint(
+        directory: *mut u8,
+        directory_length: usize,
+        bodies: *mut u8,
+        bodies_length: usize,
+        cells: *mut u8,
+        cells_length: usize,
+        journal: *mut u8,
+        journal_length: usize,
+    ) -> u32;
+    fn rail_undo(
+        directory: *const u8,
+        directory_length: usize,
+        bodies: *const u8,
+        bodies_length: usize,
+        cells: *const u8,
+        cells_length: usize,
+        journal: *mut u8,
+        journal_length: usize,
+        steps: u64,
+    ) -> u32;
+    fn rail_window(
+        directory: *const u8,
+        directory_length: usize,
+        bodies: *const u8,
+        bodies_length: usize,
+        cells: *const u8,
+        cells_length: usize,
+        journal: *const u8,
+        journal_length: usize,
+        window_id: u32,
+        out: *mut u8,
+        out_length: usize,
+    ) -> u32;
+    fn rail_notification(
+        directory: *const u8,
+        directory_length: usize,
+        bodies: *const u8,
+        bodies_length: usize,
+        cells: *const u8,
+        cells_length: usize,
+        journal: *const u8,
+        journal_length: usize,
+        window_id: u32,
+        notify_icon_id: u32,
+        out: *mut u8,
+        out_length: usize,
+    ) -> u32;
+    fn rail_cell(
+        directory: *const u8,
+        directory_length: usize,
+        bodies: *const u8,
+        bodies_length: usize,
+        cells: *const u8,
+        cells_length: usize,
+        journal: *const u8,
+        journal_length: usize,
+        cache_id: u8,
+        cache_entry: u16,
+        out: *mut u8,
+        out_length: usize,
+    ) -> u32;
+    fn rail_desktop(
+        directory: *const u8,
+        directory_length: usize,
+        bodies: *const u8,
+        bodies_length: usize,
+        cells: *const u8,
+        cells_length: usize,
+        journal: *const u8,
+        journal_length: usize,
+        out: *mut u8,
+        out_length: usize,
+    ) -> u32;
+    fn rail_pdu_read(message: *const u8, length: usize, words: *mut u32) -> u32;
+    fn rail_pdu_tidy(message: *const u8, length: usize, out: *mut u8, out_length: usize) -> u32;
+    fn rail_pdu_write(
+        words: *const u32,
+        strings: *const u8,
+        strings_length: usize,
+        out: *mut u8,
+        out_length: usize,
+    ) -> u32;
+    #[cfg(test)]
+    fn rail_size(what: u32) -> u32;
+}
+
+pub(crate) fn reset(lent: &mut LentSession<'_>) -> u32 {
+    // SAFETY: three slices borrowed mutably and one shared, apart from each other,
+    // each with its own length.
+    unsafe {
+        rail_reset(
+            lent.directory.as_mut_ptr(),
+            lent.directory.len(),
+            lent.bodies.as_mut_ptr(),
+            lent.bodies.len(),
+            lent.cells.as_ptr(),
+            lent.cells.len(),
+            lent.journal.as_mut_ptr(),
+            lent.journal.len(),
+        )
+    }
+}
+
+pub(crate) fn deliver(lent: &mut LentSession<'_>, order: &[u8]) -> u32 {
+    // SAFETY: only the journal is written, which is borrowed mutably and so apart
+    // from the other parts and from the order; each has its own length.
+    unsafe {
+        rail_deliver(
+            lent.directory.as_ptr(),
+            lent.directory.len(),
+            lent.bodies.as_ptr(),
+            lent.bodies.len(),
+            lent.cells.as_ptr(),
+            lent.cells.len(),
+            lent.journal.as_mut_ptr(),
+            lent.journal.len(),
+            order.as_ptr(),
+            order.len(),
+        )
+    }
+}
+
+pub(crate) fn checkpoint(lent: &mut LentSession<'_>) -> u32 {
+    // SAFETY: four slices borrowed mutably, apart from each other, each with its own
+    // length.
+    unsafe {
+        rail_checkpoint(
+            lent.directory.as_mut_ptr(),
+            lent.directory.len(),
+            lent.bodies.as_mut_ptr(),
+            lent.bodies.len(),
+            lent.cells.as_mut_ptr(),
+            lent.cells.len(),
+            lent.journal.as_mut_ptr(),
+            lent.journal.len(),
+        )
+    }
+}
+
+pub(crate) fn undo(lent: &mut LentSession<'_>, steps: u64) -> u32 {
+    // SAFETY: only the journal is written, which is borrowed mutably and so apart
+    // from the other parts; each has its own length.
+    unsafe {
+        rail_undo(
+            lent.directory.as_ptr(),
+            lent.directory.len(),
+            lent.bodies.as_ptr(),
+            lent.bodies.len(),
+            lent.cells.as_ptr(),
+            lent.cells.len(),
+            lent.journal.as_mut_ptr(),
+            lent.journal.len(),
+            steps,
+        )
+    }
+}
+
+pub(crate) fn window(view: View<'_>, window_id: u32, out: &mut [u8]) -> u32 {
+    // SAFETY: only `out` is written, which is borrowed mutably and so apart from the
+    // parts; each has its own length.
+    unsafe {
+        rail_window(
+            view.directory.as_ptr(),
+            view.directory.len(),
+            view.bodies.as_ptr(),
+            view.bodies.len(),
+            view.cells.as_ptr(),
+            view.cells.len(),
+            view.journal.as_ptr(),
+            view.journal.len(),
+            window_id,
+            out.as_mut_ptr(),
+            out.len(),
+        )
+    }
+}
+
+pub(crate) fn notification(
+    view: View<'_>,
+    window_id: u32,
+    notify_icon_id: u32,
+    out: &mut [u8],
+) -> u32 {
+    // SAFETY: only `out` is written, which is borrowed mutably and so apart from the
+    // parts; each has its own length.
+    unsafe {
+        rail_notification(
+            view.directory.as_ptr(),
+            view.directory.len(),
+            view.bodies.as_ptr(),
+            view.bodies.len(),
+            view.cells.as_ptr(),
+            view.cells.len(),
+            view.journal.as_ptr(),
+            view.journal.len(),
+            window_id,
+            notify_icon_id,
+            out.as_mut_ptr(),
+            out.len(),
+        )
+    }
+}
+
+pub(crate) fn cell(view: View<'_>, cache_id: u8, cache_entry: u16, out: &mut [u8]) -> u32 {
+    // SAFETY: only `out` is written, which is borrowed mutably and so apart from the
+    // parts; each has its own length.
+    unsafe {
+        rail_cell(
+            view.directory.as_ptr(),
+            view.directory.len(),
+            view.bodies.as_ptr(),
+            view.bodies.len(),
+            view.cells.as_ptr(),
+            view.cells.len(),
+            view.journal.as_ptr(),
+            view.journal.len(),
+            cache_id,
+            cache_entry,
+            out.as_mut_ptr(),
+            out.len(),
+        )
+    }
+}
+
+pub(crate) fn desktop(view: View<'_>, out: &mut [u8]) -> u32 {
+    // SAFETY: only `out` is written, which is borrowed mutably and so apart from the
+    // parts; each has its own length.
+    unsafe {
+        rail_desktop(
+            view.directory.as_ptr(),
+            view.directory.len(),
+            view.bodies.as_ptr(),
+            view.bodies.len(),
+            view.cells.as_ptr(),
+            view.cells.len(),
+            view.journal.as_ptr(),
+            view.journal.len(),
+            out.as_mut_ptr(),
+            out.len(),
+        )
+    }
+}
+
+pub(crate) fn pdu_read(message: &[u8], words: &mut Words) -> u32 {
+    // SAFETY: the message is read with its length, and the 12 words are written,
+    // which are borrowed mutably and so apart from it.
+    unsafe { rail_pdu_read(message.as_ptr(), message.len(), words.as_mut_ptr()) }
+}
+
+pub(crate) fn pdu_tidy(message: &[u8], out: &mut [u8]) -> u32 {
+    // SAFETY: the message is read with its length, and `out` is written with its own,
+    // which is borrowed mutably and so apart from the message.
+    unsafe { rail_pdu_tidy(message.as_ptr(), message.len(), out.as_mut_ptr(), out.len()) }
+}
+
+pub(crate) fn pdu_write(words: &Words, strings: &[u8], out: &mut [u8]) -> u32 {
+    // SAFETY: the 12 words and the strings are read, these with their length, and
+    // `out` is written with its own, which is borrowed mutably and so apart from both.
+    unsafe {
+        rail_pdu_write(
+            words.as_ptr(),
+            strings.as_ptr(),
+            strings.len(),
+            out.as_mut_ptr(),
+            out.len(),
+        )
+    }
+}
+
+/// A size by its number: the four parts, then the records handed out.
+#[cfg(test)]
+pub(crate) fn size(what: u32) -> u32 {
+    // SAFETY: a number goes in and a number comes out.
+    unsafe { rail_size(what) }
+}
+
+#[cfg(test)]
+mod tests {
+    use super::*;
+    use crate::memory::{BODIES_SIZE, CELLS_SIZE, DIRECTORY_SIZE, JOURNAL_SIZE};
+
+    #[test]
+    fn sizes_of_the_parts() {
+        let sizes = [DIRECTORY_SIZE, BODIES_SIZE, CELLS_SIZE, JOURNAL_SIZE];
+        for (what, expected) in (0..).zip(sizes) {
+            assert_eq!(size(what), expected as u32);
+        }
+        for what in [8, 9, 255, 256, u32::MAX] {
+            assert_eq!(size(what), 0);
+        }
+    }
+
+    /// Words change only where a read is granted.
+    #[test]
+    fn words_of_a_refused_read() {
+        let mut words = [7; 12];
+        assert_eq!(pdu_read(&[], &mut words), 2);
+        assert_eq!(words, [7; 12]);
+        assert_eq!(pdu_read(&[5, 0, 8, 0, 9, 0, 0, 0], &mut words), 0);
+        assert_eq!(words, [5, 9, 0, 0, 0, 0, 0, 0, 0, 0, 0, 0]);
+    }
+
+    /// Words that are no record: an unknown type, a number too great for its field, a
+    /// nonzero word after the last, a string past the strings lent.
+    #[test]
+    fn words_that_are_no_record() {
+        let mut out = [0xEE; 600];
+        let mut written = |words: &[u32], strings: &[u8]| {
+            let mut all = [0; 12];
+            all[..words.len()].copy_from_slice(words);
+            pdu_write(&all, strings, &mut out)
+        };
+        let refused = 8 * 65_536;
+        assert_eq!(written(&[3, 1], &[]), refused);
+        assert_eq!(written(&[0x1_0005, 1], &[]), refused);
+        assert_eq!(written(&[5, 1, 1], &[]), refused);
+        assert_eq!(written(&[0x0C, 1, 0x1_0000, 0], &[]), refused);
+        assert_eq!(written(&[2, 1, 2], &[]), refused);
+        assert_eq!(written(&[2, 1, 0x1_0001], &[]), refused);
+        assert_eq!(written(&[0x0F, 1, 1, 4], &[0; 4]), refused);
+        assert_eq!(written(&[0x0F, 1, u32::MAX, 1], &[0; 4]), refused);
+        assert_eq!(written(&[0x0F, 1, 0, u32::MAX], &[0; 4]), refused);
+        assert_eq!(written(&[5, 1, 0, 0, 0, 0, 0, 0, 0, 0, 0, 1], &[]), refused);
+        assert_eq!(written(&[5, 1], &[9; 3]), 8);
+        assert_eq!(out[..9], [5, 0, 8, 0, 1, 0, 0, 0, 0xEE]);
+    }
+}

@@ -1,0 +1,58 @@
+//! RDP Remote Programs (RAIL) at the terminal's end, over a proved library.
+//!
+//! A [`Session`] takes the windowing orders of a server as they come and keeps what
+//! they make: windows, notification icons, the icon cache and the desktop. An order
+//! is used whole or refused whole, and a [`Refusal`] says why. Orders since the last
+//! checkpoint can be taken back. A [`Message`] is one of the 13 control messages,
+//! read from bytes and written to bytes.
+//!
+//! ```
+//! use rail::{Refusal, Session, WindowId};
+//!
+//! let mut session = Session::new();
+//! let order = [0x2E, 15, 0, 0x04, 0, 0, 0x11, 0x58, 0, 1, 0, 2, 0, 0x41, 0];
+//! let standing = session.deliver(&order)?;
+//! assert_eq!((standing.orders, standing.bytes), (1, 15));
+//!
+//! // The window is new only once.
+//! assert_eq!(session.deliver(&order), Err(Refusal::WrongId));
+//!
+//! let id = WindowId(0x0001_0058);
+//! assert_eq!(session.window(id)?.title(), "A");
+//!
+//! session.undo(1)?;
+//! assert_eq!(session.window(id), Err(Refusal::WrongId));
+//! # Ok::<(), Refusal>(())
+//! ```
+//!
+//! What is proved is the library: every call ends with a number of document 01's
+//! list, a refusal changes no byte of the memory, and a list of calls answers as a
+//! plain book of the orders does. This crate, which lends it memory and gives names
+//! to the bytes it hands out, is not proved but tested.
+//!
+//! The library has no state of its own and keeps nothing that it is lent, so calls
+//! on different sessions can run at once, and so can lookups on the same one.
+
+#![deny(missing_docs)]
+#![deny(unsafe_code)]
+
+mod answer;
+mod ffi;
+mod ids;
+mod memory;
+mod message;
+mod record;
+mod session;
+mod text;
+
+pub use answer::{Found, Refusal, Standing, UnknownNumber};
+pub use ids::{NotifyIconId, WindowId};
+pub use memory::{
+    LentSession, Memory, View, BODIES_SIZE, CELLS_SIZE, DIRECTORY_SIZE, JOURNAL_SIZE,
+};
+pub use message::{tidy, Message, MESSAGE_LIMIT};
+pub use record::{
+    CacheCell, Desktop, NotificationIcon, Picture, Point, Rectangle, ShowState, Size, Window,
+};
+pub use session::{NotificationIcons, Session, Windows};
+pub use text::{text_lossy, utf16_bytes};

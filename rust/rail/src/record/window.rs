@@ -1,0 +1,201 @@
+//! Windows.
+
+use super::reader::Reader;
+use super::{CacheCell, Point, Rectangle, Size};
+use crate::ids::WindowId;
+
+/// How a window is shown.
+#[derive(Clone, Copy, Debug, Default, PartialEq, Eq, Hash)]
+#[repr(u8)]
+pub enum ShowState {
+    /// 0: not at all.
+    #[default]
+    Hidden = 0,
+    /// 2: minimized.
+    Minimized = 2,
+    /// 3: maximized.
+    Maximized = 3,
+    /// 5: in its place and size.
+    Shown = 5,
+}
+
+impl ShowState {
+    /// Its number in orders.
+    pub fn number(self) -> u8 {
+        self as u8
+    }
+
+    fn of(number: u8) -> Option<Self> {
+        let all = [Self::Hidden, Self::Minimized, Self::Maximized, Self::Shown];
+        all.into_iter().find(|state| state.number() == number)
+    }
+}
+
+/// A window as the table has it. A field that no order has set is zero or empty.
+#[derive(Clone, Debug, Default, PartialEq, Eq)]
+pub struct Window {
+    /// The window that owns it (OwnerWindowId).
+    pub owner: WindowId,
+    /// The window style (Style).
+    pub style: u32,
+    /// The extended window style (ExtendedStyle).
+    pub extended_style: u32,
+    /// How it is shown (ShowState).
+    pub show_state: ShowState,
+    /// Where the client area begins on the screen (ClientOffsetX, ClientOffsetY).
+    pub client_offset: Point,
+    /// The size of the client area (ClientAreaWidth, ClientAreaHeight).
+    pub client_size: Size,
+    /// Whether a render plug-in uses it for client-side rendering (RPContent).
+    pub rp_content: bool,
+    /// Its top-level parent, or itself (RootParentHandle).
+    pub root_parent: WindowId,
+    /// Where the window begins on the screen (WindowOffsetX, WindowOffsetY).
+    pub window_offset: Point,
+    /// From the window's beginning to that of its client area (WindowClientDeltaX,
+    /// WindowClientDeltaY).
+    pub client_delta: Point,
+    /// The window's size (WindowWidth, WindowHeight).
+    pub window_size: Size,
+    /// The window's geometry, in window coordinates (WindowRects).
+    pub window_rects: Vec<Rectangle>,
+    /// Where the visible region begins (VisibleOffsetX, VisibleOffsetY).
+    pub visible_offset: Point,
+    /// The visible region, in window coordinates (VisibilityRects).
+    pub visibility_rects: Vec<Rectangle>,
+    /// The cell that has the small icon.
+    pub small_icon: Option<CacheCell>,
+    /// The cell that has the big icon.
+    pub big_icon: Option<CacheCell>,
+    title: Vec<u16>,
+}
+
+impl Window {
+    /// The bytes in which a lookup hands it out.
+    pub const SIZE: usize = 850;
+    /// The most bytes of a title.
+    const TITLE: usize = 520;
+
+    /// The title; what is no text in it becomes U+FFFD.
+    pub fn title(&self) -> String {
+        String::from_utf16_lossy(&self.title)
+    }
+
+    /// The title as the server gave it.
+    pub fn title_utf16(&self) -> &[u16] {
+        &self.title
+    }
+
+    pub(crate) fn of(bytes: &[u8; Self::SIZE]) -> Self {
+        let mut from = Reader(bytes);
+        let small_icon = from.cell();
+        let big_icon = from.cell();
+        Self {
+            small_icon,
+            big_icon,
+            owner: from.window_id(),
+            style: from.u32(),
+            extended_style: from.u32(),
+            show_state: ShowState::of(from.u8()).expect("a stored show state is a listed one"),
+            title: from.text(Self::TITLE),
+            client_offset: from.point(),
+            client_size: from.size(),
+            rp_content: from.yes(),
+            root_parent: from.window_id(),
+            window_offset: from.point(),
+            client_delta: from.point(),
+            window_size: from.size(),
+            window_rects: from.rectangles(),
+            visible_offset: from.point(),
+            visibility_rects: from.rectangles(),
+        }
+    }
+}
+
+#[cfg(test)]
+mod tests {
+    use super::*;
+    use crate::ffi;
+
+    #[test]
+    fn size_is_the_librarys() {
+        assert_eq!(ffi::size(4), Window::SIZE as u32);
+    }
+
+    #[test]
+    fn show_states() {
+        let numbers: Vec<u8> = (0..=255).filter(|&n| ShowState::of(n).is_some()).collect();
+        assert_eq!(numbers, [0, 2, 3, 5]);
+    }
+
+    /// A record with every field at its place in the layout.
+    fn laid_out() -> [u8; Window::SIZE] {
+        let fields: [(usize, &[u8]); 13] = [
+            (0, &[3, 12]),
+            (2, &[2, 0, 0, 0]),
+            (6, &[6, 0, 0, 0, 10, 0, 0, 0, 5]),
+            (15, &[4, 0, 0x41, 0, 0x00, 0xD8]),
+            (537, &[1, 0, 0, 0, 0xFF, 0xFF, 0xFF, 0xFF]),
+            (545, &[3, 0, 0, 0, 4, 0, 0, 0, 1]),
+            (554, &[5, 0, 0, 0]),
+            (558, &[6, 0, 0, 0, 7, 0, 0, 0]),
+            (566, &[8, 0, 0, 0, 9, 0, 0, 0]),
+            (574, &[10, 0, 0, 0, 11, 0, 0, 0]),
+            (582, &[1, 0, 1, 0, 2, 0, 3, 0, 4, 0]),
+            (712, &[12, 0, 0, 0, 13, 0, 0, 0]),
+            (720, &[1, 0, 5, 0, 6, 0, 7, 0, 8, 0]),
+        ];
+        let mut bytes = [0; Window::SIZE];
+        for (at, field) in fields {
+            bytes[at..at + field.len()].copy_from_slice(field);
+        }
+        bytes
+    }
+
+    fn rectangle(left: u16) -> Rectangle {
+        let [top, right, bottom] = [left + 1, left + 2, left + 3];
+        Rectangle {
+            left,
+            top,
+            right,
+            bottom,
+        }
+    }
+
+    fn size(width: u32, height: u32) -> Size {
+        Size { width, height }
+    }
+
+    fn cell(cache_id: u8, cache_entry: u16) -> Option<CacheCell> {
+        Some(CacheCell {
+            cache_id,
+            cache_entry,
+        })
+    }
+
+    #[test]
+    fn fields_by_place() {
+        let window = Window {
+            owner: WindowId(2),
+            style: 6,
+            extended_style: 10,
+            show_state: ShowState::Shown,
+            client_offset: Point { x: 1, y: -1 },
+            client_size: size(3, 4),
+            rp_content: true,
+            root_parent: WindowId(5),
+            window_offset: Point { x: 6, y: 7 },
+            client_delta: Point { x: 8, y: 9 },
+            window_size: size(10, 11),
+            window_rects: vec![rectangle(1)],
+            visible_offset: Point { x: 12, y: 13 },
+            visibility_rects: vec![rectangle(5)],
+            small_icon: cell(0, 2),
+            big_icon: cell(1, 5),
+            title: vec![0x41, 0xD800],
+        };
+        assert_eq!(Window::of(&laid_out()), window);
+        assert_eq!(window.title(), "A\u{FFFD}");
+        assert_eq!(window.title_utf16(), [0x41, 0xD800]);
+    }
+}

@@ -1,0 +1,117 @@
+//! Records as the second program has them.
+
+use std::fmt::Debug;
+
+use rail::{CacheCell, Desktop, NotificationIcon, Picture, Point, Rectangle, Size, Window};
+use second::ids::WindowId;
+use second::order::CellPlace;
+use second::script::session::Call;
+use second::table::{self, Table};
+
+use super::Record;
+
+/// Whether the record of a granted call is what the table has; else a text.
+pub fn found(table: &Table, call: &Call<'_>, record: &Record) -> Result<(), String> {
+    match (call, record) {
+        (Call::Window(id), Record::Window(found)) => same(table.window(*id), window(found)),
+        (Call::Icon(window, id), Record::NotificationIcon(found)) => {
+            same(table.icon(*window, *id), icon(found))
+        }
+        (Call::Cell(place), Record::Picture(found)) => same(table.cell(*place), cell(found)),
+        (Call::Desktop, Record::Desktop(found)) => same(Some(table.desktop()), desktop(found)),
+        (_, Record::Nothing) => Ok(()),
+        _ => Err(format!("the record is of another kind: {record:?}")),
+    }
+}
+
+fn same<T: PartialEq + Debug>(expected: Option<&T>, found: T) -> Result<(), String> {
+    match expected {
+        Some(expected) if *expected == found => Ok(()),
+        _ => Err(format!("found {found:?}, the book has {expected:?}")),
+    }
+}
+
+fn window(found: &Window) -> table::Window {
+    table::Window {
+        owner: WindowId(found.owner.0),
+        style: found.style,
+        extended_style: found.extended_style,
+        show_state: found.show_state.number(),
+        title: bytes(found.title_utf16()),
+        client_offset: pair(found.client_offset),
+        client_size: sides(found.client_size),
+        rp_content: found.rp_content.into(),
+        root_parent: WindowId(found.root_parent.0),
+        window_offset: pair(found.window_offset),
+        client_delta: pair(found.client_delta),
+        window_size: sides(found.window_size),
+        window_rects: rects(&found.window_rects),
+        visible_offset: pair(found.visible_offset),
+        visibility_rects: rects(&found.visibility_rects),
+        small_icon: found.small_icon.map(place),
+        big_icon: found.big_icon.map(place),
+    }
+}
+
+fn icon(found: &NotificationIcon) -> table::NotificationIcon {
+    table::NotificationIcon {
+        version: found.version,
+        tip: bytes(found.tool_tip_utf16()),
+        balloon_timeout: found.balloon_timeout,
+        balloon_flags: found.balloon_info_flags,
+        balloon_text: bytes(found.balloon_text_utf16()),
+        balloon_title: bytes(found.balloon_title_utf16()),
+        state: found.state,
+        picture: found.icon.map(place),
+    }
+}
+
+fn cell(found: &Picture) -> table::Cell {
+    table::Cell {
+        bits_per_pixel: found.bits_per_pixel,
+        width: found.width,
+        height: found.height,
+        mask: found.mask.clone(),
+        color_table: found.color_table.clone(),
+        color: found.color.clone(),
+    }
+}
+
+fn desktop(found: &Desktop) -> table::Desktop {
+    table::Desktop {
+        active: WindowId(found.active_window.0),
+        hooked: found.hooked,
+        syncing: found.syncing,
+        stack: found.z_order.iter().map(|id| WindowId(id.0)).collect(),
+    }
+}
+
+fn bytes(units: &[u16]) -> Vec<u8> {
+    units.iter().flat_map(|unit| unit.to_le_bytes()).collect()
+}
+
+/// The same bits: the second program reads offsets as unsigned.
+fn pair(point: Point) -> (u32, u32) {
+    (point.x as u32, point.y as u32)
+}
+
+fn sides(size: Size) -> (u32, u32) {
+    (size.width, size.height)
+}
+
+fn rects(list: &[Rectangle]) -> Vec<table::Rect> {
+    let rect = |side: &Rectangle| table::Rect {
+        left: side.left,
+        top: side.top,
+        right: side.right,
+        bottom: side.bottom,
+    };
+    list.iter().map(rect).collect()
+}
+
+fn place(cell: CacheCell) -> CellPlace {
+    CellPlace {
+        cache: cell.cache_id,
+        entry: cell.cache_entry,
+    }
+}

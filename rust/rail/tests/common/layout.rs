@@ -1,0 +1,118 @@
+//! The bytes that a lookup writes, from the second program's records: each field at its
+//! place, and zeros after its end.
+
+use second::order::CellPlace;
+use second::script::session::Call;
+use second::table::{Cell, Desktop, NotificationIcon, Rect, Table, Window};
+
+/// The bytes of what a lookup finds; none for another call.
+pub fn bytes(table: &Table, call: &Call<'_>) -> Option<Vec<u8>> {
+    let mut to = Writer(Vec::new());
+    let size = match *call {
+        Call::Window(id) => to.window(table.window(id)?),
+        Call::Icon(window, icon) => to.icon(table.icon(window, icon)?),
+        Call::Cell(place) => to.cell(table.cell(place)?),
+        Call::Desktop => to.desktop(table.desktop()),
+        _ => return None,
+    };
+    to.0.resize(size, 0);
+    Some(to.0)
+}
+
+struct Writer(Vec<u8>);
+
+impl Writer {
+    fn window(&mut self, window: &Window) -> usize {
+        self.place(window.small_icon);
+        self.place(window.big_icon);
+        self.numbers(&[window.owner.0, window.style, window.extended_style]);
+        self.0.push(window.show_state);
+        self.text(&window.title, 537);
+        self.pair(window.client_offset);
+        self.pair(window.client_size);
+        self.0.push(window.rp_content);
+        self.numbers(&[window.root_parent.0]);
+        self.pair(window.window_offset);
+        self.pair(window.client_delta);
+        self.pair(window.window_size);
+        self.rects(&window.window_rects, 712);
+        self.pair(window.visible_offset);
+        self.rects(&window.visibility_rects, 850);
+        850
+    }
+
+    fn icon(&mut self, icon: &NotificationIcon) -> usize {
+        self.place(icon.picture);
+        self.0.push(0);
+        self.numbers(&[icon.version]);
+        self.text(&icon.tip, 264);
+        self.numbers(&[icon.balloon_timeout, icon.balloon_flags]);
+        self.text(&icon.balloon_text, 784);
+        self.text(&icon.balloon_title, 912);
+        self.numbers(&[icon.state]);
+        916
+    }
+
+    fn cell(&mut self, cell: &Cell) -> usize {
+        self.0.push(cell.bits_per_pixel);
+        self.short(cell.width);
+        self.short(cell.height);
+        if cell.bits_per_pixel <= 8 {
+            self.short(cell.color_table.len() as u16);
+        }
+        self.short(cell.mask.len() as u16);
+        self.short(cell.color.len() as u16);
+        for bytes in [&cell.mask, &cell.color_table, &cell.color] {
+            self.0.extend_from_slice(bytes);
+        }
+        4_235
+    }
+
+    fn desktop(&mut self, desktop: &Desktop) -> usize {
+        self.0.push(desktop.hooked.into());
+        self.0.push(desktop.syncing.into());
+        self.numbers(&[desktop.active.0]);
+        self.0.push(desktop.stack.len() as u8);
+        for id in &desktop.stack {
+            self.numbers(&[id.0]);
+        }
+        263
+    }
+
+    fn short(&mut self, number: u16) {
+        self.0.extend(number.to_le_bytes());
+    }
+
+    fn numbers(&mut self, numbers: &[u32]) {
+        for number in numbers {
+            self.0.extend(number.to_le_bytes());
+        }
+    }
+
+    fn pair(&mut self, (x, y): (u32, u32)) {
+        self.numbers(&[x, y]);
+    }
+
+    fn place(&mut self, place: Option<CellPlace>) {
+        let number = place.map_or(0, |place| 1 + 6 * u16::from(place.cache) + place.entry);
+        self.0.push(number as u8);
+    }
+
+    /// A text, and zeros to the place of what comes next.
+    fn text(&mut self, text: &[u8], next: usize) {
+        self.short(text.len() as u16);
+        self.0.extend_from_slice(text);
+        self.0.resize(next, 0);
+    }
+
+    /// Rectangles, and zeros to the place of what comes next.
+    fn rects(&mut self, rects: &[Rect], next: usize) {
+        self.short(rects.len() as u16);
+        for rect in rects {
+            for side in [rect.left, rect.top, rect.right, rect.bottom] {
+                self.short(side);
+            }
+        }
+        self.0.resize(next, 0);
+    }
+}
