@@ -1,22 +1,25 @@
 -- What each function over a slot does, by its tests: one law for each way out. Assumes nothing.
-use mathlib.Core.Path.{_≡_, refl, sym, ap, _∙_}
+use mathlib.Core.Path.{_≡_, refl, sym, ap, subst, _∙_}
 use mathlib.Core.Bool.{Bool, true, false, not}
-use mathlib.Core.List.{List}
+use mathlib.Core.List.{List, []}
 use Prim.Native.Nat.{ℕ, _+_, _-_, _≤_, _<_}
 use native.Mathlib.Omega.{arith}
+use lib.Dec.{eqb}
 use lib.Bits.{bitAnd}
 use lib.ListN.{length, getD, replicate}
-use borrow.Author.Tests.{eq-eqb, ne-eqb, not-true, not-false, lt-leb, le-leb}
-use Rattle.wire.specs.Tests.{has, hasAll}
+use borrow.Author.Tests.{eq-eqb, eqb-true, ne-eqb, not-true, not-false, lt-leb, le-leb}
+use Rattle.wire.specs.Tests.{both, has, hasAll}
+use Rattle.wire.proofs.Tests.{both-left, both-right}
 use Rattle.wire.specs.Numbers.{numAt, bytesOf}
 use Rattle.wire.specs.Parts.{slice, splice}
+use Rattle.wire.proofs.Parts.{splice-nil}
 use Rattle.order.specs.declared.Row.{Row}
 use Rattle.order.specs.declared.Fit.the-variants.{Ends, Short}
-use Rattle.order.specs.Rows.{allRows, noRow, rowsFrom, roomOf, okOf, stepOf, walkOf}
+use Rattle.order.specs.Rows.{allRows, noRow, rowsFrom, roomOf, lenOf, okOf, stepOf, walkOf}
 use Rattle.order.proofs.Fields.{part-next, NoneOf, past-table}
-use Rattle.order.proofs.Carried.{stepped-at, carried, not-carried, row-room}
+use Rattle.order.proofs.Carried.{Stepped, stepped-at, carried, not-carried, row-room}
 use Rattle.body.specs.Bodies.{fieldsOk, bodyOk}
-use Rattle.body.specs.Stores.{storeOf, preparedOf, pointedOf, hookedOf, syncedOf, roomAll, EndsWell}
+use Rattle.body.specs.Stores.{storeOf, preparedOf, pointedOf, hookedOf, syncedOf, roomAll, EndsWell, Turned}
 
 -- ---- the room of a row
 
@@ -121,6 +124,93 @@ module _ (k high flags : ℕ) (s : List ℕ) (p off : ℕ) (slot : List ℕ) (mo
 pub store-done : (k high flags : ℕ) (s : List ℕ) (p off : ℕ) (slot : List ℕ) → high ≤ k → storeOf (rowsFrom k high) off flags s p slot ≡ slot
 unfolding storeOf
 store-done k high flags s p off slot h = let e : high - k ≡ 0 = omega arith in rw e
+
+-- ---- the window's fields, row by row
+
+module _ (k off flags : ℕ) (s : List ℕ) (p : ℕ) (slot : List ℕ) (more : k < 15) (low : 1 ≤ p) (inside : p ≤ length s) (ends : EndsWell (rowsFrom k 15) flags s p) where
+  few : 15 ≤ 24
+  few = omega arith
+
+  here : Stepped (getD allRows k noRow) (rowsFrom (k + 1) 15) flags s p (ends .end)
+  here = stepped-at k 15 flags s p (ends .end) more few (ends .well)
+
+  well-at : {q : ℕ} → here .next ≡ q → EndsWell (rowsFrom (k + 1) 15) flags s q
+  well-at e = record { end = ends .end; well = ap (λ (i : ℕ). walkOf (rowsFrom (k + 1) 15) flags s i 0) (sym e) ∙ here .then }
+
+  step-at : {q : ℕ} → here .next ≡ q → stepOf (getD allRows k noRow) flags s p 0 ≡ Ends q 0
+  step-at e = here .here ∙ ap (λ (i : ℕ). Ends i 0) e
+
+  pub put-absent : {b : Bool} → b ≡ hasAll flags (getD allRows k noRow .flag) → b ≡ false → Turned k off flags s p slot p slot
+  unfolding slice
+  put-absent e f =
+      let q : here .next ≡ p = not-carried (getD allRows k noRow) flags s p (here .next) (sym e ∙ f) (here .here) in
+      let z : p - p ≡ 0 = omega arith in
+      let none : slice s p (p - p) ≡ [] = rw z in
+      let x : slot ≡ splice slot off (slice s p (p - p)) = sym (ap (splice slot off) none ∙ splice-nil slot off) in
+      record {
+        stored = store-next k 15 flags s p off slot more few (step-at q) refl x;
+        on = omega arith;
+        within = inside;
+        well = well-at q;
+      }
+
+  pub put-fits : {b : Bool} {n : ℕ} → b ≡ hasAll flags (getD allRows k noRow .flag) → b ≡ true → n ≡ lenOf (getD allRows k noRow) s p
+      → (n ≤ roomOf (getD allRows k noRow)) × (p + n ≤ length s)
+  put-fits e f g =
+      let c = carried (getD allRows k noRow) flags s p (here .next) low inside (sym e ∙ f) (here .here) in
+      (omega (arith, g, row-room k s p (c .ok)), omega (arith, g, c .ends, c .within))
+
+  pub put-carried : {b : Bool} {n : ℕ} {x : List ℕ} → b ≡ hasAll flags (getD allRows k noRow .flag) → b ≡ true → n ≡ lenOf (getD allRows k noRow) s p
+      → x ≡ splice slot off (slice s p n) → Turned k off flags s p slot (p + n) x
+  put-carried {b} {n} e f g h =
+      let c = carried (getD allRows k noRow) flags s p (here .next) low inside (sym e ∙ f) (here .here) in
+      let q : here .next ≡ p + n = omega (arith, g, c .ends) in
+      let m : p + n - p ≡ n = omega arith in
+      record {
+        stored = store-next k 15 flags s p off slot more few (step-at q) refl (h ∙ ap (λ (i : ℕ). splice slot off (slice s p i)) (sym m));
+        on = omega arith;
+        within = omega (arith, c .within, q);
+        well = well-at q;
+      }
+
+-- the rows before k are put, and row k begins at index q
+pub record Done (k off flags : ℕ) (s : List ℕ) (at : ℕ) (before : List ℕ) (q : ℕ) (slot : List ℕ) : Type 0 where
+  pub stored : storeOf (rowsFrom 1 15) 2 flags s at before ≡ storeOf (rowsFrom k 15) off flags s q slot
+  pub low : 1 ≤ q
+  pub within : q ≤ length s
+  pub well : EndsWell (rowsFrom k 15) flags s q
+  pub same : length slot ≡ length before
+
+pub done-first : (flags : ℕ) (s : List ℕ) (at : ℕ) (slot : List ℕ) → 1 ≤ at → at ≤ length s → EndsWell (rowsFrom 1 15) flags s at → Done 1 2 flags s at slot at slot
+done-first flags s at slot l h e = record { stored = refl; low = l; within = h; well = e; same = refl }
+
+pub done-next : (k off flags : ℕ) (s : List ℕ) (at : ℕ) (before : List ℕ) {p q : ℕ} {slot x : List ℕ} → Done k off flags s at before p slot
+    → Turned k off flags s p slot q x → length x ≡ length slot → Done (k + 1) (off + roomOf (getD allRows k noRow)) flags s at before q x
+done-next k off flags s at before d t e =
+    record { stored = d .stored ∙ t .stored; low = omega (arith, d .low, t .on); within = t .within; well = t .well; same = e ∙ d .same }
+
+-- the places of the window's fields
+window-room : roomAll (rowsFrom 1 15) ≡ 848
+unfolding roomAll
+window-room = refl
+
+pub is-window : (low high : ℕ) → both (eqb low 1) (eqb high 15) ≡ true → (low ≡ 1) × (high ≡ 15)
+is-window low high e = (eqb-true low 1 (both-left (eqb low 1) (eqb high 15) e), eqb-true high 15 (both-right (eqb low 1) (eqb high 15) e))
+
+module _ {low high : ℕ} (is : (low ≡ 1) × (high ≡ 15)) where
+  rows-same : rowsFrom 1 15 ≡ rowsFrom low high
+  rows-same = rw (is .0, is .1)
+
+  pub window-long : (n : ℕ) → 2 + roomAll (rowsFrom low high) ≤ n → 850 ≤ n
+  window-long n h =
+      let e : roomAll (rowsFrom low high) ≡ 848 = ap (λ (rs : List Row). roomAll rs) (sym rows-same) ∙ window-room in
+      omega (arith, h, e)
+
+  pub window-well : (flags : ℕ) (s : List ℕ) (at : ℕ) → EndsWell (rowsFrom low high) flags s at → EndsWell (rowsFrom 1 15) flags s at
+  window-well flags s at e = subst (λ (rs : List Row). EndsWell rs flags s at) (sym rows-same) e
+
+  pub window-stored : (flags : ℕ) (s : List ℕ) (at : ℕ) (slot : List ℕ) {x : List ℕ} → x ≡ storeOf (rowsFrom 1 15) 2 flags s at slot → x ≡ storeOf (rowsFrom low high) 2 flags s at slot
+  window-stored flags s at slot e = e ∙ ap (λ (rs : List Row). storeOf rs 2 flags s at slot) rows-same
 
 -- ---- the fields in their sets, row by row
 

@@ -1,15 +1,15 @@
 -- What the stores into a slot of bodies do to it. Assumes nothing.
-use Prim.Native.Nat.{ℕ, _+_, _*_, _-_}
+use Prim.Native.Nat.{ℕ, _+_, _*_, _-_, _≤_}
 use mathlib.Core.Path.{_≡_}
 use mathlib.Core.Bool.{Bool}
 use mathlib.Core.List.{List, [], _∷_}
-use lib.ListN.{replicate}
+use lib.ListN.{length, getD, replicate}
 use Rattle.wire.specs.Tests.{pick, has}
 use Rattle.wire.specs.Numbers.{bytesOf}
 use Rattle.wire.specs.Parts.{slice, splice}
 use Rattle.order.specs.declared.Row.{Row}
 use Rattle.order.specs.declared.Fit.the-variants.{Ends}
-use Rattle.order.specs.Rows.{roomOf, stepOf, onFit, walkOf}
+use Rattle.order.specs.Rows.{allRows, noRow, rowsFrom, roomOf, stepOf, onFit, walkOf}
 
 -- the flagged fields put into their places, the first row's at index off
 unfoldable pub storeOf : List Row → ℕ → ℕ → List ℕ → ℕ → List ℕ → List ℕ
@@ -44,3 +44,10 @@ roomAll (r ∷ rs) = roomOf r + roomAll rs
 pub record EndsWell (rows : List Row) (flags : ℕ) (s : List ℕ) (at : ℕ) : Type 0 where
   pub end : ℕ
   pub well : walkOf rows flags s at 0 ≡ Ends end 0
+
+-- one turn of a store of the window's fields: row k is put at index off, and the next row begins at index q
+pub record Turned (k off flags : ℕ) (s : List ℕ) (at : ℕ) (slot : List ℕ) (q : ℕ) (after : List ℕ) : Type 0 where
+  pub stored : storeOf (rowsFrom k 15) off flags s at slot ≡ storeOf (rowsFrom (k + 1) 15) (off + roomOf (getD allRows k noRow)) flags s q after
+  pub on : at ≤ q
+  pub within : q ≤ length s
+  pub well : EndsWell (rowsFrom (k + 1) 15) flags s q

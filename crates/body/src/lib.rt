@@ -5,7 +5,7 @@ ghost use Prim.Native.Nat.{_+_, _<_, _≤_};
 ghost use lib.ListN.{length, getD};
 ghost use Rattle.order.specs.Rows.{allRows, noRow, rowsFrom, roomOf};
 ghost use Rattle.body.specs.Bodies.{fieldsOk, bodyOk};
-ghost use Rattle.body.specs.Stores.{storeOf, preparedOf, pointedOf, hookedOf, syncedOf, roomAll, EndsWell};
+ghost use Rattle.body.specs.Stores.{storeOf, preparedOf, pointedOf, hookedOf, syncedOf, roomAll, EndsWell, Turned};
 use order::Fit;
 use order::rows;
 
@@ -45,8 +45,45 @@ pub fn room(k: usize) -> usize
     }
 }
 
-// Puts the flagged fields of rows low to high, carried from index at on, into their places.
-pub fn store(slot: &mut [u8], s: &[u8], at: usize, flags: u32, low: usize, high: usize)
+// Puts the field of row k, where it is carried from index at on, at index off. Where the next row begins.
+fn put(slot: &mut [u8], s: &[u8], at: usize, flags: u32, k: usize, off: usize) -> usize
+    requires { ⌜ (k < 15) × (1 ≤ at) × (at ≤ length (now s)) × (off + roomOf (getD allRows k noRow) ≤ length (now slot)) ⌝ }
+    requires { ⌜ EndsWell (rowsFrom k 15) flags (now s) at ⌝ }
+    ensures { λ r. ⌜ Turned k off flags (now (s .entry)) at (now (slot .entry)) r (now (slot .exit)) ⌝ }
+{
+    if !rows::is_flagged(flags, k) {
+        return at;
+    }
+    let n = rows::width(s, at, k);
+    wire::copy_part(slot, off, s, at, n);
+    at + n
+}
+
+// Puts the flagged fields of a window, carried from index at on, into their places. With rows and places that the compiler
+// knows this takes fewer instructions than a loop.
+fn store_window(slot: &mut [u8], s: &[u8], at: usize, flags: u32)
+    requires { ⌜ (1 ≤ at) × (at ≤ length (now s)) × (850 ≤ length (now slot)) ⌝ }
+    requires { ⌜ EndsWell (rowsFrom 1 15) flags (now s) at ⌝ }
+    ensures { λ _. ⌜ now (slot .exit) ≡ storeOf (rowsFrom 1 15) 2 flags (now (s .entry)) at (now (slot .entry)) ⌝ }
+{
+    let p = put(slot, s, at, flags, 1, 2); // owner
+    let p = put(slot, s, p, flags, 2, 6); // style, extended style
+    let p = put(slot, s, p, flags, 3, 14); // show state
+    let p = put(slot, s, p, flags, 4, 15); // title
+    let p = put(slot, s, p, flags, 5, 537); // client offset x, y
+    let p = put(slot, s, p, flags, 6, 545); // client width, height
+    let p = put(slot, s, p, flags, 7, 553); // RPContent
+    let p = put(slot, s, p, flags, 8, 554); // root parent
+    let p = put(slot, s, p, flags, 9, 558); // window offset x, y
+    let p = put(slot, s, p, flags, 10, 566); // window client delta x, y
+    let p = put(slot, s, p, flags, 11, 574); // window width, height
+    let p = put(slot, s, p, flags, 12, 582); // window rectangles
+    let p = put(slot, s, p, flags, 13, 712); // visible offset x, y
+    put(slot, s, p, flags, 14, 720); // visibility rectangles
+}
+
+// Puts the flagged fields of rows low to high into their places, row by row.
+fn store_rows(slot: &mut [u8], s: &[u8], at: usize, flags: u32, low: usize, high: usize)
     requires { ⌜ (low ≤ high) × (high ≤ 24) × (1 ≤ at) × (at ≤ length (now s)) × (2 + roomAll (rowsFrom low high) ≤ length (now slot)) ⌝ }
     requires { ⌜ EndsWell (rowsFrom low high) flags (now s) at ⌝ }
     ensures { λ _. ⌜ now (slot .exit) ≡ storeOf (rowsFrom low high) 2 flags (now (s .entry)) at (now (slot .entry)) ⌝ }
@@ -65,6 +102,19 @@ pub fn store(slot: &mut [u8], s: &[u8], at: usize, flags: u32, low: usize, high:
         p = q;
         k += 1;
     }
+}
+
+// Puts the flagged fields of rows low to high, carried from index at on, into their places.
+pub fn store(slot: &mut [u8], s: &[u8], at: usize, flags: u32, low: usize, high: usize)
+    requires { ⌜ (low ≤ high) × (high ≤ 24) × (1 ≤ at) × (at ≤ length (now s)) × (2 + roomAll (rowsFrom low high) ≤ length (now slot)) ⌝ }
+    requires { ⌜ EndsWell (rowsFrom low high) flags (now s) at ⌝ }
+    ensures { λ _. ⌜ now (slot .exit) ≡ storeOf (rowsFrom low high) 2 flags (now (s .entry)) at (now (slot .entry)) ⌝ }
+{
+    if (low == 1) & (high == 15) {
+        store_window(slot, s, at, flags);
+        return;
+    }
+    store_rows(slot, s, at, flags, low, high);
 }
 
 // Makes a slot empty for a new record.

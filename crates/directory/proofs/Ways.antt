@@ -1,16 +1,17 @@
 -- What each function of the directory answers, by its tests: one law for each way out. Assumes nothing.
-use mathlib.Core.Path.{_≡_, ap}
+use mathlib.Core.Path.{_≡_, refl, sym, ap, _∙_}
 use mathlib.Core.Bool.{Bool, true, false, not}
 use mathlib.Core.List.{List}
 use Prim.Native.Nat.{ℕ, suc, _+_, _*_, _-_, _≤_, _<_}
 use native.Mathlib.Omega.{arith}
 use lib.Dec.{eqb}
 use lib.Bits.{bitAnd}
-use lib.ListN.{length, replicate}
+use lib.ListN.{length, replicate, take, drop}
 use borrow.Author.Tests.{ne-eqb, eq-eqb, lt-ltb, le-ltb}
-use Rattle.wire.specs.Tests.{pick, has}
+use Rattle.wire.specs.Tests.{pick, both, has}
 use Rattle.wire.specs.Numbers.{numAt, bytesOf}
-use Rattle.wire.specs.Parts.{splice}
+use Rattle.wire.specs.Parts.{slice, splice}
+use Rattle.wire.proofs.Numbers.{num-slice}
 use Rattle.order.specs.declared.WindowOrder.{WindowOrder}
 use Rattle.order.specs.declared.NotificationOrder.{NotificationOrder}
 use Rattle.order.specs.declared.DesktopOrder.{DesktopOrder}
@@ -49,6 +50,34 @@ module _ (dir : List ℕ) (a b i : ℕ) {u : Bool} (e : u ≡ isUsed dir i) wher
     pub at-second : {y : ℕ} → x ≡ a → y ≡ numAt 4 dir (9 * i + 5) → eqb y b ≡ isAt dir a b i
     unfolding isAt
     at-second n g = rw (← e, t, ← f, eq-eqb x a n, ← g)
+
+-- the same by a slot's own bytes
+module _ (slot : List ℕ) (a b : ℕ) {x : ℕ} (e : x ≡ numAt 4 slot 1) where
+  pub ids-other : (x ≡ a → ⊥) → false ≡ isAt slot a b 0
+  unfolding isAt
+  ids-other n = rw (← e, ne-eqb x a n) (sym (both-false (isUsed slot 0)))
+    where
+      both-false : (t : Bool) → both t false ≡ false
+      both-false true = refl
+      both-false false = refl
+
+  module _ (n : x ≡ a) {u : ℕ} (f : u ≡ numAt 1 slot 0) where
+    pub ids-free : (u ≡ 1 → ⊥) → false ≡ isAt slot a b 0
+    unfolding isAt isUsed
+    ids-free m = rw (← f, ne-eqb u 1 m)
+
+    pub ids-second : {y : ℕ} → u ≡ 1 → y ≡ numAt 4 slot 5 → eqb y b ≡ isAt slot a b 0
+    unfolding isAt isUsed
+    ids-second m g = rw (← f, eq-eqb u 1 m, ← e, eq-eqb x a n, ← g)
+
+pub slot-lent : (dir : List ℕ) (a b i base n : ℕ) {u : Bool} → base ≡ 9 * i → n ≡ 9 → u ≡ isAt (take n (drop base dir)) a b 0 → u ≡ isAt dir a b i
+unfolding isAt isUsed slice
+slot-lent dir a b i base n e f h =
+    let m : 9 * i + 0 ≡ 9 * i = omega arith in
+    let x : numAt 1 (slice dir base n) 0 ≡ numAt 1 dir (9 * i) = num-slice 1 dir base n 0 (omega (arith, f)) ∙ ap (λ (k : ℕ). numAt 1 dir (k + 0)) e ∙ ap (numAt 1 dir) m in
+    let y : numAt 4 (slice dir base n) 1 ≡ numAt 4 dir (9 * i + 1) = num-slice 4 dir base n 1 (omega (arith, f)) ∙ ap (λ (k : ℕ). numAt 4 dir (k + 1)) e in
+    let z : numAt 4 (slice dir base n) 5 ≡ numAt 4 dir (9 * i + 5) = num-slice 4 dir base n 5 (omega (arith, f)) ∙ ap (λ (k : ℕ). numAt 4 dir (k + 5)) e in
+    rw (← x, ← y, ← z) h
 
 module _ (dir : List ℕ) (c : ℕ) where
   pub filled-none : 12 ≤ c → false ≡ filledAt dir c

@@ -2,6 +2,7 @@
 // After them a byte for each of the 12 cells of the icon cache, 1 where it is filled.
 ghost use mathlib.Core.Path.{_≡_};
 ghost use Prim.Native.Nat.{_+_, _*_, _<_, _≤_};
+ghost use lib.ListN.{length};
 ghost use Rattle.directory.specs.Slots.{isUsed, isFree, isAt, firstFrom, filledAt};
 use crate::Found;
 
@@ -34,8 +35,8 @@ fn is_at(dir: &[u8], a: u32, b: u32, i: usize) -> bool
     wire::read_u32(dir, 9 * i + 5) == b
 }
 
-// The first of count slots that has the record of the ids a and b.
-pub fn find(dir: &[u8], first: usize, count: usize, a: u32, b: u32) -> Found
+// The first of count slots that has the record of the ids a and b, in a memory of any length: a byte past its end counts 0.
+fn find_any(dir: &[u8], first: usize, count: usize, a: u32, b: u32) -> Found
     requires { ⌜ first + count ≤ 48 ⌝ }
     ensures { λ r. ⌜ r ≡ firstFrom count first (isAt (now (dir .entry)) a b) ⌝ }
 {
@@ -48,6 +49,48 @@ pub fn find(dir: &[u8], first: usize, count: usize, a: u32, b: u32) -> Found
         i += 1;
     }
     Found::Nothing
+}
+
+// The 9 bytes of a slot that has the record of the ids a and b.
+fn has_ids(slot: &[u8], a: u32, b: u32) -> bool
+    ensures { λ r. ⌜ r ≡ isAt (now (slot .entry)) a b 0 ⌝ }
+{
+    if wire::read_u32(slot, 1) != a {
+        return false;
+    }
+    if wire::read_u8(slot, 0) != 1 {
+        return false;
+    }
+    wire::read_u32(slot, 5) == b
+}
+
+// The first of count slots that has the record of the ids a and b, in a whole directory: its slots need no test of the end.
+fn find_whole(dir: &[u8], first: usize, count: usize, a: u32, b: u32) -> Found
+    requires { ⌜ (first + count ≤ 48) × (444 ≤ length (now dir)) ⌝ }
+    ensures { λ r. ⌜ r ≡ firstFrom count first (isAt (now (dir .entry)) a b) ⌝ }
+{
+    let end = first + count;
+    let mut i = first;
+    while i < end {
+        let base = 9 * i;
+        let past = base + 9;
+        if has_ids(&dir[base..past], a, b) {
+            return Found::At(i);
+        }
+        i += 1;
+    }
+    Found::Nothing
+}
+
+// The first of count slots that has the record of the ids a and b.
+pub fn find(dir: &[u8], first: usize, count: usize, a: u32, b: u32) -> Found
+    requires { ⌜ first + count ≤ 48 ⌝ }
+    ensures { λ r. ⌜ r ≡ firstFrom count first (isAt (now (dir .entry)) a b) ⌝ }
+{
+    if dir.len() < LENGTH {
+        return find_any(dir, first, count, a, b);
+    }
+    find_whole(dir, first, count, a, b)
 }
 
 // The first of count slots that has no record.

@@ -19,7 +19,8 @@ use Rattle.directory.proofs.Kept.{marked-sound, length-marked}
 use Rattle.directory.proofs.Numbered.{judged-number}
 use Rattle.table.specs.Table.{after}
 use Rattle.table.specs.Memory.{decode, soundTable}
-use Rattle.table.specs.Outcome.{Delivered}
+use Rattle.table.specs.Outcome.{PastKept, Delivered}
+use Rattle.table.proofs.Past.{same-past, past-past}
 use Rattle.journal.specs.State.{run}
 use Rattle.journal.specs.Journal.{sizeAt, orderAt, ordersFrom, endFrom, withinFrom}
 use Rattle.journal.specs.Standing.{acceptedOn, runOn, Replayed, Applied}
@@ -181,10 +182,11 @@ pub record Applying (d₀ b₀ c₀ j : List ℕ) (count : ℕ) (d b c : List �
   pub big : length b ≡ length b₀
   pub wide : length c ≡ length c₀
   pub leads : run (decode d₀ b₀ c₀) (ordersFrom count 2 j) ≡ run (decode d b c) (ordersFrom (count - i) p j)
+  pub past : PastKept d₀ b₀ c₀ d b c
 
 pub applying-start : (d₀ b₀ c₀ j : List ℕ) (count : ℕ) → soundTable d₀ b₀ c₀ ≡ true → withinFrom count 2 j ≡ true → Applying d₀ b₀ c₀ j count d₀ b₀ c₀ 2 0
 applying-start d₀ b₀ c₀ j count h w =
-    record { ending = ending-start j count w; sound = h; long = refl; big = refl; wide = refl; leads = rw (left-all count) }
+    record { ending = ending-start j count w; sound = h; long = refl; big = refl; wide = refl; leads = rw (left-all count); past = same-past d₀ b₀ c₀ }
 
 module _ (d₀ b₀ c₀ j : List ℕ) {count : ℕ} {d b c : List ℕ} {p i : ℕ} (g : Applying d₀ b₀ c₀ j count d b c p i) where
   pub applying-next : i < count → {size : ℕ} → size ≡ sizeAt j p → {r : ℕ} {d' b' c' : List ℕ} → Delivered d b c (take (p + size - p) (drop p j)) r d' b' c'
@@ -200,8 +202,9 @@ module _ (d₀ b₀ c₀ j : List ℕ) {count : ℕ} {d b c : List ℕ} {p i : �
         big = lb ∙ g .big;
         wide = lc ∙ g .wide;
         leads = g .leads ∙ rw (left-more count i more, t, is);
+        past = past-past (g .past) (done .past);
       }
 
   pub applying-end : count ≤ i → Applied d₀ b₀ c₀ j count d b c
   unfolding run ordersFrom
-  applying-end h = record { table = sym (g .leads ∙ rw (left-none count i h)); sound = g .sound }
+  applying-end h = record { table = sym (g .leads ∙ rw (left-none count i h)); sound = g .sound; past = g .past }

@@ -9,6 +9,7 @@ use Rattle.wire.specs.Tests.{pick, both}
 use Rattle.directory.specs.Directory.{Directory, directoryOf, numberIn, directoryAfter}
 use Rattle.table.specs.Table.{directory}
 use Rattle.table.specs.Memory.{decode, soundTable}
+use Rattle.table.specs.Outcome.{PastKept}
 use Rattle.journal.specs.declared.Standing.{Standing}
 use Rattle.journal.specs.State.{present, run}
 use Rattle.journal.specs.Journal.{countOf, ordersFrom, endFrom, withinFrom}
@@ -47,3 +48,4 @@ pub record Judges (m : Memory) (w : Standing) (dir' : List ℕ) : Type 0 where
 pub record Applied (dir bodies cells journal : List ℕ) (n : ℕ) (dir' bodies' cells' : List ℕ) : Type 0 where
   pub table : decode dir' bodies' cells' ≡ run (decode dir bodies cells) (ordersFrom n 2 journal)
   pub sound : soundTable dir' bodies' cells' ≡ true
+  pub past : PastKept dir bodies cells dir' bodies' cells'

@@ -1,9 +1,10 @@
 -- What lent state memory describes, and document 01's rule "well formed". Assumes nothing.
 use Prim.Native.Nat.{ℕ}
+use mathlib.Core.Path.{_≡_}
 use mathlib.Core.Bool.{Bool, true, false, not}
 use mathlib.Core.List.{List, [], _∷_}
 use lib.Dec.{ltb}
-use lib.ListN.{length}
+use lib.ListN.{length, drop}
 use Rattle.wire.specs.Tests.{pick, both, any}
 use Rattle.table.specs.Memory.{decode, soundTable}
 use Rattle.journal.specs.State.{State, allAccepted}
@@ -23,6 +24,13 @@ memory dir bodies cells journal = record { dir = dir; bodies = bodies; cells = c
 abbrev pub tooShort : Memory → Bool
 tooShort m =
     any (ltb (length (m .dir)) 444 ∷ ltb (length (m .bodies)) 44884 ∷ ltb (length (m .cells)) 50880 ∷ ltb (length (m .journal)) 32770 ∷ [])
+
+-- the bytes past the needed lengths are as they were
+pub record Past (m m' : Memory) : Type 0 where
+  pub dir : drop 444 (m' .dir) ≡ drop 444 (m .dir)
+  pub bodies : drop 44884 (m' .bodies) ≡ drop 44884 (m .bodies)
+  pub cells : drop 50880 (m' .cells) ≡ drop 50880 (m .cells)
+  pub journal : drop 32770 (m' .journal) ≡ drop 32770 (m .journal)
 
 -- the table at the mark is one, and the journal's orders lie within the room and are accepted in turn
 unfoldable pub wellFormed : Memory → Bool

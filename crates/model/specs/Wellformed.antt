@@ -1,13 +1,15 @@
 -- Document 01 on "well formed": an emptied state meets the rule, every call keeps it, and memory that meets it describes one
--- state. Assumes nothing.
+-- state, within the history room. Assumes nothing.
+use Prim.Native.Nat.{_≤_}
 use mathlib.Core.Path.{_≡_}
 use mathlib.Core.Bool.{true, false}
 use mathlib.Core.List.{[]}
+use lib.ListN.{length}
 use Rattle.table.specs.Table.{emptied}
-use Rattle.journal.specs.State.{State, allAccepted}
+use Rattle.journal.specs.State.{State, bytesIn, allAccepted}
 use Rattle.journal.specs.View.{Memory, tooShort, wellFormed, formed, viewOf}
 use Rattle.session.specs.declared.Reply.{Reply}
-use Rattle.session.specs.Calls.{Call, reset, next}
+use Rattle.session.specs.Calls.{Call, reset, Answer, next, answerView}
 use Rattle.session.specs.Replies.{Shown, plain, Stepped}
 
 pub record Meets (m : Memory) : Type 0 where
@@ -32,12 +34,14 @@ unfoldable pub CallsKeep : Type 0
 CallsKeep =
     (c : Call) (m n : Memory) (r : Shown) (s : State) → Stepped c m r n → viewOf m ≡ formed s → Meets n × (viewOf n ≡ formed (next c s))
 
--- some state, no other, and its orders are accepted in turn from its table at the mark on
+-- some state, no other, its orders are accepted in turn from its table at the mark on, and they fit the history room
 pub record Describes (m : Memory) : Type 0 where
   pub state : State
   pub described : viewOf m ≡ formed state
   pub only : (s : State) → viewOf m ≡ formed s → s ≡ state
   pub accepted : allAccepted (state .marked) (state .log) ≡ true
+  pub few : length (state .log) ≤ 128
+  pub bytes : bytesIn (state .log) ≤ 32768
 
 unfoldable pub OneState : Type 0
 OneState = (m : Memory) → Meets m → Describes m
@@ -45,3 +49,10 @@ OneState = (m : Memory) → Meets m → Describes m
 -- memory that describes a state meets the rule
 unfoldable pub OnlyMeets : Type 0
 OnlyMeets = (m : Memory) (s : State) → viewOf m ≡ formed s → Meets m
+
+-- what any call reports fits the history room, whatever the memory
+abbrev pub Fits : Answer → Type 0
+Fits a = (a .count ≤ 128) × (a .bytes ≤ 32768)
+
+unfoldable pub RepliesFit : Type 0
+RepliesFit = (c : Call) (m : Memory) → Fits (answerView c (viewOf m))

@@ -73,7 +73,7 @@ module _ (r : Row) (s : List ℕ) (at : ℕ) where
   unfolding cutOf
   cut-later h = rw (le-ltb (length s - at) (r .head) h)
 
-  len-fixed : Good r → r .rule ≡ 0 → lenOf r s at ≡ r .size
+  pub len-fixed : Good r → r .rule ≡ 0 → lenOf r s at ≡ r .size
   unfolding lenOf
   len-fixed g h =
       let z : r .unit * firstOf r s at ≡ 0 = ap (λ (k : ℕ). k * firstOf r s at) (g .fixed h) ∙ zero-mul (firstOf r s at) in

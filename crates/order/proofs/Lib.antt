@@ -2,6 +2,7 @@ pub mod TypeBits
 pub mod Fields
 pub mod Pictures
 pub mod Absent
+pub mod Ended
 pub mod Verdicts
 pub mod Carried
 pub mod Accepted

@@ -1,5 +1,5 @@
 -- What each function of the judgement answers, by its tests: one law for each way out. Assumes nothing.
-use mathlib.Core.Path.{_≡_, sym, ap, _∙_}
+use mathlib.Core.Path.{_≡_, refl, sym, ap, subst, _∙_}
 use mathlib.Core.Bool.{Bool, true, false}
 use mathlib.Core.List.{List}
 use Prim.Native.Nat.{ℕ, _≤_, _<_}
@@ -14,9 +14,11 @@ use Rattle.order.specs.declared.Judged.{Judged}
 use Rattle.order.specs.declared.Judged.the-variants.{Window, Notification, Desktop}
 use Rattle.order.specs.Flags.{oneType, closed, clash}
 use Rattle.order.specs.Rows.{windowRows, notificationRows, desktopRows, rowsFrom, kindRows, walkOf}
+use Rattle.order.specs.Ends.{endsOf}
 use Rattle.order.specs.Icons.{pictureFit}
 use Rattle.order.specs.Judge.{refuse, numberOf, flagsOf, orderOf, fieldsFit, judgeEnd, judgeRows, judgeFlags, judgeOf}
 use Rattle.order.proofs.Absent.{bare-fields}
+use Rattle.order.proofs.Ended.{ends-walk}
 
 -- ---- the order
 
@@ -73,6 +75,14 @@ module _ (flags : ℕ) (s : List ℕ) {r : Judged} where
 
   pub kind-window : (bitAnd flags 0x01000000 ≡ 0 → ⊥) → r ≡ judgeRows windowRows flags s → r ≡ judgeRows (kindRows flags) flags s
   kind-window h x = rw (ne-eqb (bitAnd flags 0x01000000) 0 h) x
+
+  -- the fields end within the order, each in its set
+  pub kind-ended : {p : ℕ} → (bitAnd flags 0x01000000 ≡ 0 → ⊥) → length s ≤ 65535 → p ≡ endsOf windowRows flags s 7 → p ≤ length s
+      → r ≡ judgeEnd flags s p 0 → r ≡ judgeRows (kindRows flags) flags s
+  kind-ended {p} h short e l x =
+      let within : endsOf windowRows flags s 7 ≤ length s = subst (λ (n : ℕ). n ≤ length s) e l in
+      let f : walkOf windowRows flags s 7 0 ≡ Ends p 0 = ends-walk windowRows flags s 7 0 short within ∙ ap (λ (n : ℕ). Ends n 0) (sym e) in
+      kind-window h (rows-end windowRows flags s {f = walkOf windowRows flags s 7 0} refl f x)
 
   pub kind-notification : bitAnd flags 0x01000000 ≡ 0 → (bitAnd flags 0x02000000 ≡ 0 → ⊥) → r ≡ judgeRows notificationRows flags s → r ≡ judgeRows (kindRows flags) flags s
   kind-notification h g x = rw (eq-eqb (bitAnd flags 0x01000000) 0 h, ne-eqb (bitAnd flags 0x02000000) 0 g) x

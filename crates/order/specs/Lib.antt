@@ -1,4 +1,5 @@
 pub mod Flags
 pub mod Rows
+pub mod Ends
 pub mod Icons
 pub mod Judge

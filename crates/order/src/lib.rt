@@ -8,6 +8,7 @@ ghost use lib.ListN.{length};
 ghost use Rattle.order.specs.Rows.{kindRows, rowsFrom};
 ghost use Rattle.order.specs.Judge.{refuse, numberOf, orderOf, judgeEnd, judgeRows, judgeFlags, judgeOf};
 
+mod ends;
 mod flags;
 pub mod icon;
 pub mod rows;
@@ -148,6 +149,11 @@ fn judge_kind(s: &[u8], flags: u32) -> Judged
         // no field is flagged: the id only
         if flags & 0x0007_DF1E == 0 {
             return judge_rows(s, flags, 0, 1);
+        }
+        // each field ends within the order and is in its set
+        let p = ends::window(s, flags);
+        if p <= s.len() {
+            return judge_end(s, flags, p, 0);
         }
         return judge_rows(s, flags, 0, rows::WINDOW_END);
     }

@@ -2,8 +2,8 @@
 ghost use mathlib.Core.Path.{_≡_};
 ghost use Prim.Native.Nat.{_<_, _≤_};
 ghost use lib.ListN.{length, getD};
-ghost use Rattle.order.specs.Rows.{rowOf, numbersRow, showRow, switchRow, textRow, rectanglesRow, idsRow, allRows, noRow, rowsFrom, firstOf, numberOk, okOf, cutOf, firstBad, stepOf, walkOf, fieldOf, Good, Within};
-ghost use Rattle.wire.specs.Tests.{pick};
+ghost use Rattle.order.specs.Rows.{rowOf, numbersRow, showRow, switchRow, textRow, rectanglesRow, idsRow, allRows, noRow, rowsFrom, firstOf, lenOf, numberOk, okOf, cutOf, firstBad, stepOf, walkOf, fieldOf, Good, Within};
+ghost use Rattle.wire.specs.Tests.{pick, hasAll};
 use crate::Fit;
 use crate::Row;
 
@@ -214,6 +214,26 @@ pub fn in_set(s: &[u8], at: usize, k: usize) -> bool
     }
     let v = first_number(s, at, r);
     number_ok(r.rule, r.most, v)
+}
+
+// Whether the field of row k is carried.
+pub fn is_flagged(flags: u32, k: usize) -> bool
+    ensures { λ b. ⌜ b ≡ hasAll flags (getD allRows k noRow .flag) ⌝ }
+{
+    let m = flag_of(k);
+    flags & m == m
+}
+
+// The bytes of the field of row k at index at.
+pub fn width(s: &[u8], at: usize, k: usize) -> usize
+    ensures { λ n. ⌜ (n ≡ lenOf (getD allRows k noRow) (now (s .entry)) at) × (n ≤ 524288) ⌝ }
+{
+    let r = row(k);
+    if r.rule == 0 {
+        return r.size;
+    }
+    let v = first_number(s, at, r);
+    r.size + r.unit * v
 }
 
 // One step of the walk: row k at index at.

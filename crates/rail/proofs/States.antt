@@ -25,7 +25,7 @@ unfolding replyIn
 plain-same {r = r} e = ap (replyIn r) e
 
 pub called : (c : Call) {m m' : Memory} {r : Reply} {n : ℕ} → r ≡ replyOf (answerView c (viewOf m)) → Stepped c m (plain r) m' → n ≡ packedOf r → CallExport c m n m'
-called c e s q = record { says = q ∙ ap packedOf e; holds = s .holds; kept = s .kept }
+called c e s q = record { says = q ∙ ap packedOf e; holds = s .holds; kept = s .kept; past = s .past }
 
 pub looked : (c : Call) {m : Memory} {out : List ℕ} {r : Reply} {n : ℕ} {out' : List ℕ} → Handed c m out r out' → n ≡ packedOf r → LookupExport c m out n out'
 looked c h q = record { says = q ∙ ap packedOf (h .says); gives = h .gives }

@@ -3,7 +3,7 @@ use Prim.Native.Nat.{ℕ, _+_, _*_, _%_}
 use mathlib.Core.Path.{_≡_}
 use mathlib.Core.List.{List, [], _∷_}
 use lib.ListN.{length, getD}
-use Rattle.journal.specs.View.{Memory, viewOf}
+use Rattle.journal.specs.View.{Memory, viewOf, Past}
 use Rattle.session.specs.declared.Reply.{Reply}
 use Rattle.session.specs.Calls.{Call, answerView, nextView}
 use Rattle.session.specs.Replies.{replyOf}
@@ -20,11 +20,13 @@ sizes = 444 ∷ 44884 ∷ 50880 ∷ 32770 ∷ 850 ∷ 916 ∷ 263 ∷ 4235 ∷ [
 unfoldable pub sizeOf : ℕ → ℕ
 sizeOf what = getD sizes what 0
 
--- a call: its answer, what the memory then describes, and that a refusal leaves each byte
+-- a call: its answer, what the memory then describes, that a refusal leaves each byte, and that the bytes past the needed
+-- lengths are as they were
 pub record CallExport (c : Call) (m : Memory) (r : ℕ) (m' : Memory) : Type 0 where
   pub says : r ≡ packedOf (replyOf (answerView c (viewOf m)))
   pub holds : viewOf m' ≡ nextView c (viewOf m)
   pub kept : (answerView c (viewOf m) .number ≡ 0 → ⊥) → m' ≡ m
+  pub past : Past m m'
 
 -- a lookup: its answer, and what it leaves in the memory lent for the record
 pub record LookupExport (c : Call) (m : Memory) (out : List ℕ) (r : ℕ) (out' : List ℕ) : Type 0 where

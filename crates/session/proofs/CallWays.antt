@@ -34,8 +34,8 @@ all-orders m t w {d} s = (formed-has m (s .rule) .sound, (long-has m t .journal,
 
 module _ (m : Memory) (t : tooShort m ≡ false) {d b k : List ℕ} (same-d : length d ≡ length (m .dir)) (same-b : length b ≡ length (m .bodies))
     (same-k : length k ≡ length (m .cells)) {j : List ℕ} (put : j ≡ splice (m .journal) 0 (bytesOf 2 0)) where
-  pub reset-done : {r : Reply} → Emptied d b k → r ≡ nothingStands → Stepped reset m (plain r) (memory d b k j)
-  reset-done {r} e f = rw put (reset-granted m t same-d same-b same-k e (ap plain f))
+  pub reset-done : {r : Reply} → k ≡ m .cells → Emptied (m .dir) (m .bodies) d b k → r ≡ nothingStands → Stepped reset m (plain r) (memory d b k j)
+  reset-done {r} c e f = rw put (reset-granted m t same-d same-b same-k c e (ap plain f))
 
   pub checkpoint-done : {r : Reply} (w : Standing) {x : List ℕ} → Stands m w x → Applied (m .dir) (m .bodies) (m .cells) (m .journal) (w .count) d b k
       → r ≡ nothingStands → Stepped checkpoint m (plain r) (memory d b k j)

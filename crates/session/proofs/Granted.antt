@@ -5,19 +5,19 @@ use mathlib.Core.List.{List, [], _∷_}
 use Prim.Native.Nat.{ℕ, _+_, _-_, _≤_, _<_}
 use native.Mathlib.Omega.{arith}
 use lib.Dec.{eqb, ltb}
-use lib.ListN.{length}
+use lib.ListN.{length, drop}
 use borrow.Author.Tests.{lt-ltb, le-ltb, ltb-false}
 use Rattle.wire.specs.Tests.{pick, either}
 use Rattle.wire.specs.Numbers.{numAt, bytesOf}
 use Rattle.wire.specs.Parts.{splice}
-use Rattle.wire.proofs.Parts.{length-splice}
+use Rattle.wire.proofs.Parts.{length-splice, drop-splice}
 use Rattle.wire.proofs.Numbers.{length-bytes, num-put, fits2}
 use Rattle.table.specs.Table.{Table, emptied}
 use Rattle.table.specs.Memory.{decode, soundTable}
-use Rattle.table.specs.Outcome.{Emptied}
+use Rattle.table.specs.Outcome.{PastKept, Emptied}
 use Rattle.journal.specs.State.{State, present, run, bytesIn, allAccepted}
 use Rattle.journal.specs.Journal.{countOf, ordersFrom, withinFrom, logOf}
-use Rattle.journal.specs.View.{Memory, memory, tooShort, wellFormed, stateOf, View, short, unformed, formed, viewOf}
+use Rattle.journal.specs.View.{Memory, memory, Past, tooShort, wellFormed, stateOf, View, short, unformed, formed, viewOf}
 use Rattle.journal.specs.Standing.{Applied}
 use Rattle.session.specs.declared.Reply.{Reply}
 use Rattle.session.specs.Calls.{Call, reset, deliver, checkpoint, undo, nothing, Answer, refuse, grant, answer, next, answerView, nextView}
@@ -56,6 +56,11 @@ long-has m e =
 pub long-is : (m : Memory) → Long m → tooShort m ≡ false
 long-is m l =
     rw (le-ltb (length (m .dir)) 444 (l .dir), le-ltb (length (m .bodies)) 44884 (l .bodies), le-ltb (length (m .cells)) 50880 (l .cells), le-ltb (length (m .journal)) 32770 (l .journal))
+
+-- ---- the count rewritten
+
+pub put-past : (journal : List ℕ) (n : ℕ) → 32770 ≤ length journal → drop 32770 (splice journal 0 (bytesOf 2 n)) ≡ drop 32770 journal
+put-past journal n long = let l = length-bytes 2 n in drop-splice journal 0 (bytesOf 2 n) (omega arith) 32770 (omega arith)
 
 -- ---- a table with an empty journal
 
@@ -101,11 +106,17 @@ module _ (m : Memory) (t : tooShort m ≡ false) {d b k : List ℕ} (same-d : le
       let l = long-has m t in
       record { dir = omega (arith, same-d, l .dir); bodies = omega (arith, same-b, l .bodies); cells = omega (arith, same-k, l .cells); journal = l .journal }
 
+  blank-past : PastKept (m .dir) (m .bodies) (m .cells) d b k → Past m (memory d b k (blank (m .journal)))
+  blank-past p = record { dir = p .dir; bodies = p .bodies; cells = p .cells; journal = put-past (m .journal) 0 (long-has m t .journal) }
+
   -- answers and leaves nothing standing
-  pub reset-granted : {r : Shown} → Emptied d b k → r ≡ plain nothingStands → Stepped reset m r (memory d b k (blank (m .journal)))
+  pub reset-granted : {r : Shown} → k ≡ m .cells → Emptied (m .dir) (m .bodies) d b k → r ≡ plain nothingStands → Stepped reset m r (memory d b k (blank (m .journal)))
   unfolding answerView nextView answer next bytesIn
-  reset-granted {r} e f = go (wellFormed m) refl
+  reset-granted {r} c e f = go (wellFormed m) refl
     where
+      past : Past m (memory d b k (blank (m .journal)))
+      past = blank-past (record { dir = e .past .dir; bodies = e .past .bodies; cells = ap (drop 50880) c })
+
       holds : viewOf (memory d b k (blank (m .journal))) ≡ formed (record { marked = emptied; log = [] })
       holds = fresh-view d b k (m .journal) parts-long (e .sound) ∙ ap (λ (t : Table). formed (record { marked = t; log = [] })) (e .table)
 
@@ -116,6 +127,7 @@ module _ (m : Memory) (t : tooShort m ≡ false) {d b k : List ℕ} (same-d : le
             says = f ∙ rw v;
             holds = holds ∙ rw v;
             kept = λ h. absurd (h (rw v));
+            past = past;
           }
       go false w =
           let v = view-unformed m t w in
@@ -123,6 +135,7 @@ module _ (m : Memory) (t : tooShort m ≡ false) {d b k : List ℕ} (same-d : le
             says = f ∙ rw v;
             holds = holds ∙ rw v;
             kept = λ h. absurd (h (rw v));
+            past = past;
           }
 
   pub checkpoint-granted : {r : Shown} → wellFormed m ≡ true → Applied (m .dir) (m .bodies) (m .cells) (m .journal) (countOf (m .journal)) d b k
@@ -135,4 +148,5 @@ module _ (m : Memory) (t : tooShort m ≡ false) {d b k : List ℕ} (same-d : le
         holds =
             fresh-view d b k (m .journal) parts-long (a .sound) ∙ ap (λ (t : Table). formed (record { marked = t; log = [] })) (a .table) ∙ rw v;
         kept = λ h. absurd (h (rw v));
+        past = blank-past (a .past);
       }

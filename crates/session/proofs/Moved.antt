@@ -5,25 +5,26 @@ use mathlib.Core.List.{List, [], _∷_, _++_}
 use Prim.Native.Nat.{ℕ, _+_, _-_, _≤_, _<_}
 use native.Mathlib.Omega.{arith}
 use lib.Dec.{eqb, ltb}
-use lib.ListN.{length, take, length-append, length-take}
+use lib.ListN.{length, take, drop, length-append, length-take}
 use borrow.Author.Tests.{ne-eqb, eq-eqb, lt-ltb, le-ltb, ltb-false}
 use Rattle.wire.specs.Tests.{pick, both, either}
 use Rattle.wire.specs.Numbers.{bytesOf}
 use Rattle.wire.specs.Parts.{splice}
+use Rattle.wire.proofs.Parts.{length-splice, drop-splice}
 use Rattle.directory.specs.Directory.{Directory, directoryOf, numberIn}
 use Rattle.table.specs.Table.{Table, directory, number}
 use Rattle.table.specs.Memory.{decode, soundTable}
 use Rattle.journal.specs.declared.Standing.{Standing}
 use Rattle.journal.specs.State.{State, present, run, bytesIn, allAccepted}
 use Rattle.journal.specs.Journal.{countOf, ordersFrom, endFrom, withinFrom, logOf}
-use Rattle.journal.specs.View.{Memory, memory, tooShort, wellFormed, stateOf, formed, viewOf}
+use Rattle.journal.specs.View.{Memory, memory, Past, tooShort, wellFormed, stateOf, formed, viewOf}
 use Rattle.journal.specs.Standing.{Stands}
 use Rattle.journal.proofs.Logs.{length-orders, bytes-orders, accepted-append, bytes-append, accepted-order, orders-take, within-take, accepted-take, count-put, orders-put, length-put, appended, Appended}
 use Rattle.session.specs.declared.Reply.{Reply}
 use Rattle.session.specs.Calls.{Call, deliver, undo, nothing, Answer, refuse, grant, overFull, without, answer, next, answerView, nextView}
 use Rattle.session.specs.Replies.{Shown, plain, shown, replyOf, Stepped}
 use Rattle.session.proofs.Refusals.{view-formed, delivery-refused, delivery-full, undo-refused}
-use Rattle.session.proofs.Granted.{Long, long-has, long-is}
+use Rattle.session.proofs.Granted.{Long, long-has, long-is, put-past}
 
 -- ---- the rule as facts
 
@@ -58,6 +59,10 @@ state-is : (m : Memory) (j : List ℕ) (l : List (List ℕ)) → logOf j ≡ l
     → stateOf (memory (m .dir) (m .bodies) (m .cells) j) ≡ record { marked = stateOf m .marked; log = l }
 unfolding stateOf
 state-is m j l e = rw e
+
+-- a journal that is as it was past its need
+journal-past : (m : Memory) (j : List ℕ) → drop 32770 j ≡ drop 32770 (m .journal) → Past m (memory (m .dir) (m .bodies) (m .cells) j)
+journal-past m j e = record { dir = refl; bodies = refl; cells = refl; journal = e }
 
 -- ---- a delivery
 
@@ -145,6 +150,14 @@ module _ (m : Memory) (t : tooShort m ≡ false) (w : Standing) (d : List ℕ) (
         let l = long-has m t in
         long-is new (record { dir = l .dir; bodies = l .bodies; cells = l .cells; journal = omega (arith, one-more .long, l .journal) })
 
+    -- the order and the count lie within the room
+    new-past : drop 32770 (splice (splice (m .journal) (w .end) o) 0 (bytesOf 2 (w .count + 1))) ≡ drop 32770 (m .journal)
+    new-past =
+        let h = room-has o room in
+        let fits : w .end + length o ≤ length (m .journal) = omega (arith, h .1, h .2) in
+        let l = length-splice (m .journal) (w .end) o fits in
+        put-past (splice (m .journal) (w .end) o) (w .count + 1) (omega (arith, l, h .2)) ∙ drop-splice (m .journal) (w .end) o fits 32770 (h .1)
+
     pub delivery-granted : {r : Reply} → r ≡ record { number = 0; count = w .count + 1; bytes = w .end + length o - 2 } → Stepped (deliver o) m (plain r) new
     unfolding answerView nextView answer next
     delivery-granted {r} f =
@@ -163,6 +176,7 @@ module _ (m : Memory) (t : tooShort m ≡ false) (w : Standing) (d : List ℕ) (
               ∙ ap formed (state-is m j (stateOf m .log ++ (o ∷ [])) log)
               ∙ rw (v, accepted, full);
           kept = λ h. absurd (h (rw (v, accepted, full)));
+          past = journal-past m j (rw put new-past);
         }
       where
         sum : bytesIn (stateOf m .log) + bytesIn (o ∷ []) ≡ w .end + length o - 2
@@ -245,4 +259,5 @@ module _ (m : Memory) (t : tooShort m ≡ false) (w : Standing) (d : List ℕ) (
               ∙ ap formed (state-is m j (without k (stateOf m .log)) log)
               ∙ rw (v, x);
           kept = λ h. absurd (h (rw (v, x)));
+          past = journal-past m j (rw put (put-past (m .journal) left (long-has m t .journal)));
         }

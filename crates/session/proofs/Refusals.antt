@@ -10,7 +10,7 @@ use borrow.Author.Tests.{ne-eqb, lt-ltb, le-ltb}
 use Rattle.wire.specs.Tests.{pick, either}
 use Rattle.table.specs.Table.{number}
 use Rattle.journal.specs.State.{State, present, bytesIn}
-use Rattle.journal.specs.View.{Memory, tooShort, wellFormed, stateOf, View, short, unformed, formed, viewOf}
+use Rattle.journal.specs.View.{Memory, Past, tooShort, wellFormed, stateOf, View, short, unformed, formed, viewOf}
 use Rattle.session.specs.Calls.{Call, deliver, undo, Answer, refuse, overFull, isReset, answer, next, answerView, nextView}
 use Rattle.session.specs.Replies.{Shown, shown, Stepped}
 
@@ -30,9 +30,18 @@ view-formed m e f = rw (e, f)
 
 -- ---- a call that leaves the memory as it is
 
+pub same-past : (m : Memory) → Past m m
+same-past m = record { dir = refl; bodies = refl; cells = refl; journal = refl }
+
 -- a refusal, whatever the call
 pub stays : (c : Call) (m : Memory) {r : Shown} (v : View) → viewOf m ≡ v → r ≡ shown c (answerView c v) → nextView c v ≡ v → Stepped c m r m
-stays c m v e f g = record { says = f ∙ ap (λ (v : View). shown c (answerView c v)) (sym e); holds = e ∙ sym g ∙ ap (nextView c) (sym e); kept = λ h. refl }
+stays c m v e f g =
+    record {
+      says = f ∙ ap (λ (v : View). shown c (answerView c v)) (sym e);
+      holds = e ∙ sym g ∙ ap (nextView c) (sym e);
+      kept = λ h. refl;
+      past = same-past m;
+    }
 
 -- 1: too short
 pub stays-short : (c : Call) (m : Memory) {r : Shown} → tooShort m ≡ true → r ≡ shown c (refuse 1) → Stepped c m r m

@@ -10,7 +10,7 @@ use Rattle.session.specs.declared.WindowReply.{WindowReply}
 use Rattle.session.specs.declared.NotificationReply.{NotificationReply}
 use Rattle.session.specs.declared.CellReply.{CellReply}
 use Rattle.session.specs.declared.DesktopReply.{DesktopReply}
-use Rattle.journal.specs.View.{Memory, viewOf}
+use Rattle.journal.specs.View.{Memory, Past, viewOf}
 use Rattle.session.specs.Calls.{Call, reset, deliver, checkpoint, undo, window, notification, cell, desktop, Given, nothing, body, picture, Answer, answerView, nextView}
 
 abbrev pub replyOf : Answer → Reply
@@ -57,8 +57,10 @@ shown (notification x y) a = aNotification (notificationReply a)
 shown (cell cache entry) a = aCell (cellReply a)
 shown desktop a = aDesktop (desktopReply a)
 
--- what every call states: its answer, what the memory then describes, and that a refusal leaves each byte
+-- what every call states: its answer, what the memory then describes, that a refusal leaves each byte, and that the bytes past
+-- the needed lengths are as they were
 pub record Stepped (c : Call) (m : Memory) (r : Shown) (m' : Memory) : Type 0 where
   pub says : r ≡ shown c (answerView c (viewOf m))
   pub holds : viewOf m' ≡ nextView c (viewOf m)
   pub kept : (answerView c (viewOf m) .number ≡ 0 → ⊥) → m' ≡ m
+  pub past : Past m m'

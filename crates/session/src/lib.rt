@@ -1,5 +1,5 @@
 // The state calls: a table at the last checkpoint and a journal of the orders since, in four lent memories. A call that
-// cannot change a memory takes it shared; bytes past the needed lengths are never touched.
+// cannot change a memory takes it shared; bytes past the needed lengths stay as they were.
 use view::DesktopRecord;
 use view::NotificationRecord;
 use view::Picture;

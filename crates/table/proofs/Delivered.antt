@@ -17,7 +17,7 @@ use Rattle.directory.specs.declared.Plan.{Plan}
 use Rattle.directory.specs.declared.Plan.the-variants.{ChangeWindow, ChangeNotification, ChangeDesktop, Refuse}
 use Rattle.directory.specs.Slots.{onFound}
 use Rattle.directory.specs.Plans.{planOf, numberOf}
-use Rattle.directory.specs.Directory.{Directory, windows, notifications, numberIn}
+use Rattle.directory.specs.Directory.{Directory, Family, windows, notifications, numberIn}
 use Rattle.directory.specs.Marks.{markedOf, markedBy, clearedOf, emptiedOf}
 use Rattle.directory.proofs.Soundness.{sound-has}
 use Rattle.directory.proofs.Planned.{Planned, planned, window-second}
@@ -29,11 +29,13 @@ use Rattle.body.proofs.Placed.{placed}
 use Rattle.body.proofs.Fresh.{prepared-body, prepared-ok, length-prepared, desktop-room}
 use Rattle.body.proofs.Slots.{length-slot, slot-lent, slot-splice, length-bodies, slots-back}
 use Rattle.cache.specs.Cells.{cellOf, pictureOf}
-use Rattle.table.specs.Table.{Table, emptied, number, fieldRows, changeOn, after}
+use Rattle.table.specs.Table.{Table, emptied, number, fieldRows, fieldsAt, changeOn, after}
 use Rattle.table.specs.Memory.{decode, soundTable}
 use Rattle.table.specs.Changes.{markOf, bodiesAfter, cellsAfter, desktopSlot, bodiesBy, cellsBy, Able}
-use Rattle.table.specs.Outcome.{Emptied, Delivered}
+use Rattle.table.specs.Outcome.{PastKept, Emptied, Delivered}
 use Rattle.table.proofs.Able.{able, desktop-able, pointed-cell, planned-icon}
+use Rattle.table.proofs.Bodied.{markFor, slot-length, desktop-length}
+use Rattle.table.proofs.Past.{same-past, marked-past, cleared-past, emptied-past, slot-past, bodies-past, cells-past}
 use Rattle.table.proofs.Joined.{decode-directory, record-decoded, desktop-decoded}
 use Rattle.table.proofs.Sounded.{Sound, table-has, table-is, record-sounded, desktop-sounded, emptied-sounded}
 
@@ -46,11 +48,28 @@ module _ (dir bodies cells s : List ℕ) (bytes : Bytes s) (sound : soundTable d
   good : Sound dir bodies cells
   good = table-has dir bodies cells sound
 
-  -- the table after the change, and the rule kept
+  long-dir : 444 ≤ length dir
+  long-dir = sound-has dir (good .directory) .long
+
+  -- no record's change reaches past the needed lengths
+  record-past : (f : Family) (c : Change) → Planned f dir s c → Able (fieldRows f) (fieldsAt f) s c
+      → PastKept dir bodies cells (markedOf dir s c) (bodiesAfter (fieldRows f) (fieldsAt f) (markFor f (c .flags)) s c bodies) (cellsAfter s c cells)
+  record-past f c p a =
+      let room : 916 * c .slot + 916 ≤ length bodies = omega (arith, a .slot, good .big) in
+      record {
+        dir = marked-past dir s c long-dir (a .slot) (p .icon);
+        bodies =
+            bodies-past (fieldRows f) (fieldsAt f) (markFor f (c .flags)) s c bodies (good .big) (a .slot)
+            (slot-length f s c (slotOf bodies (c .slot)) (length-slot bodies (c .slot) room) a (pointed-cell f dir s c p));
+        cells = cells-past s c cells (good .wide) (a .icon);
+      }
+
+  -- the table after the change, the rule kept, and the bytes past the needed lengths
   record Changed (p : Plan) : Type 0 where
     pub table : decode (markedBy dir s p) (bodiesBy s p bodies) (cellsBy s p cells)
         ≡ pick (eqb (numberOf p) 0) (changeOn (decode dir bodies cells) s (judgeOf s)) (decode dir bodies cells)
     pub sounded : Sound (markedBy dir s p) (bodiesBy s p bodies) (cellsBy s p cells)
+    pub past : PastKept dir bodies cells (markedBy dir s p) (bodiesBy s p bodies) (cellsBy s p cells)
 
   changed : (p : Plan) → planOf dir s ≡ p → Changed p
   unfolding markedBy bodiesBy cellsBy
@@ -65,6 +84,7 @@ module _ (dir bodies cells s : List ℕ) (bytes : Bytes s) (sound : soundTable d
             rw (p .judged)
             (record-decoded windows dir bodies cells s c p (good .directory) a cell icon (good .big) (good .wide) ∙ rw (p .fresh, b));
         sounded = record-sounded windows dir bodies cells s c p a cell icon good;
+        past = record-past windows c p a;
       }
   changed (ChangeNotification c) e =
       let p = planned dir s bytes notifications c e in
@@ -75,14 +95,22 @@ module _ (dir bodies cells s : List ℕ) (bytes : Bytes s) (sound : soundTable d
         table =
             rw (p .judged) (record-decoded notifications dir bodies cells s c p (good .directory) a cell icon (good .big) (good .wide) ∙ rw (p .fresh));
         sounded = record-sounded notifications dir bodies cells s c p a cell icon good;
+        past = record-past notifications c p a;
       }
   changed (ChangeDesktop flags) e =
       let w = desktop-able dir s flags e in
       record {
         table = rw (planned-desktop dir s flags e) (desktop-decoded dir bodies cells s flags (good .directory) (good .big) (w .0) (w .1));
         sounded = desktop-sounded dir bodies cells s flags good (w .0) (w .1);
+        past = record {
+          dir = cleared-past dir long-dir (has flags 0x00000001);
+          bodies =
+              slot-past bodies 48 (desktopSlot flags s (slotOf bodies 48)) (good .big) (omega arith)
+              (desktop-length flags s (slotOf bodies 48) (length-slot bodies 48 (good .big)) (w .0) (w .1));
+          cells = refl;
+        };
       }
-  changed (Refuse n) e = record { table = rw (ne-eqb n 0 (refused-number dir s n e)); sounded = good }
+  changed (Refuse n) e = record { table = rw (ne-eqb n 0 (refused-number dir s n e)); sounded = good; past = same-past dir bodies cells }
 
   -- a refused order changes nothing
   kept : (p : Plan) → (numberOf p ≡ 0 → ⊥) → (markedBy dir s p ≡ dir) × (bodiesBy s p bodies ≡ bodies) × (cellsBy s p cells ≡ cells)
@@ -105,6 +133,7 @@ module _ (dir bodies cells s : List ℕ) (bytes : Bytes s) (sound : soundTable d
             ∙ ap (λ (m : ℕ). pick (eqb m 0) (changeOn (decode dir bodies cells) s (judgeOf s)) (decode dir bodies cells)) n;
         sound = table-is (markedBy dir s p) (bodiesBy s p bodies) (cellsBy s p cells) (c .sounded);
         kept = kept p;
+        past = c .past;
       }
 
 -- ---- emptying
@@ -119,7 +148,7 @@ module _ (dir bodies cells : List ℕ) (long : 444 ≤ length dir) (big : 44884 
   at-desk : slotOf (splice bodies 43968 bare) 48 ≡ bare
   at-desk = slot-splice bodies 48 bare size big 48
 
-  pub emptied-is : Emptied (emptiedOf dir) (splice bodies 43968 bare) cells
+  pub emptied-is : Emptied dir bodies (emptiedOf dir) (splice bodies 43968 bare) cells
   unfolding decode emptied
   emptied-is =
       let n = length-slot bodies 48 big in
@@ -136,11 +165,12 @@ module _ (dir bodies cells : List ℕ) (long : 444 ≤ length dir) (big : 44884 
             table-is (emptiedOf dir) (splice bodies 43968 bare) cells
             (emptied-sounded dir (splice bodies 43968 bare) cells long (omega (arith, length-bodies bodies 48 bare size big, big)) wide
             (rw at-desk (prepared-ok desktopFields (slotOf bodies 48) (omega arith) (omega (arith, desktop-room)) 1 1 (placed 22 24))));
+        past = record { dir = emptied-past dir long; bodies = slot-past bodies 48 bare big (omega arith) size; cells = refl };
       }
 
   -- as the function leaves it, with the desktop's slot lent and come back
   pub emptied-done : {d x : List ℕ} → d ≡ emptiedOf dir → x ≡ preparedOf true (take 916 (drop 43968 bodies)) → length x ≡ length (take 916 (drop 43968 bodies))
-      → Emptied d (take 43968 bodies ++ (x ++ drop 916 (drop 43968 bodies))) cells
+      → Emptied dir bodies d (take 43968 bodies ++ (x ++ drop 916 (drop 43968 bodies))) cells
   emptied-done {d} {x} e f l =
       let q : take 916 (drop 43968 bodies) ≡ slotOf bodies 48 = slot-lent bodies 43968 916 48 refl refl in
       let z : x ≡ bare = f ∙ ap (preparedOf true) q in

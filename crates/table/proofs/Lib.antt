@@ -3,6 +3,7 @@ pub mod Bodied
 pub mod Joined
 pub mod Sounded
 pub mod Copied
+pub mod Past
 pub mod Delivered
 pub mod Promises
 pub mod Ways

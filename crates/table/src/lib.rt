@@ -26,7 +26,7 @@ pub enum Want {
 // Empties a table: no record, no filled cell, and a desktop state of zeros. The cells' bytes stay.
 pub fn empty(dir: &mut [u8], bodies: &mut [u8], cells: &[u8])
     requires { ⌜ (444 ≤ length (now dir)) × (44884 ≤ length (now bodies)) × (50880 ≤ length (now cells)) ⌝ }
-    ensures { λ _. ⌜ Emptied (now (dir .exit)) (now (bodies .exit)) (now (cells .entry)) ⌝ }
+    ensures { λ _. ⌜ Emptied (now (dir .entry)) (now (bodies .entry)) (now (dir .exit)) (now (bodies .exit)) (now (cells .entry)) ⌝ }
 {
     directory::marks::empty(dir);
     body::prepare(&mut bodies[43968..44884], true);

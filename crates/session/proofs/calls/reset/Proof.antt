@@ -69,7 +69,7 @@ returns-2 c =
     let v = c .before .before .before .before .before .before .before .before .before .before .before .before .before in
     let e = c .before .before .before .before .before .before .before .before .before .empty in
     reset-done (mem (start v)) (enough v (c .before .before .before .before .before .before .before .before .before .before .before .before .if1 .left))
-    (e .kept .0) (e .kept .1 .0) refl (c .before .before .before .write-u16 .ensures) (e .ensures) (c .granted .ensures)
+    (e .kept .0) (e .kept .1 .0) refl (c .before .before .before .write-u16 .ensures) refl (e .ensures) (c .granted .ensures)
 
 pub reset-spec : {M : Type 1} → statement M
 reset-spec =

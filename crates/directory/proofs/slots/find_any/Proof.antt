@@ -4,8 +4,8 @@ use denote.Ref.{now}
 use Prim.Native.Nat.{_+_, _-_, _≤_}
 use mathlib.Core.Path.{_≡_, sym, _∙_}
 use borrow.Author.Needs.{needs}
-use Rattle.directory.proofs.slots.find.Statement.{statement}
-use Rattle.directory.proofs.slots.find.Tie as tie
+use Rattle.directory.proofs.slots.find_any.Statement.{statement}
+use Rattle.directory.proofs.slots.find_any.Tie as tie
 
 abbrev Inv-loop : tie.InvT-loop
 Inv-loop dir first count a b end i₀ i = (i ≤ end) × (end ≤ 48) × (firstFrom count first (isAt dir a b) ≡ firstFrom (end - i) i (isAt dir a b))
@@ -48,8 +48,8 @@ returns-2 c =
     let a = c .before .before .before .args in
     sym (w .loop .inv .2 ∙ first-none (isAt (now (a .dir)) (a .a) (a .b)) (a .first + a .count) (w .loop .i) (c .loop-test .left))
 
-pub find-spec : {M : Type 1} → statement M
-find-spec =
+pub find-any-spec : {M : Type 1} → statement M
+find-any-spec =
     tie.close
     (tie.spec
     Inv-loop
