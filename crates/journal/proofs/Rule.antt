@@ -4,9 +4,9 @@ use mathlib.Core.Bool.{Bool, true, false, not}
 use mathlib.Core.List.{List}
 use Prim.Native.Nat.{ℕ, _≤_, _<_}
 use native.Mathlib.Omega.{arith}
-use lib.Dec.{ltb}
+use lib.Dec.{eqb, ltb}
 use lib.ListN.{length}
-use borrow.Author.Tests.{ltb-false, lt-ltb, le-ltb}
+use borrow.Author.Tests.{eqb-true, eqb-false, ltb-false, lt-ltb, le-ltb}
 use Rattle.wire.specs.Tests.{pick, both, either}
 use Rattle.directory.specs.Directory.{directoryOf}
 use Rattle.directory.specs.Sound.{soundDirectory}
@@ -16,7 +16,8 @@ use Rattle.table.proofs.Joined.{decode-directory}
 use Rattle.table.proofs.Sounded.{table-has}
 use Rattle.journal.specs.State.{present, allAccepted}
 use Rattle.journal.specs.Journal.{countOf, ordersFrom, endFrom, withinFrom, logOf}
-use Rattle.journal.specs.View.{Memory, tooShort, wellFormed, stateOf}
+use Rattle.journal.specs.declared.Standing.{Standing}
+use Rattle.journal.specs.View.{Memory, tooShort, wellFormed, meetsRule, stateOf}
 use Rattle.journal.specs.Standing.{acceptedOn, runOn, Replayed, Stands, Judges}
 use Rattle.journal.proofs.Logs.{end-past, end-room, accepted-on, run-on}
 
@@ -132,3 +133,19 @@ module _ (m : Memory) where
               record { unformed = λ z. absurd (omega (arith, z, s .low)); formed = λ n. s }
           go true false x y = nothing true false x y refl refl
           go false a x y = nothing false a x y refl refl
+
+-- ---- the rule decided for any memory
+
+module _ (m : Memory) where
+  pub short-decided : {t : Bool} → t ≡ tooShort m → t ≡ true → false ≡ meetsRule m
+  short-decided e f = let g : tooShort m ≡ true = sym e ∙ f in rw g
+
+  pub decided : {t : Bool} {w : Standing} {d : List ℕ} → t ≡ tooShort m → t ≡ false → Judges m w d → not (eqb (w .end) 0) ≡ meetsRule m
+  decided {w = w} e f j = go (eqb (w .end) 0) refl
+    where
+      long : tooShort m ≡ false
+      long = sym e ∙ f
+
+      go : (t : Bool) → eqb (w .end) 0 ≡ t → not (eqb (w .end) 0) ≡ meetsRule m
+      go true x = let g : wellFormed m ≡ false = j .unformed (eqb-true (w .end) 0 x) in rw (x, long, g)
+      go false x = let g : wellFormed m ≡ true = j .formed (eqb-false (w .end) 0 x) .rule in rw (x, long, g)

@@ -40,6 +40,10 @@ wellFormed m =
     (pick (not (withinFrom (countOf (m .journal)) 2 (m .journal))) false
     (allAccepted (decode (m .dir) (m .bodies) (m .cells)) (logOf (m .journal)))))
 
+-- document 01's rule: long enough, and well formed
+abbrev pub meetsRule : Memory → Bool
+meetsRule m = both (not (tooShort m)) (wellFormed m)
+
 unfoldable pub stateOf : Memory → State
 stateOf m = record { marked = decode (m .dir) (m .bodies) (m .cells); log = logOf (m .journal) }
 

@@ -7,7 +7,7 @@ ghost use lib.ListN.{length};
 ghost use Rattle.directory.specs.Sound.{soundDirectory};
 ghost use Rattle.table.specs.Memory.{soundTable};
 ghost use Rattle.journal.specs.Journal.{endFrom, withinFrom};
-ghost use Rattle.journal.specs.View.{Memory, memory, tooShort};
+ghost use Rattle.journal.specs.View.{Memory, memory, tooShort, meetsRule};
 ghost use Rattle.journal.specs.Standing.{Replayed, Judges, Applied};
 
 pub mod recall;
@@ -67,6 +67,18 @@ pub fn establish(dir: &[u8], bodies: &[u8], cells: &[u8], journal: &[u8], d: &mu
     wire::copy_part(d, 0, dir, 0, 444);
     let end = replay(d, journal, count);
     Standing { count, end }
+}
+
+// Decides the rule for any memory.
+pub fn well_formed(dir: &[u8], bodies: &[u8], cells: &[u8], journal: &[u8]) -> bool
+    ensures { λ r. ⌜ r ≡ meetsRule (memory (now (dir .entry)) (now (bodies .entry)) (now (cells .entry)) (now (journal .entry))) ⌝ }
+{
+    if too_short(dir, bodies, cells, journal) {
+        return false;
+    }
+    let mut d = [0u8; 444];
+    let w = establish(dir, bodies, cells, journal, &mut d);
+    w.end != 0
 }
 
 // Where the first count orders end.

@@ -1,7 +1,7 @@
 -- The answers of the state calls and lookups at the C boundary. Assumes nothing.
 use mathlib.Core.Path.{_≡_, sym, ap, _∙_}
 use mathlib.Core.List.{List}
-use Prim.Native.Nat.{ℕ, zero, suc, _≤_}
+use Prim.Native.Nat.{ℕ, zero, suc, _+_, _*_, _/_, _%_, _≤_, _<_}
 use native.Mathlib.Omega.{arith}
 use lib.ListN.{List·getD-eq-default}
 use lib.ListN.{getD}
@@ -11,7 +11,7 @@ use Rattle.session.specs.declared.Reply.{Reply}
 use Rattle.session.specs.Calls.{Call, answerView}
 use Rattle.session.specs.Replies.{Shown, plain, aWindow, aNotification, aCell, aDesktop, replyOf, Stepped}
 use Rattle.session.specs.Handouts.{Handed}
-use Rattle.rail.specs.States.{packedOf, sizes, sizeOf, CallExport, LookupExport}
+use Rattle.rail.specs.States.{packedOf, Unpacks, sizes, sizeOf, CallExport, LookupExport}
 
 replyIn : Reply → Shown → Reply
 replyIn d (plain r) = r
@@ -41,3 +41,10 @@ past (suc n) k t = omega (arith, past n k (t .0), t .1)
 pub size-past : (what : ℕ) → NoneOf 8 what → 0 ≡ sizeOf what
 unfolding sizeOf
 size-past what t = sym (List·getD-eq-default sizes 0 (past 8 what t))
+
+pub unpacks : Unpacks
+unfolding Unpacks packedOf
+unpacks r a b c =
+    let x : r .count % 256 ≡ r .count = omega arith in
+    let y : r .bytes % 65536 ≡ r .bytes = omega arith in
+    record { number = rw (x, y) (omega arith); count = rw (x, y) (omega arith); bytes = rw (x, y) (omega arith) }

@@ -2,7 +2,6 @@ pub mod Able
 pub mod Bodied
 pub mod Joined
 pub mod Sounded
-pub mod Copied
 pub mod Past
 pub mod Delivered
 pub mod Promises
