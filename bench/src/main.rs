@@ -41,8 +41,7 @@ bench: the proved code beside the plain Rust of `second`
 
 Jobs: `read` takes a message's bytes to a judged record and its fields to 12
 words; `tidy` takes a message's bytes to a record and the record to bytes in an
-output buffer. Writing alone is not printed: the library has no entry point that
-only reads, so that there is nothing fair to take away from `tidy`.
+output buffer. Writing alone (`rail_pdu_write`) is not measured.
 
 Times depend on the machine and its load: run it on an idle one. Instruction
 counts are the same in every run of the same two builds on the same machine and

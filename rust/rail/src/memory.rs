@@ -39,7 +39,7 @@ impl Memory {
     }
 
     /// Zeroed parts of these lengths. Shorter ones than needed are refused by every
-    /// call, and of longer ones the rest is never touched.
+    /// call, and of longer ones the rest is never changed.
     pub fn with_sizes(sizes: [usize; 4]) -> Self {
         let [directory, bodies, cells, journal] = sizes.map(|size| vec![0; size].into());
         Self {

@@ -18,7 +18,7 @@ const SIZES: [usize; 4] = [DIRECTORY_SIZE, BODIES_SIZE, CELLS_SIZE, JOURNAL_SIZE
 /// A new window without fields.
 const NEW_WINDOW: [u8; 11] = [0x2E, 11, 0, 0, 0, 0, 0x11, 1, 0, 0, 0];
 
-/// Bytes past the need have no meaning and are never touched.
+/// Bytes past the need have no meaning and are never changed.
 #[test]
 fn longer_memory() {
     const MORE: usize = 70_000;
