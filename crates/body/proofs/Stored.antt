@@ -16,7 +16,7 @@ use Rattle.order.specs.declared.Row.{Row}
 use Rattle.order.specs.declared.Fit.the-variants.{Ends}
 use Rattle.order.specs.Rows.{roomOf, lenOf, okOf, walkOf}
 use Rattle.order.proofs.Carried.{Stepped, stepped, carried, not-carried}
-use Rattle.body.specs.Bodies.{fieldIn, fieldsOf, fieldsOk, first, setFlagged}
+use Rattle.body.specs.Bodies.{fieldIn, fieldsOf, fieldsOk, setFlagged}
 use Rattle.body.specs.Stores.{storeOf, roomAll, EndsWell}
 use Rattle.body.proofs.Placed.{Placed, All, len-cong, ok-cong, len-place, drop-more, fields-cong, fields-ok-cong}
 

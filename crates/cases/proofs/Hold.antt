@@ -1,5 +1,5 @@
 -- The cases marked (T) hold, by computation. Assumes nothing.
-use mathlib.Core.Path.{_≡_, refl}
+use mathlib.Core.Path.{refl}
 use Rattle.wire.specs.Numbers.{numAt, numsAt}
 use Rattle.pdu.specs.Layout.{known, widths}
 use Rattle.pdu.specs.Records.{recordOf, sizeOf}

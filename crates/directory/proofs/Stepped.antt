@@ -10,7 +10,7 @@ use Rattle.directory.specs.declared.Change.{Change}
 use Rattle.directory.specs.declared.Plan.{Plan}
 use Rattle.directory.specs.declared.Plan.the-variants.{ChangeWindow, ChangeNotification, ChangeDesktop, Refuse}
 use Rattle.directory.specs.Plans.{cellAt, planOf, numberOf}
-use Rattle.directory.specs.Directory.{Family, windows, notifications}
+use Rattle.directory.specs.Directory.{Family}
 use Rattle.directory.specs.Marks.{markedOf, markedBy, clearedOf}
 use Rattle.directory.specs.Sound.{soundDirectory}
 use Rattle.directory.proofs.Soundness.{within-slots, sound-has}

@@ -6,12 +6,11 @@ use Prim.Native.Nat.{ℕ, _≤_}
 use lib.ListN.{length}
 use Rattle.directory.specs.Directory.{directoryOf}
 use Rattle.table.specs.declared.Want.{Want}
-use Rattle.table.specs.Table.{Table, directory}
+use Rattle.table.specs.Table.{Table}
 use Rattle.table.specs.Memory.{decode, soundTable}
 use Rattle.table.specs.Follow.{roomFor, beginOf, Holds}
 use Rattle.table.proofs.Joined.{decode-directory}
 use Rattle.table.proofs.Following.{begin-holds, begin-length}
-use Rattle.journal.specs.declared.Standing.{Standing}
 use Rattle.journal.specs.State.{present, run}
 use Rattle.journal.specs.Journal.{countOf, ordersFrom, logOf}
 use Rattle.journal.specs.View.{Memory, stateOf}

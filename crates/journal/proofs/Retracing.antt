@@ -19,7 +19,7 @@ use Rattle.table.proofs.Following.{plan-follows, follow-holds, follow-length}
 use Rattle.journal.specs.State.{run}
 use Rattle.journal.specs.Journal.{sizeAt, orderAt, ordersFrom}
 use Rattle.journal.specs.Recall.{Retraced}
-use Rattle.journal.proofs.Turns.{Going, going-start, going-over, going-refused, going-turn, going-end, left-all, left-more, left-none, o, o-is, o-bytes, directory-is}
+use Rattle.journal.proofs.Turns.{Going, going-start, going-over, going-refused, going-turn, going-end, left-all, left-more, left-none, o-is, o-bytes, directory-is}
 
 -- ---- one order
 

@@ -17,7 +17,7 @@ use Rattle.journal.specs.State.{State, present, run, bytesIn, allAccepted}
 use Rattle.journal.specs.Journal.{countOf, withinFrom, logOf}
 use Rattle.journal.specs.View.{Memory, tooShort, wellFormed, stateOf, View, short, unformed, formed, viewOf}
 use Rattle.journal.proofs.Logs.{length-orders, bytes-orders, bytes-append, end-room}
-use Rattle.session.specs.Calls.{Call, reset, deliver, checkpoint, undo, window, notification, cell, desktop, nothing, Answer, refuse, grant, overFull, without, foundBody, foundPicture, cellAsked, isReset, answer, answerView, nextView, next}
+use Rattle.session.specs.Calls.{Call, reset, deliver, checkpoint, undo, window, notification, cell, desktop, nothing, refuse, grant, overFull, without, foundBody, foundPicture, cellAsked, isReset, answer, answerView, nextView, next}
 use Rattle.session.specs.Replies.{Shown, plain, aWindow, aNotification, aCell, aDesktop, replyOf}
 use Rattle.session.proofs.Granted.{long-has}
 use Rattle.session.proofs.Moved.{formed-has}

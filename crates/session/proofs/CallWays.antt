@@ -2,7 +2,7 @@
 use mathlib.Core.Path.{_≡_, sym, ap, _∙_}
 use mathlib.Core.Bool.{true, false}
 use mathlib.Core.List.{List}
-use Prim.Native.Nat.{ℕ, _-_, _≤_}
+use Prim.Native.Nat.{ℕ, _≤_}
 use native.Mathlib.Omega.{arith}
 use lib.ListN.{length}
 use Rattle.wire.specs.Numbers.{bytesOf}
@@ -20,7 +20,7 @@ use Rattle.journal.specs.Standing.{Stands, Applied}
 use Rattle.session.specs.declared.Reply.{Reply}
 use Rattle.session.specs.Calls.{reset, checkpoint}
 use Rattle.session.specs.Replies.{plain, Stepped}
-use Rattle.session.proofs.Granted.{long-has, nothingStands, blank, reset-granted, checkpoint-granted}
+use Rattle.session.proofs.Granted.{long-has, nothingStands, reset-granted, checkpoint-granted}
 use Rattle.session.proofs.Moved.{formed-has, first-orders}
 
 -- the number of a plan

@@ -1,27 +1,27 @@
 -- Emptying and a checkpoint: a table with no orders after it. Assumes nothing.
-use mathlib.Core.Path.{_≡_, refl, sym, ap, _∙_}
-use mathlib.Core.Bool.{Bool, true, false, not}
-use mathlib.Core.List.{List, [], _∷_}
-use Prim.Native.Nat.{ℕ, _+_, _-_, _≤_, _<_}
+use mathlib.Core.Path.{_≡_, refl, ap, _∙_}
+use mathlib.Core.Bool.{Bool, true, false}
+use mathlib.Core.List.{List, []}
+use Prim.Native.Nat.{ℕ, _≤_}
 use native.Mathlib.Omega.{arith}
-use lib.Dec.{eqb, ltb}
+use lib.Dec.{ltb}
 use lib.ListN.{length, drop}
-use borrow.Author.Tests.{lt-ltb, le-ltb, ltb-false}
-use Rattle.wire.specs.Tests.{pick, either}
-use Rattle.wire.specs.Numbers.{numAt, bytesOf}
+use borrow.Author.Tests.{le-ltb, ltb-false}
+use Rattle.wire.specs.Tests.{either}
+use Rattle.wire.specs.Numbers.{bytesOf}
 use Rattle.wire.specs.Parts.{splice}
 use Rattle.wire.proofs.Parts.{length-splice, drop-splice}
 use Rattle.wire.proofs.Numbers.{length-bytes, num-put, fits2}
 use Rattle.table.specs.Table.{Table, emptied}
 use Rattle.table.specs.Memory.{decode, soundTable}
 use Rattle.table.specs.Outcome.{PastKept, Emptied}
-use Rattle.journal.specs.State.{State, present, run, bytesIn, allAccepted}
+use Rattle.journal.specs.State.{bytesIn, allAccepted}
 use Rattle.journal.specs.Journal.{countOf, ordersFrom, withinFrom, logOf}
-use Rattle.journal.specs.View.{Memory, memory, Past, tooShort, wellFormed, stateOf, View, short, unformed, formed, viewOf}
+use Rattle.journal.specs.View.{Memory, memory, Past, tooShort, wellFormed, stateOf, formed, viewOf}
 use Rattle.journal.specs.Standing.{Applied}
 use Rattle.session.specs.declared.Reply.{Reply}
-use Rattle.session.specs.Calls.{Call, reset, deliver, checkpoint, undo, nothing, Answer, refuse, grant, answer, next, answerView, nextView}
-use Rattle.session.specs.Replies.{Shown, plain, shown, Stepped}
+use Rattle.session.specs.Calls.{reset, checkpoint, answer, next, answerView, nextView}
+use Rattle.session.specs.Replies.{Shown, plain, Stepped}
 use Rattle.session.proofs.Refusals.{view-unformed, view-formed}
 
 -- ---- lengths

@@ -1,30 +1,30 @@
 -- A delivery that is granted and an undo: one order more in the journal, and fewer. Assumes nothing.
-use mathlib.Core.Path.{_≡_, refl, sym, ap, ap₂, _∙_}
+use mathlib.Core.Path.{_≡_, refl, sym, ap, _∙_}
 use mathlib.Core.Bool.{Bool, true, false, not}
 use mathlib.Core.List.{List, [], _∷_, _++_}
 use Prim.Native.Nat.{ℕ, _+_, _-_, _≤_, _<_}
 use native.Mathlib.Omega.{arith}
-use lib.Dec.{eqb, ltb}
-use lib.ListN.{length, take, drop, length-append, length-take}
-use borrow.Author.Tests.{ne-eqb, eq-eqb, lt-ltb, le-ltb, ltb-false}
-use Rattle.wire.specs.Tests.{pick, both, either}
+use lib.Dec.{ltb}
+use lib.ListN.{length, take, drop, length-append}
+use borrow.Author.Tests.{le-ltb, ltb-false}
+use Rattle.wire.specs.Tests.{pick, either}
 use Rattle.wire.specs.Numbers.{bytesOf}
 use Rattle.wire.specs.Parts.{splice}
 use Rattle.wire.proofs.Parts.{length-splice, drop-splice}
 use Rattle.directory.specs.Directory.{Directory, directoryOf, numberIn}
-use Rattle.table.specs.Table.{Table, directory, number}
+use Rattle.table.specs.Table.{directory, number}
 use Rattle.table.specs.Memory.{decode, soundTable}
 use Rattle.journal.specs.declared.Standing.{Standing}
-use Rattle.journal.specs.State.{State, present, run, bytesIn, allAccepted}
+use Rattle.journal.specs.State.{present, run, bytesIn, allAccepted}
 use Rattle.journal.specs.Journal.{countOf, ordersFrom, endFrom, withinFrom, logOf}
-use Rattle.journal.specs.View.{Memory, memory, Past, tooShort, wellFormed, stateOf, formed, viewOf}
+use Rattle.journal.specs.View.{Memory, memory, Past, tooShort, wellFormed, stateOf, formed}
 use Rattle.journal.specs.Standing.{Stands}
 use Rattle.journal.proofs.Logs.{length-orders, bytes-orders, accepted-append, bytes-append, accepted-order, orders-take, within-take, accepted-take, count-put, orders-put, length-put, appended, Appended}
 use Rattle.session.specs.declared.Reply.{Reply}
-use Rattle.session.specs.Calls.{Call, deliver, undo, nothing, Answer, refuse, grant, overFull, without, answer, next, answerView, nextView}
-use Rattle.session.specs.Replies.{Shown, plain, shown, replyOf, Stepped}
+use Rattle.session.specs.Calls.{deliver, undo, nothing, refuse, grant, overFull, without, answer, next, answerView, nextView}
+use Rattle.session.specs.Replies.{plain, replyOf, Stepped}
 use Rattle.session.proofs.Refusals.{view-formed, delivery-refused, delivery-full, undo-refused}
-use Rattle.session.proofs.Granted.{Long, long-has, long-is, put-past}
+use Rattle.session.proofs.Granted.{long-has, long-is, put-past}
 
 -- ---- the rule as facts
 

@@ -1,17 +1,15 @@
 -- Calls that change nothing, and what a memory is by its tests. Assumes nothing.
 use mathlib.Core.Path.{_≡_, refl, sym, ap, _∙_}
-use mathlib.Core.Bool.{Bool, true, false, not}
-use mathlib.Core.List.{List, [], _∷_}
-use Prim.Native.Nat.{ℕ, _+_, _-_, _≤_, _<_}
-use native.Mathlib.Omega.{arith}
-use lib.Dec.{eqb, ltb}
+use mathlib.Core.Bool.{true, false}
+use mathlib.Core.List.{List}
+use Prim.Native.Nat.{ℕ, _<_}
+use lib.Dec.{eqb}
 use lib.ListN.{length}
-use borrow.Author.Tests.{ne-eqb, lt-ltb, le-ltb}
-use Rattle.wire.specs.Tests.{pick, either}
+use borrow.Author.Tests.{ne-eqb, lt-ltb}
 use Rattle.table.specs.Table.{number}
-use Rattle.journal.specs.State.{State, present, bytesIn}
+use Rattle.journal.specs.State.{present}
 use Rattle.journal.specs.View.{Memory, Past, tooShort, wellFormed, stateOf, View, short, unformed, formed, viewOf}
-use Rattle.session.specs.Calls.{Call, deliver, undo, Answer, refuse, overFull, isReset, answer, next, answerView, nextView}
+use Rattle.session.specs.Calls.{Call, deliver, undo, refuse, overFull, isReset, answer, next, answerView, nextView}
 use Rattle.session.specs.Replies.{Shown, shown, Stepped}
 
 -- ---- what a memory is

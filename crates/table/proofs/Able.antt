@@ -2,7 +2,7 @@
 use mathlib.Core.Path.{_≡_, refl, sym, ap, subst, _∙_}
 use mathlib.Core.Bool.{Bool, true, false}
 use mathlib.Core.List.{List}
-use Prim.Native.Nat.{ℕ, _+_, _*_, _/_, _%_, _^_, _-_, _≤_, _<_}
+use Prim.Native.Nat.{ℕ, _*_, _/_, _%_, _≤_, _<_}
 use native.Mathlib.Omega.{arith}
 use lib.Dec.{eqb}
 use lib.Bits.{bitAnd, and-high}
@@ -14,7 +14,7 @@ use Rattle.order.specs.declared.WindowOrder.{WindowOrder}
 use Rattle.order.specs.declared.NotificationOrder.{NotificationOrder}
 use Rattle.order.specs.declared.DesktopOrder.{DesktopOrder}
 use Rattle.order.specs.declared.Fit.the-variants.{Ends}
-use Rattle.order.specs.Icons.{partsOf, pictureFit}
+use Rattle.order.specs.Icons.{pictureFit}
 use Rattle.order.specs.Judge.{flagsOf}
 use Rattle.order.proofs.Pictures.{laid}
 use Rattle.order.proofs.Accepted.{AnIcon, a-window, a-notification, a-desktop, an-icon}
@@ -23,7 +23,7 @@ use Rattle.directory.specs.declared.Plan.the-variants.{ChangeDesktop}
 use Rattle.directory.specs.Plans.{cellAt, planOf}
 use Rattle.directory.specs.Directory.{Family, windows, notifications}
 use Rattle.directory.proofs.Soundness.{within-slots}
-use Rattle.directory.proofs.Planned.{Planned, Ordered, ordered-window, ordered-notification}
+use Rattle.directory.proofs.Planned.{Planned, ordered-window, ordered-notification}
 use Rattle.directory.proofs.Numbered.{planned-desktop}
 use Rattle.body.specs.Bodies.{windowFields, notificationFields, desktopFields}
 use Rattle.body.specs.Stores.{EndsWell}

@@ -1,17 +1,16 @@
 -- What the change of a slot makes of the body in it. Assumes nothing.
-use mathlib.Core.Path.{_≡_, refl, sym, ap, _∙_}
+use mathlib.Core.Path.{_≡_, refl, ap, _∙_}
 use mathlib.Core.Bool.{Bool, true, false, not}
 use mathlib.Core.List.{List}
-use Prim.Native.Nat.{ℕ, _+_, _*_, _-_, _≤_, _<_}
+use Prim.Native.Nat.{ℕ, _+_, _≤_, _<_}
 use native.Mathlib.Omega.{arith}
 use lib.ListN.{length}
 use Rattle.wire.specs.Tests.{pick, both, has}
 use Rattle.wire.specs.Numbers.{numAt}
-use Rattle.order.specs.declared.Row.{Row}
 use Rattle.directory.specs.declared.Change.{Change}
 use Rattle.directory.specs.Plans.{cellAt}
 use Rattle.directory.specs.Directory.{Family, windows, notifications}
-use Rattle.body.specs.Bodies.{Body, windowFields, notificationFields, desktopFields, fieldsOf, bodyOf, bodyOk, setFlagged, emptyBody}
+use Rattle.body.specs.Bodies.{Body, desktopFields, fieldsOf, bodyOf, bodyOk, emptyBody}
 use Rattle.body.specs.Stores.{storeOf, preparedOf, pointedOf, hookedOf, syncedOf, roomAll, EndsWell}
 use Rattle.body.proofs.Placed.{All, Placed, placed}
 use Rattle.body.proofs.Stored.{stored}

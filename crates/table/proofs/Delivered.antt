@@ -1,9 +1,9 @@
 -- A delivery and an emptying, whole: the number, the table then described, and the rule kept. Assumes nothing.
-use mathlib.Core.Path.{_≡_, refl, sym, ap, subst, _∙_}
-use mathlib.Core.Bool.{Bool, true, false}
+use mathlib.Core.Path.{_≡_, refl, sym, ap, _∙_}
+use mathlib.Core.Bool.{true}
 use mathlib.Core.List.{List, _++_}
 use mathlib.Core.Option.{none, some}
-use Prim.Native.Nat.{ℕ, _+_, _*_, _≤_, _<_}
+use Prim.Native.Nat.{ℕ, _+_, _*_, _≤_}
 use native.Mathlib.Omega.{arith}
 use lib.Dec.{eqb}
 use lib.ListN.{length, take, drop}
@@ -29,7 +29,7 @@ use Rattle.body.proofs.Placed.{placed}
 use Rattle.body.proofs.Fresh.{prepared-body, prepared-ok, length-prepared, desktop-room}
 use Rattle.body.proofs.Slots.{length-slot, slot-lent, slot-splice, length-bodies, slots-back}
 use Rattle.cache.specs.Cells.{cellOf, pictureOf}
-use Rattle.table.specs.Table.{Table, emptied, number, fieldRows, fieldsAt, changeOn, after}
+use Rattle.table.specs.Table.{emptied, number, fieldRows, fieldsAt, changeOn, after}
 use Rattle.table.specs.Memory.{decode, soundTable}
 use Rattle.table.specs.Changes.{markOf, bodiesAfter, cellsAfter, desktopSlot, bodiesBy, cellsBy, Able}
 use Rattle.table.specs.Outcome.{PastKept, Emptied, Delivered}

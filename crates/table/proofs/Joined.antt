@@ -1,8 +1,8 @@
 -- The table that a memory describes after the change of a plan. Assumes nothing.
-use mathlib.Core.Path.{_≡_, refl, sym, ap, ap₂, subst, _∙_, fun-ext}
-use mathlib.Core.Bool.{Bool, true, false, not}
+use mathlib.Core.Path.{_≡_, refl, sym, ap, _∙_}
+use mathlib.Core.Bool.{Bool, true, false}
 use mathlib.Core.List.{List}
-use mathlib.Core.Option.{Option, none, some}
+use mathlib.Core.Option.{none, some}
 use Prim.Native.Nat.{ℕ, _+_, _*_, _-_, _≤_, _<_}
 use native.Mathlib.Omega.{arith}
 use lib.Dec.{eqb}
@@ -10,18 +10,16 @@ use lib.ListN.{length}
 use borrow.Author.Tests.{eqb-true, eqb-false, eq-eqb, ne-eqb, not-true}
 use Rattle.wire.specs.Tests.{pick, both, either, has}
 use Rattle.wire.specs.Parts.{splice}
-use Rattle.wire.proofs.Numbers.{Bytes}
 use Rattle.wire.proofs.Tests.{both-left, both-right}
-use Rattle.order.specs.declared.Row.{Row}
 use Rattle.order.proofs.Accepted.{AnIcon}
 use Rattle.directory.specs.declared.Found.{Found}
 use Rattle.directory.specs.declared.Found.the-variants.{At, Nothing}
 use Rattle.directory.specs.declared.Change.{Change}
-use Rattle.directory.specs.Slots.{isUsed, isFree, isAt, firstFrom, onFound, filledAt}
-use Rattle.directory.specs.Plans.{cellAt, planOf}
-use Rattle.directory.specs.Directory.{Family, windows, notifications, sameFamily, sameRecord, start, most, Directory, isThere, manyIn, directoryOf, numberIn}
+use Rattle.directory.specs.Slots.{isUsed, isAt, firstFrom, onFound, filledAt}
+use Rattle.directory.specs.Plans.{cellAt}
+use Rattle.directory.specs.Directory.{Family, sameFamily, sameRecord, start, most, Directory, manyIn, directoryOf}
 use Rattle.directory.specs.Directory as D
-use Rattle.directory.specs.Marks.{listedOf, freedOf, filledOf, markedOf, clearedOf, emptiedOf}
+use Rattle.directory.specs.Marks.{listedOf, filledOf, markedOf, clearedOf}
 use Rattle.directory.specs.Sound.{soundDirectory}
 use Rattle.directory.proofs.Search.{found}
 use Rattle.directory.proofs.Soundness.{Within, within-slots, same-family, apart, at-has, at-free, sound-has}
@@ -33,7 +31,7 @@ use Rattle.body.specs.Stores.{EndsWell}
 use Rattle.body.proofs.Slots.{length-slot, slot-splice}
 use Rattle.cache.specs.Cells.{cellOf, pictureOf, carriedPicture, fillOf}
 use Rattle.cache.proofs.Filled.{filled-picture, other-cell}
-use Rattle.table.specs.Table.{Table, emptied, there, directory, number, fieldRows, fieldsAt, bodyAfter, bodyIn, changeRecord, changeDesktop, desktopAfter}
+use Rattle.table.specs.Table.{Table, emptied, there, directory, fieldRows, fieldsAt, bodyAfter, bodyIn, changeRecord, changeDesktop, desktopAfter}
 use Rattle.table.specs.Memory.{recordIn, cellIn, decode}
 use Rattle.table.specs.Changes.{slotAfter, bodiesAfter, cellsAfter, desktopSlot, Able}
 use Rattle.table.proofs.Bodied.{markFor, slot-length, slot-body, desktop-length, desktop-body}

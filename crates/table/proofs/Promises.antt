@@ -1,10 +1,9 @@
 -- The promises of an accepted order, from the definition of `after`. Assumes nothing.
-use mathlib.Core.Path.{_≡_, refl, sym, ap, subst, _∙_}
-use mathlib.Core.Bool.{Bool, true, false, not}
+use mathlib.Core.Path.{_≡_, refl, ap, _∙_}
+use mathlib.Core.Bool.{Bool, true, false}
 use mathlib.Core.List.{List}
 use mathlib.Core.Option.{Option, none, some}
 use Prim.Native.Nat.{ℕ, _+_, _-_}
-use native.Mathlib.Omega.{arith}
 use lib.Dec.{eqb}
 use borrow.Author.Tests.{eq-eqb}
 use Rattle.wire.specs.Tests.{pick, both, either, has}
@@ -12,10 +11,10 @@ use Rattle.order.specs.declared.Judged.{Judged}
 use Rattle.order.specs.declared.Judged.the-variants.{Window, Notification, Desktop, Refused}
 use Rattle.order.specs.Judge.{judgeOf}
 use Rattle.directory.specs.Plans.{cellAt}
-use Rattle.directory.specs.Directory.{Family, windows, notifications, sameFamily, sameRecord, Directory, numberIn, directoryAfter}
+use Rattle.directory.specs.Directory.{Family, windows, notifications, sameFamily, sameRecord, numberIn, directoryAfter}
 use Rattle.directory.specs.Directory as D
 use Rattle.directory.proofs.Soundness.{family-same}
-use Rattle.body.specs.Bodies.{Body, setFlagged}
+use Rattle.body.specs.Bodies.{Body}
 use Rattle.body.proofs.Each.{sets-flagged}
 use Rattle.cache.specs.Cells.{carriedPicture}
 use Rattle.table.specs.Table.{Table, emptied, there, directory, number, fieldRows, fieldsAt, bodyAfter, bodyBefore, changeRecord, changeDesktop, desktopAfter, changeOn, after}

@@ -2,22 +2,20 @@
 use mathlib.Core.Path.{_≡_, refl, sym, ap, subst, _∙_}
 use mathlib.Core.Bool.{Bool, true, false, not}
 use mathlib.Core.List.{List}
-use Prim.Native.Nat.{ℕ, _+_, _*_, _-_, _≤_, _<_}
+use Prim.Native.Nat.{ℕ, _+_, _*_, _≤_, _<_}
 use native.Mathlib.Omega.{arith}
 use lib.Dec.{eqb, ltb}
 use lib.ListN.{length}
-use borrow.Author.Tests.{eqb-true, eqb-false, eq-eqb, ne-eqb, ltb-true, ltb-false, le-ltb}
+use borrow.Author.Tests.{eqb-true, eqb-false, ne-eqb, ltb-true, ltb-false, le-ltb}
 use Rattle.wire.specs.Tests.{pick, both, either, has}
 use Rattle.wire.specs.Numbers.{bytesOf}
 use Rattle.wire.specs.Parts.{splice}
-use Rattle.wire.proofs.Parts.{length-splice}
 use Rattle.wire.proofs.Tests.{both-left}
 use Rattle.order.proofs.Accepted.{AnIcon}
 use Rattle.directory.specs.declared.Change.{Change}
-use Rattle.directory.specs.Slots.{isUsed, isAt, firstFrom, filledAt}
+use Rattle.directory.specs.Slots.{isUsed, isAt, filledAt}
 use Rattle.directory.specs.Plans.{cellAt}
-use Rattle.directory.specs.Directory.{Family, windows, notifications, start, most, directoryOf}
-use Rattle.directory.specs.Directory as D
+use Rattle.directory.specs.Directory.{Family, windows, notifications, start, most}
 use Rattle.directory.specs.Marks.{listedOf, freedOf, filledOf, markedOf, clearedOf, emptiedOf}
 use Rattle.directory.specs.Sound.{slotsOk, soundDirectory}
 use Rattle.directory.proofs.Search.{found, each-ok, all-ok}

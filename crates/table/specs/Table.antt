@@ -22,6 +22,13 @@ pub record Table : Type 0 where
   pub cells : ℕ → Option (List ℕ)
   pub desktop : Body
 
+-- what a table has under ids, and in a cell
+abbrev pub recordAt : Table → Family → ℕ → ℕ → Option Body
+recordAt t f a b = t .records f a b
+
+abbrev pub pictureAt : Table → ℕ → Option (List ℕ)
+pictureAt t c = t .cells c
+
 -- document 01's emptied table
 unfoldable pub emptied : Table
 emptied = record { records = λ f a b. none; many = λ f. 0; cells = λ c. none; desktop = emptyBody desktopFields }

@@ -4,21 +4,15 @@ use borrow.Author.Needs.{needs}
 use Rattle.body.proofs.point.Statement.{statement}
 use Rattle.body.proofs.point.Tie as tie
 
-returns : tie.Need-returns
-returns c =
-    let a = c .before .before .args in
-    point-none (a .flags) (a .mark) (a .v) (now (a .slot)) (c .if1 .taken)
-
-write-u8-requires : tie.Need-write-u8-requires
-write-u8-requires c κs = search needs
-
-same-length : tie.Need-same-length
-same-length c = search needs
-
-returns-2 : tie.Need-returns-2
-returns-2 c =
-    let a = c .before .before .before .before .before .before .args in
-    point-set (a .flags) (a .mark) (a .v) (now (a .slot)) (c .before .before .before .before .if1 .left) (c .before .before .write-u8 .ensures)
-
 pub point-spec : {M : Type 1} → statement M
-point-spec = tie.close (tie.spec returns write-u8-requires same-length returns-2)
+point-spec =
+    tie.close
+    (tie.spec
+    (λ c.  -- returns
+    let a = c .before .before .args in
+    point-none (a .flags) (a .mark) (a .v) (now (a .slot)) (c .if1 .taken))
+    (λ c κs. search needs)
+    (λ c. search needs)
+    (λ c.  -- returns-2
+    let a = c .before .before .before .before .before .before .args in
+    point-set (a .flags) (a .mark) (a .v) (now (a .slot)) (c .before .before .before .before .if1 .left) (c .before .before .write-u8 .ensures)))

@@ -9,10 +9,6 @@ use Rattle.directory.proofs.Stepped.{record-asks}
 use borrow.Author.Needs.{needs}
 use Rattle.directory.proofs.note.Statement.{statement}
 use Rattle.directory.proofs.note.Tie as tie
-use Rattle.directory.proofs.note.Reads as reads
-use Rattle.directory.proofs.note.Lts as lts
-use Rattle.directory.proofs.marks.mark.Reads as mark-reads
-use Rattle.directory.proofs.marks.none.Reads as none-reads
 
 abbrev start : tie.After-shared-slice-known → tie.Start
 start v = v .before .before
@@ -20,61 +16,18 @@ start v = v .before .before
 bytes : (v : tie.After-shared-slice-known) → Bytes (now (start v .args .s))
 bytes v = record { small = λ i. omega (arith, v .shared-slice-known .given i) }
 
--- src/lib.rt:111:28
-enum-known-p : tie.Need-enum-known-p
-enum-known-p c = search needs
-
--- src/lib.rt:111:34
-mark-requires : tie.Need-mark-requires
-mark-requires c κs = let v = c .before .before .before .before in let u = start v in record-asks (now (u .args .dir)) (now (u .args .s)) (bytes v) (u .pre .0) (u .pre .1) windows (c .before .before .p .given .0 .0) (c .before .before .p .given .1)
-
--- src/lib.rt:112:34
-enum-known-p-2 : tie.Need-enum-known-p-2
-enum-known-p-2 c = search needs
-
--- src/lib.rt:112:40
-mark-requires-2 : tie.Need-mark-requires-2
-mark-requires-2 c κs = let v = c .before .before .before .before in let u = start v in record-asks (now (u .args .dir)) (now (u .args .s)) (bytes v) (u .pre .0) (u .pre .1) notifications (c .before .before .p2 .given .0 .0) (c .before .before .p2 .given .1)
-
--- src/lib.rt:113:29
-enum-known-p-3 : tie.Need-enum-known-p-3
-enum-known-p-3 c = search needs
-
--- src/lib.rt:113:39
-none-requires : tie.Need-none-requires
-none-requires c κs = let u = start (c .before .before .before .before) in sound-has (now (u .args .dir)) (u .pre .0) .long
-
-enum-told : tie.Need-enum-told
-enum-told c = search needs
-
--- src/lib.rt:106:1
-same-length : tie.Need-same-length
-same-length c = search needs
-
--- src/lib.rt:106:1
 returns : tie.Need-returns
 unfolding markedBy
 returns c = let u = start (c .before .before .before .before .before .before .before) in c .before .before .mark .ensures ∙ ap (markedBy (now (u .args .dir)) (now (u .args .s))) (sym (c .before .before .before .before .before .p .given .1))
 
--- src/lib.rt:106:1
-same-length-2 : tie.Need-same-length-2
-same-length-2 c = search needs
-
--- src/lib.rt:106:1
 returns-2 : tie.Need-returns-2
 unfolding markedBy
 returns-2 c = let u = start (c .before .before .before .before .before .before .before) in c .before .before .mark2 .ensures ∙ ap (markedBy (now (u .args .dir)) (now (u .args .s))) (sym (c .before .before .before .before .before .p2 .given .1))
 
--- src/lib.rt:106:1
-same-length-3 : tie.Need-same-length-3
-same-length-3 c = search needs
-
--- src/lib.rt:106:1
 returns-3 : tie.Need-returns-3
 unfolding markedBy
 returns-3 c = let u = start (c .before .before .before .before .before .before .before) in c .before .before .none .ensures ∙ ap (markedBy (now (u .args .dir)) (now (u .args .s))) (sym (c .before .before .before .before .before .p3 .given .1))
 
--- src/lib.rt:106:1
 returns-4 : tie.Need-returns-4
 unfolding markedBy
 returns-4 c = let u = start (c .before .before) in ap (markedBy (now (u .args .dir)) (now (u .args .s))) (sym (c .enum-told .given .1))
@@ -83,17 +36,17 @@ pub note-spec : {M : Type 1} → statement M
 note-spec =
     tie.close
     (tie.spec
-    enum-known-p
-    mark-requires
-    enum-known-p-2
-    mark-requires-2
-    enum-known-p-3
-    none-requires
-    enum-told
-    same-length
+    (λ c. search needs)
+    (λ c κs. let v = c .before .before .before .before in let u = start v in record-asks (now (u .args .dir)) (now (u .args .s)) (bytes v) (u .pre .0) (u .pre .1) windows (c .before .before .p .given .0 .0) (c .before .before .p .given .1))  -- mark-requires
+    (λ c. search needs)
+    (λ c κs. let v = c .before .before .before .before in let u = start v in record-asks (now (u .args .dir)) (now (u .args .s)) (bytes v) (u .pre .0) (u .pre .1) notifications (c .before .before .p2 .given .0 .0) (c .before .before .p2 .given .1))  -- mark-requires-2
+    (λ c. search needs)
+    (λ c κs. let u = start (c .before .before .before .before) in sound-has (now (u .args .dir)) (u .pre .0) .long)  -- none-requires
+    (λ c. search needs)
+    (λ c. search needs)
     returns
-    same-length-2
+    (λ c. search needs)
     returns-2
-    same-length-3
+    (λ c. search needs)
     returns-3
     returns-4)

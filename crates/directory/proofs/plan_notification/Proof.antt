@@ -4,29 +4,17 @@ use borrow.Author.Needs.{needs}
 use Rattle.directory.proofs.plan_notification.Statement.{statement}
 use Rattle.directory.proofs.plan_notification.Tie as tie
 
-icon-number-requires : tie.Need-icon-number-requires
-icon-number-requires c κs = search needs
-
-slot-for-requires : tie.Need-slot-for-requires
-slot-for-requires c κs = search needs
-
-enum-known-p : tie.Need-enum-known-p
-enum-known-p c = search needs
-
-enum-known-p-2 : tie.Need-enum-known-p-2
-enum-known-p-2 c = search needs
-
-returns : tie.Need-returns
-returns c =
-    let a = c .before .before .before .before .before .before .before .args in
-    notification-refused (now (a .dir)) (now (a .s)) (a .o) (c .before .before .before .before .icon-number .ensures) (c .before .before .before .slot-for .ensures) (c .before .p .given .1)
-
-returns-2 : tie.Need-returns-2
-returns-2 c =
-    let a = c .before .before .before .before .before .before .before .args in
-    notification-changes (now (a .dir)) (now (a .s)) (a .o) (c .before .before .before .before .icon-number .ensures) (c .before .before .before .slot-for .ensures) (c .before .p2 .given .1)
-
 pub plan-notification-spec : {M : Type 1} → statement M
 plan-notification-spec =
     tie.close
-    (tie.spec icon-number-requires slot-for-requires enum-known-p enum-known-p-2 returns returns-2)
+    (tie.spec
+    (λ c κs. search needs)
+    (λ c κs. search needs)
+    (λ c. search needs)
+    (λ c. search needs)
+    (λ c.  -- returns
+    let a = c .before .before .before .before .before .before .before .args in
+    notification-refused (now (a .dir)) (now (a .s)) (a .o) (c .before .before .before .before .icon-number .ensures) (c .before .before .before .slot-for .ensures) (c .before .p .given .1))
+    (λ c.  -- returns-2
+    let a = c .before .before .before .before .before .before .before .args in
+    notification-changes (now (a .dir)) (now (a .s)) (a .o) (c .before .before .before .before .icon-number .ensures) (c .before .before .before .slot-for .ensures) (c .before .p2 .given .1)))

@@ -17,34 +17,25 @@ mem u = memory (now (u .args .dir)) (now (u .args .bodies)) (now (u .args .cells
 long : (u : tie.Start) → Long (mem u)
 long u = long-enough (mem u) (u .pre .0)
 
-sound-requires : tie.Need-sound-requires
-sound-requires c κs = search needs
-
-returns : tie.Need-returns
-returns c =
+pub establish-spec : {M : Type 1} → statement M
+establish-spec =
+    tie.close
+    (tie.spec
+    (λ c κs. search needs)
+    (λ c.  -- returns
     let u = start (c .before .before) in
-    not-sound (mem u) (now (u .args .d)) (c .before .sound .ensures) (not-true (c .before .sound .result) (c .if1 .taken))
-
-read-u16-requires : tie.Need-read-u16-requires
-read-u16-requires c κs = search needs
-
-cast-count : tie.Need-cast-count
-cast-count c = search needs
-
-returns-2 : tie.Need-returns-2
-returns-2 c =
+    not-sound (mem u) (now (u .args .d)) (c .before .sound .ensures) (not-true (c .before .sound .result) (c .if1 .taken)))
+    (λ c κs. search needs)
+    (λ c. search needs)
+    (λ c.  -- returns-2
     let r = c .before in
     let s = r .before .before in
     let u = start (s .before) in
-    too-many (mem u) (s .sound .ensures) (not-false (s .sound .result) (r .before .if1 .left)) (r .read-u16 .ensures) (now (u .args .d)) (c .if2 .taken)
-
-copy-part-requires : tie.Need-copy-part-requires
-copy-part-requires c κs =
+    too-many (mem u) (s .sound .ensures) (not-false (s .sound .result) (r .before .if1 .left)) (r .read-u16 .ensures) (now (u .args .d)) (c .if2 .taken))
+    (λ c κs.  -- copy-part-requires
     let u = start (c .before .before .before .before .before) in
-    (omega (arith, u .pre .1), omega (arith, long u .dir))
-
-replay-requires : tie.Need-replay-requires
-replay-requires c κs =
+    (omega (arith, u .pre .1), omega (arith, long u .dir)))
+    (λ c κs.  -- replay-requires
     let k = c .before .before .before in
     let r = k .before .before .before in
     let s = r .before .before in
@@ -52,30 +43,12 @@ replay-requires c κs =
       copied-sound (now (u .args .d)) (now (u .args .dir)) (u .pre .1) (long u .dir) (k .copy-part .ensures)
           (sound-directory (mem u) (s .sound .ensures) (not-false (s .sound .result) (r .before .if1 .left)) (r .read-u16 .ensures)),
       long u .journal,
-    )
-
-same-length : tie.Need-same-length
-same-length c = search needs
-
-returns-3 : tie.Need-returns-3
-returns-3 c =
+    ))
+    (λ c. search needs)
+    (λ c.  -- returns-3
     let k = c .before .before .before .before .before .before in
     let r = k .before .before .before in
     let s = r .before .before in
     let u = start (s .before) in
     established (mem u) (s .sound .ensures) (not-false (s .sound .result) (r .before .if1 .left)) (r .read-u16 .ensures) (k .before .before .if2 .left) (k .copy-part .last .0)
-    (copied-directory (now (u .args .d)) (now (u .args .dir)) (u .pre .1) (long u .dir) (k .copy-part .ensures)) (c .before .before .replay .ensures)
-
-pub establish-spec : {M : Type 1} → statement M
-establish-spec =
-    tie.close
-    (tie.spec
-    sound-requires
-    returns
-    read-u16-requires
-    cast-count
-    returns-2
-    copy-part-requires
-    replay-requires
-    same-length
-    returns-3)
+    (copied-directory (now (u .args .d)) (now (u .args .dir)) (u .pre .1) (long u .dir) (k .copy-part .ensures)) (c .before .before .replay .ensures)))

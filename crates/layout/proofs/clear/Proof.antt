@@ -16,51 +16,27 @@ Inv-loop out₀ at n i₀ out i = (i ≤ n) × (length out ≡ length out₀) ×
 abbrev μ-loop : tie.MeasureT-loop
 μ-loop out₀ at n i₀ out i = n - i
 
-loop-holds : tie.Need-loop-holds Inv-loop μ-loop
-loop-holds c = (search needs, refl, sym (splice-nil (now (c .args .out)) (c .args .at)))
-
-add-out : tie.Need-add-out Inv-loop μ-loop
-add-out c = search needs
-
-slice-write-out : tie.Need-slice-write-out Inv-loop μ-loop
-slice-write-out c = search needs
-
-add-i : tie.Need-add-i Inv-loop μ-loop
-add-i c = search needs
-
-loop-less : tie.Need-loop-less Inv-loop μ-loop
-loop-less c = search needs
-
-loop-again : tie.Need-loop-again Inv-loop μ-loop
-loop-again c =
-    let w = c .before in
-    let a = w .before .args in (
-      search needs,
-      simp length-set (w .loop .inv .1),
-      clear-next (now (a .out)) (a .at) (w .loop .i) (w .loop .out) (omega arith) (w .loop .inv .2),
-    )
-
-same-length : tie.Need-same-length Inv-loop μ-loop
-same-length c = search needs
-
-returns : tie.Need-returns Inv-loop μ-loop
-returns c =
-    let w = c .before in
-    let a = w .before .args in
-    let e : w .loop .i ≡ a .n = omega arith in
-    w .loop .inv .2 ∙ ap (λ (k : ℕ). splice (now (a .out)) (a .at) (replicate k 0)) e
-
 pub clear-spec : {M : Type 1} → statement M
 clear-spec =
     tie.close
     (tie.spec
     Inv-loop
     μ-loop
-    loop-holds
-    add-out
-    slice-write-out
-    add-i
-    loop-less
-    loop-again
-    same-length
-    returns)
+    (λ c. (search needs, refl, sym (splice-nil (now (c .args .out)) (c .args .at))))  -- loop-holds
+    (λ c. search needs)
+    (λ c. search needs)
+    (λ c. search needs)
+    (λ c. search needs)
+    (λ c.  -- loop-again
+    let w = c .before in
+    let a = w .before .args in (
+      search needs,
+      simp length-set (w .loop .inv .1),
+      clear-next (now (a .out)) (a .at) (w .loop .i) (w .loop .out) (omega arith) (w .loop .inv .2),
+    ))
+    (λ c. search needs)
+    (λ c.  -- returns
+    let w = c .before in
+    let a = w .before .args in
+    let e : w .loop .i ≡ a .n = omega arith in
+    w .loop .inv .2 ∙ ap (λ (k : ℕ). splice (now (a .out)) (a .at) (replicate k 0)) e))

@@ -18,44 +18,23 @@ end-is u = ap (λ (p : IconParts). p .end) (u .before .icon-parts .ensures)
 within : (u : tie.After-struct-known) → InCell (partsOf (now (S u .args .cell)) 0 .end)
 within u = in-cell (now (S u .args .cell)) (S u .pre .2)
 
-icon-parts-requires : tie.Need-icon-parts-requires
-icon-parts-requires c κs = search needs
-
-sub-n : tie.Need-sub-n
-sub-n c = omega (arith, end-is c, within c .low)
-
-copy-part-requires : tie.Need-copy-part-requires
-copy-part-requires c κs =
-    let u = c .before in
-    (omega (arith, end-is u, within u .low, within u .high, S u .pre .0), omega (arith, end-is u, within u .low, within u .high, S u .pre .1))
-
-sub-clear : tie.Need-sub-clear
-sub-clear c = let u = c .before .before .before .before .before in omega (arith, end-is u, within u .low, within u .high)
-
-clear-requires : tie.Need-clear-requires
-clear-requires c κs =
-    let u = c .before .before .before .before .before in
-    omega (arith, end-is u, within u .low, within u .high, S u .pre .0, c .before .before .before .copy-part .kept .0)
-
-same-length : tie.Need-same-length
-same-length c = search needs
-
-returns : tie.Need-returns
-returns c =
-    let u = c .before .before .before .before .before .before .before .before in
-    let b = S u in
-    picture-put (now (b .args .cell)) (now (b .args .out)) (end-is u) (b .pre .2) (b .pre .1) (b .pre .0)
-    (c .before .before .before .before .before .before .copy-part .ensures)
-    (c .before .before .clear .ensures)
-
 pub picture-spec : {M : Type 1} → statement M
 picture-spec =
     tie.close
     (tie.spec
-    icon-parts-requires
-    sub-n
-    copy-part-requires
-    sub-clear
-    clear-requires
-    same-length
-    returns)
+    (λ c κs. search needs)
+    (λ c. omega (arith, end-is c, within c .low))  -- sub-n
+    (λ c κs.  -- copy-part-requires
+    let u = c .before in
+    (omega (arith, end-is u, within u .low, within u .high, S u .pre .0), omega (arith, end-is u, within u .low, within u .high, S u .pre .1)))
+    (λ c. let u = c .before .before .before .before .before in omega (arith, end-is u, within u .low, within u .high))  -- sub-clear
+    (λ c κs.  -- clear-requires
+    let u = c .before .before .before .before .before in
+    omega (arith, end-is u, within u .low, within u .high, S u .pre .0, c .before .before .before .copy-part .kept .0))
+    (λ c. search needs)
+    (λ c.  -- returns
+    let u = c .before .before .before .before .before .before .before .before in
+    let b = S u in
+    picture-put (now (b .args .cell)) (now (b .args .out)) (end-is u) (b .pre .2) (b .pre .1) (b .pre .0)
+    (c .before .before .before .before .before .before .copy-part .ensures)
+    (c .before .before .clear .ensures)))

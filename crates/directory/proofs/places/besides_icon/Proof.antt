@@ -2,11 +2,9 @@ use Rattle.directory.proofs.Ways.{besides-good, besides-bad}
 use Rattle.directory.proofs.places.besides_icon.Statement.{statement}
 use Rattle.directory.proofs.places.besides_icon.Tie as tie
 
-returns : tie.Need-returns
-returns c = besides-good (c .before .args .i) (c .before .args .n) (c .if1 .taken)
-
-returns-2 : tie.Need-returns-2
-returns-2 c = besides-bad (c .before .args .i) (c .before .args .n) (c .if1 .left)
-
 pub besides-icon-spec : {M : Type 1} → statement M
-besides-icon-spec = tie.close (tie.spec returns returns-2)
+besides-icon-spec =
+    tie.close
+    (tie.spec
+    (λ c. besides-good (c .before .args .i) (c .before .args .n) (c .if1 .taken))  -- returns
+    (λ c. besides-bad (c .before .args .i) (c .before .args .n) (c .if1 .left)))  -- returns-2

@@ -5,53 +5,26 @@ use borrow.Author.Needs.{needs}
 use Rattle.directory.proofs.places.icon_number.Statement.{statement}
 use Rattle.directory.proofs.places.icon_number.Tie as tie
 
-add-read-u8 : tie.Need-add-read-u8
-add-read-u8 c = search needs
-
-read-u8-requires : tie.Need-read-u8-requires
-read-u8-requires c κs = search needs
-
-returns : tie.Need-returns
-returns c =
-    let a = c .before .before .before .before .before .args in
-    icon-absent (filledAt (now (a .dir))) (a .flags) (now (a .s)) (a .icon) (c .before .before .if1 .taken) (c .before .read-u8 .ensures) (c .if2 .taken)
-
-returns-2 : tie.Need-returns-2
-returns-2 c =
-    let a = c .before .before .before .before .before .args in
-    icon-good (filledAt (now (a .dir))) (a .flags) (now (a .s)) (a .icon) (c .before .before .if1 .taken) (c .before .read-u8 .ensures) (c .if2 .left)
-
-cell-requires : tie.Need-cell-requires
-cell-requires c κs = search needs
-
-is-filled-requires : tie.Need-is-filled-requires
-is-filled-requires c κs = search needs
-
-returns-3 : tie.Need-returns-3
-returns-3 c =
-    let a = c .before .before .before .before .before .before .before .args in
-    cached-good (filledAt (now (a .dir))) (a .flags) (now (a .s)) (a .icon) (c .before .before .before .before .if1 .left) (c .before .before .before .if3 .taken) (c .before .before .cell .ensures .0) (c .before .is-filled .ensures) (c .if4 .taken)
-
-returns-4 : tie.Need-returns-4
-returns-4 c =
-    let a = c .before .before .before .before .before .before .before .args in
-    cached-empty (filledAt (now (a .dir))) (a .flags) (now (a .s)) (a .icon) (c .before .before .before .before .if1 .left) (c .before .before .before .if3 .taken) (c .before .before .cell .ensures .0) (c .before .is-filled .ensures) (c .if4 .left)
-
-returns-5 : tie.Need-returns-5
-returns-5 c =
-    let a = c .before .before .before .before .args in
-    no-icon (filledAt (now (a .dir))) (a .flags) (now (a .s)) (a .icon) (c .before .if1 .left) (c .if3 .left)
-
 pub icon-number-spec : {M : Type 1} → statement M
 icon-number-spec =
     tie.close
     (tie.spec
-    add-read-u8
-    read-u8-requires
-    returns
-    returns-2
-    cell-requires
-    is-filled-requires
-    returns-3
-    returns-4
-    returns-5)
+    (λ c. search needs)
+    (λ c κs. search needs)
+    (λ c.  -- returns
+    let a = c .before .before .before .before .before .args in
+    icon-absent (filledAt (now (a .dir))) (a .flags) (now (a .s)) (a .icon) (c .before .before .if1 .taken) (c .before .read-u8 .ensures) (c .if2 .taken))
+    (λ c.  -- returns-2
+    let a = c .before .before .before .before .before .args in
+    icon-good (filledAt (now (a .dir))) (a .flags) (now (a .s)) (a .icon) (c .before .before .if1 .taken) (c .before .read-u8 .ensures) (c .if2 .left))
+    (λ c κs. search needs)
+    (λ c κs. search needs)
+    (λ c.  -- returns-3
+    let a = c .before .before .before .before .before .before .before .args in
+    cached-good (filledAt (now (a .dir))) (a .flags) (now (a .s)) (a .icon) (c .before .before .before .before .if1 .left) (c .before .before .before .if3 .taken) (c .before .before .cell .ensures .0) (c .before .is-filled .ensures) (c .if4 .taken))
+    (λ c.  -- returns-4
+    let a = c .before .before .before .before .before .before .before .args in
+    cached-empty (filledAt (now (a .dir))) (a .flags) (now (a .s)) (a .icon) (c .before .before .before .before .if1 .left) (c .before .before .before .if3 .taken) (c .before .before .cell .ensures .0) (c .before .is-filled .ensures) (c .if4 .left))
+    (λ c.  -- returns-5
+    let a = c .before .before .before .before .args in
+    no-icon (filledAt (now (a .dir))) (a .flags) (now (a .s)) (a .icon) (c .before .if1 .left) (c .if3 .left)))

@@ -14,52 +14,28 @@ Inv-loop dir first count end i₀ i = (i ≤ end) × (end ≤ 48) × (firstFrom 
 abbrev μ-loop : tie.MeasureT-loop
 μ-loop dir first count end i₀ i = end - i
 
-add-end : tie.Need-add-end Inv-loop μ-loop
-add-end c = search needs
-
-loop-holds : tie.Need-loop-holds Inv-loop μ-loop
-loop-holds c =
-    let a = c .before .args in
-    (search needs, search needs, first-start (isFree (now (a .dir))) (a .first) (a .count))
-
-is-used-requires : tie.Need-is-used-requires Inv-loop μ-loop
-is-used-requires c κs = search needs
-
-returns : tie.Need-returns Inv-loop μ-loop
-returns c =
-    let w = c .before .before .before in
-    let a = c .before .before .before .before .before .args in
-    sym (w .loop .inv .2 ∙ first-here (isFree (now (a .dir))) (a .first + a .count) (w .loop .i) (c .before .before .loop-test .taken) (ap not (c .before .is-used .ensures)) (c .if1 .taken))
-
-add-i : tie.Need-add-i Inv-loop μ-loop
-add-i c = search needs
-
-loop-less : tie.Need-loop-less Inv-loop μ-loop
-loop-less c = search needs
-
-loop-again : tie.Need-loop-again Inv-loop μ-loop
-loop-again c =
-    let w = c .before .before .before in
-    let a = c .before .before .before .before .before .args in
-    (search needs, search needs, w .loop .inv .2 ∙ first-next (isFree (now (a .dir))) (a .first + a .count) (w .loop .i) (c .before .before .loop-test .taken) (ap not (c .before .is-used .ensures)) (c .if1 .left))
-
-returns-2 : tie.Need-returns-2 Inv-loop μ-loop
-returns-2 c =
-    let w = c .before in
-    let a = c .before .before .before .args in
-    sym (w .loop .inv .2 ∙ first-none (isFree (now (a .dir))) (a .first + a .count) (w .loop .i) (c .loop-test .left))
-
 pub free-spec : {M : Type 1} → statement M
 free-spec =
     tie.close
     (tie.spec
     Inv-loop
     μ-loop
-    add-end
-    loop-holds
-    is-used-requires
-    returns
-    add-i
-    loop-less
-    loop-again
-    returns-2)
+    (λ c. search needs)
+    (λ c.  -- loop-holds
+    let a = c .before .args in
+    (search needs, search needs, first-start (isFree (now (a .dir))) (a .first) (a .count)))
+    (λ c κs. search needs)
+    (λ c.  -- returns
+    let w = c .before .before .before in
+    let a = c .before .before .before .before .before .args in
+    sym (w .loop .inv .2 ∙ first-here (isFree (now (a .dir))) (a .first + a .count) (w .loop .i) (c .before .before .loop-test .taken) (ap not (c .before .is-used .ensures)) (c .if1 .taken)))
+    (λ c. search needs)
+    (λ c. search needs)
+    (λ c.  -- loop-again
+    let w = c .before .before .before in
+    let a = c .before .before .before .before .before .args in
+    (search needs, search needs, w .loop .inv .2 ∙ first-next (isFree (now (a .dir))) (a .first + a .count) (w .loop .i) (c .before .before .loop-test .taken) (ap not (c .before .is-used .ensures)) (c .if1 .left)))
+    (λ c.  -- returns-2
+    let w = c .before in
+    let a = c .before .before .before .args in
+    sym (w .loop .inv .2 ∙ first-none (isFree (now (a .dir))) (a .first + a .count) (w .loop .i) (c .loop-test .left))))

@@ -5,8 +5,8 @@ use mathlib.Core.Path.{ap}
 use Rattle.order.proofs.flags.one_type.Statement.{statement}
 use Rattle.order.proofs.flags.one_type.Tie as tie
 
-returns : tie.Need-returns
-returns c = ap (λ (n : ℕ). eqb n 1) (type-ones (c .args .flags))
-
 pub one-type-spec : {M : Type 1} → statement M
-one-type-spec = tie.close (tie.spec returns)
+one-type-spec =
+    tie.close
+    (tie.spec
+    (λ c. ap (λ (n : ℕ). eqb n 1) (type-ones (c .args .flags))))  -- returns

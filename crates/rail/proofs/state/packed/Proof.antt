@@ -3,30 +3,22 @@ use Rattle.rail.specs.States.{packedOf}
 use borrow.Author.Needs.{needs}
 use Rattle.rail.proofs.state.packed.Statement.{statement}
 use Rattle.rail.proofs.state.packed.Tie as tie
-use Rattle.rail.proofs.state.packed.Reads as reads
-use Rattle.rail.proofs.state.packed.Lts as lts
 
--- src/state.rt:16:6
 cast-result : tie.Need-cast-result
 cast-result c = search needs
 
--- src/state.rt:16:25
 mul-result : tie.Need-mul-result
 mul-result c = search needs
 
--- src/state.rt:16:5
 add-result : tie.Need-add-result
 add-result c = search needs
 
--- src/state.rt:16:49
 mul-result-2 : tie.Need-mul-result-2
 mul-result-2 c = search needs
 
--- src/state.rt:16:5
 add-result-2 : tie.Need-add-result-2
 add-result-2 c = search needs
 
--- src/state.rt:13:1
 returns : tie.Need-returns
 unfolding packedOf
 returns c = refl

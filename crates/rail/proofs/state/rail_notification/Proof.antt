@@ -3,24 +3,16 @@ use Rattle.rail.proofs.States.{looked}
 use borrow.Author.Needs.{needs}
 use Rattle.rail.proofs.state.rail_notification.Statement.{statement}
 use Rattle.rail.proofs.state.rail_notification.Tie as tie
-use Rattle.rail.proofs.state.rail_notification.Reads as reads
-use Rattle.rail.proofs.state.rail_notification.Lts as lts
-use Rattle.rail.proofs.state.packed.Reads as packed-reads
-use Rattle.session.proofs.handouts.notification.Reads as notification-reads
 
--- src/state.rt:121:9
 notification-requires : tie.Need-notification-requires
 notification-requires c κs = search needs
 
--- src/state.rt:122:5
 packed-requires : tie.Need-packed-requires
 packed-requires c κs = search needs
 
--- src/state.rt:107:1
 same-length : tie.Need-same-length
 same-length c = search needs
 
--- src/state.rt:107:1
 returns : tie.Need-returns
 returns c = looked (notification (c .before .before .before .before .before .before .before .before .before .before .args .id) (c .before .before .before .before .before .before .before .before .before .before .args .icon)) (c .before .before .before .notification .ensures) (c .packed .ensures)
 

@@ -29,108 +29,51 @@ begun v = start (v .before .before .before .before)
 long : (v : tie.After-establish) → tooShort (mem (begun v)) ≡ false
 long v = enough (v .before .before .before .before) (v .before .before .before .if1 .left)
 
-too-short-requires : tie.Need-too-short-requires
-too-short-requires c κs = search needs
-
-refused-requires : tie.Need-refused-requires
-refused-requires c κs = search needs
-
-same-length : tie.Need-same-length
-same-length c = search needs
-
-returns : tie.Need-returns
-returns c =
-    let v = c .before .before in
-    stays-short (undo (start v .args .k)) (mem (start v)) (enough v (c .before .if1 .taken)) (ap plain (c .refused .ensures))
-
-slice-aggregate-establish : tie.Need-slice-aggregate-establish
-slice-aggregate-establish c = search needs
-
-establish-requires : tie.Need-establish-requires
-establish-requires c κs = (enough (c .before .before .before) (c .before .before .if1 .left), refl)
-
-refused-requires-2 : tie.Need-refused-requires-2
-refused-requires-2 c κs = search needs
-
-same-length-2 : tie.Need-same-length-2
-same-length-2 c = search needs
-
-returns-2 : tie.Need-returns-2
-returns-2 c =
-    let v = c .before .before .before .before in
-    stays-unformed (undo (begun v .args .k)) (mem (begun v)) refl (long v) (v .establish .ensures .unformed (c .before .if2 .taken)) (ap plain (c .refused2 .ensures))
-
-refused-requires-3 : tie.Need-refused-requires-3
-refused-requires-3 c κs = search needs
-
-same-length-3 : tie.Need-same-length-3
-same-length-3 c = search needs
-
-returns-3 : tie.Need-returns-3
-returns-3 c =
-    let v = c .before .before .before .before .before in
-    let s = v .establish .ensures .formed (c .before .before .if2 .left) in
-    undo-over (mem (begun v)) (long v) (v .establish .result) _ s (begun v .args .k) (c .before .if3 .taken) (c .refused3 .ensures)
-
-sub-count : tie.Need-sub-count
-sub-count c = search needs
-
-end-of-requires : tie.Need-end-of-requires
-end-of-requires c κs =
-    let v = c .before .before .before .before .before .before in
-    let s = v .establish .ensures .formed (c .before .before .before .if2 .left) in
-    first-orders (mem (begun v)) (long v) (v .establish .result) _ s (v .establish .result .count - begun v .args .k) (omega arith)
-
-cast-write-u16 : tie.Need-cast-write-u16
-cast-write-u16 c =
-    let v = c .before .before .before .before .before .before .before .before in
-    let s = v .establish .ensures .formed (c .before .before .before .before .before .if2 .left) in
-    omega (arith, s .few)
-
-write-u16-requires : tie.Need-write-u16-requires
-write-u16-requires c κs =
-    let v = c .before .before .before .before .before .before .before .before in
-    omega (arith, long-has (mem (begun v)) (long v) .journal)
-
-granted-requires : tie.Need-granted-requires
-granted-requires c κs =
-    let v = c .before .before .before .before .before .before .before .before .before .before .before in
-    let s = v .establish .ensures .formed (c .before .before .before .before .before .before .before .before .if2 .left) in
-    let e = c .before .before .before .before .end-of .ensures in
-    let p = end-past (v .establish .result .count - begun v .args .k) 2 (now (begun v .args .journal)) in
-    (omega (arith, s .few), omega (arith, p, e .0), e .1)
-
-same-length-4 : tie.Need-same-length-4
-same-length-4 c = search needs
-
-returns-4 : tie.Need-returns-4
-returns-4 c =
-    let v = c .before .before .before .before .before .before .before .before .before .before .before .before in
-    let s = v .establish .ensures .formed (c .before .before .before .before .before .before .before .before .before .if2 .left) in
-    undo-granted (mem (begun v)) (long v) (v .establish .result) _ s (begun v .args .k)
-    (c .before .before .before .before .before .before .before .before .if3 .left) (c .before .before .before .write-u16 .ensures)
-    (c .before .before .before .before .before .end-of .result) (c .before .before .before .before .before .end-of .ensures .0) (c .granted .ensures)
-
 pub undo-spec : {M : Type 1} → statement M
 undo-spec =
     tie.close
     (tie.spec
-    too-short-requires
-    refused-requires
-    same-length
-    returns
-    slice-aggregate-establish
-    establish-requires
-    refused-requires-2
-    same-length-2
-    returns-2
-    refused-requires-3
-    same-length-3
-    returns-3
-    sub-count
-    end-of-requires
-    cast-write-u16
-    write-u16-requires
-    granted-requires
-    same-length-4
-    returns-4)
+    (λ c κs. search needs)
+    (λ c κs. search needs)
+    (λ c. search needs)
+    (λ c.  -- returns
+    let v = c .before .before in
+    stays-short (undo (start v .args .k)) (mem (start v)) (enough v (c .before .if1 .taken)) (ap plain (c .refused .ensures)))
+    (λ c. search needs)
+    (λ c κs. (enough (c .before .before .before) (c .before .before .if1 .left), refl))  -- establish-requires
+    (λ c κs. search needs)
+    (λ c. search needs)
+    (λ c.  -- returns-2
+    let v = c .before .before .before .before in
+    stays-unformed (undo (begun v .args .k)) (mem (begun v)) refl (long v) (v .establish .ensures .unformed (c .before .if2 .taken)) (ap plain (c .refused2 .ensures)))
+    (λ c κs. search needs)
+    (λ c. search needs)
+    (λ c.  -- returns-3
+    let v = c .before .before .before .before .before in
+    let s = v .establish .ensures .formed (c .before .before .if2 .left) in
+    undo-over (mem (begun v)) (long v) (v .establish .result) _ s (begun v .args .k) (c .before .if3 .taken) (c .refused3 .ensures))
+    (λ c. search needs)
+    (λ c κs.  -- end-of-requires
+    let v = c .before .before .before .before .before .before in
+    let s = v .establish .ensures .formed (c .before .before .before .if2 .left) in
+    first-orders (mem (begun v)) (long v) (v .establish .result) _ s (v .establish .result .count - begun v .args .k) (omega arith))
+    (λ c.  -- cast-write-u16
+    let v = c .before .before .before .before .before .before .before .before in
+    let s = v .establish .ensures .formed (c .before .before .before .before .before .if2 .left) in
+    omega (arith, s .few))
+    (λ c κs.  -- write-u16-requires
+    let v = c .before .before .before .before .before .before .before .before in
+    omega (arith, long-has (mem (begun v)) (long v) .journal))
+    (λ c κs.  -- granted-requires
+    let v = c .before .before .before .before .before .before .before .before .before .before .before in
+    let s = v .establish .ensures .formed (c .before .before .before .before .before .before .before .before .if2 .left) in
+    let e = c .before .before .before .before .end-of .ensures in
+    let p = end-past (v .establish .result .count - begun v .args .k) 2 (now (begun v .args .journal)) in
+    (omega (arith, s .few), omega (arith, p, e .0), e .1))
+    (λ c. search needs)
+    (λ c.  -- returns-4
+    let v = c .before .before .before .before .before .before .before .before .before .before .before .before in
+    let s = v .establish .ensures .formed (c .before .before .before .before .before .before .before .before .before .if2 .left) in
+    undo-granted (mem (begun v)) (long v) (v .establish .result) _ s (begun v .args .k)
+    (c .before .before .before .before .before .before .before .before .if3 .left) (c .before .before .before .write-u16 .ensures)
+    (c .before .before .before .before .before .end-of .result) (c .before .before .before .before .before .end-of .ensures .0) (c .granted .ensures)))

@@ -13,78 +13,42 @@ mem u = memory (now (u .args .dir)) (now (u .args .bodies)) (now (u .args .cells
 abbrev start : tie.After-seek → tie.Start
 start v = v .before .before .before .before .before .before .before .before
 
-cell-wanted-requires : tie.Need-cell-wanted-requires
-cell-wanted-requires c κs = search needs
-
-slice-aggregate-seek : tie.Need-slice-aggregate-seek
-slice-aggregate-seek c = search needs
-
-seek-requires : tie.Need-seek-requires
-seek-requires c κs = refl
-
-refused-requires : tie.Need-refused-requires
-refused-requires c κs = search needs
-
-returns : tie.Need-returns
-returns c =
+pub cell-spec : {M : Type 1} → statement M
+cell-spec =
+    tie.close
+    (tie.spec
+    (λ c κs. search needs)
+    (λ c. search needs)
+    (λ c κs. refl)  -- seek-requires
+    (λ c κs. search needs)
+    (λ c.  -- returns
     let v = c .before .before .before .before in
     hand-refused (a-cell (start v .args .cache) (start v .args .entry)) (mem (start v)) (v .seek .result) _
     (cell-sought (mem (start v)) (v .before .before .cell-wanted .ensures) (v .seek .ensures)) (now (start v .args .out)) (c .before .if1 .taken)
-    (c .refused .ensures)
-
-refused-requires-2 : tie.Need-refused-requires-2
-refused-requires-2 c κs = search needs
-
-returns-2 : tie.Need-returns-2
-returns-2 c =
+    (c .refused .ensures))
+    (λ c κs. search needs)
+    (λ c.  -- returns-2
     let v = c .before .before .before .before .before in
     hand-small (a-cell (start v .args .cache) (start v .args .entry)) (mem (start v)) (v .seek .result) _
     (cell-sought (mem (start v)) (v .before .before .cell-wanted .ensures) (v .seek .ensures)) (now (start v .args .out))
-    (c .before .before .if1 .left) (c .before .if2 .taken) (c .refused2 .ensures)
-
-slice-aggregate-picture : tie.Need-slice-aggregate-picture
-slice-aggregate-picture c = search needs
-
-picture-requires : tie.Need-picture-requires
-picture-requires c κs =
+    (c .before .before .if1 .left) (c .before .if2 .taken) (c .refused2 .ensures))
+    (λ c. search needs)
+    (λ c κs.  -- picture-requires
     let v = c .before .before .before .before .before .before in (
       search needs,
       search needs,
       in-sets (a-cell (start v .args .cache) (start v .args .entry)) (mem (start v)) (v .seek .result) _
           (cell-sought (mem (start v)) (v .before .before .cell-wanted .ensures) (v .seek .ensures)) (c .before .before .before .if1 .left),
-    )
-
-granted-requires : tie.Need-granted-requires
-granted-requires c κs =
+    ))
+    (λ c κs.  -- granted-requires
     let v = c .before .before .before .before .before .before .before .before .before in
     grant-asks (a-cell (start v .args .cache) (start v .args .entry)) (mem (start v)) (v .seek .result) _
     (cell-sought (mem (start v)) (v .before .before .cell-wanted .ensures) (v .seek .ensures))
-    (c .before .before .before .before .before .before .if1 .left)
-
-same-length : tie.Need-same-length
-same-length c = search needs
-
-returns-3 : tie.Need-returns-3
-returns-3 c =
+    (c .before .before .before .before .before .before .if1 .left))
+    (λ c. search needs)
+    (λ c.  -- returns-3
     let v = c .before .before .before .before .before .before .before .before .before .before in
     cell-given (mem (start v)) (v .seek .result) _ (now (start v .args .out)) (c .before .before .before .before .before .before .before .if1 .left)
     (c .granted .ensures) (start v .args .cache) (start v .args .entry)
     (cell-sought (mem (start v)) (v .before .before .cell-wanted .ensures) (v .seek .ensures))
-    (c .before .before .before .before .before .before .if2 .left) (c .before .before .before .picture .ensures)
-
-pub cell-spec : {M : Type 1} → statement M
-cell-spec =
-    tie.close
-    (tie.spec
-    cell-wanted-requires
-    slice-aggregate-seek
-    seek-requires
-    refused-requires
-    returns
-    refused-requires-2
-    returns-2
-    slice-aggregate-picture
-    picture-requires
-    granted-requires
-    same-length
-    returns-3)
+    (c .before .before .before .before .before .before .if2 .left) (c .before .before .before .picture .ensures)))

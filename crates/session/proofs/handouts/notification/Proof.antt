@@ -13,67 +13,34 @@ mem u = memory (now (u .args .dir)) (now (u .args .bodies)) (now (u .args .cells
 abbrev start : tie.After-seek → tie.Start
 start v = v .before .before .before .before .before .before .before
 
-slice-aggregate-seek : tie.Need-slice-aggregate-seek
-slice-aggregate-seek c = search needs
-
-seek-requires : tie.Need-seek-requires
-seek-requires c κs = refl
-
-refused-requires : tie.Need-refused-requires
-refused-requires c κs = search needs
-
-returns : tie.Need-returns
-returns c =
-    let v = c .before .before .before .before in
-    hand-refused (an-icon (start v .args .id .id) (start v .args .icon .id)) (mem (start v)) (v .seek .result) _ (v .seek .ensures)
-    (now (start v .args .out)) (c .before .if1 .taken) (c .refused .ensures)
-
-refused-requires-2 : tie.Need-refused-requires-2
-refused-requires-2 c κs = search needs
-
-returns-2 : tie.Need-returns-2
-returns-2 c =
-    let v = c .before .before .before .before .before in
-    hand-small (an-icon (start v .args .id .id) (start v .args .icon .id)) (mem (start v)) (v .seek .result) _ (v .seek .ensures)
-    (now (start v .args .out)) (c .before .before .if1 .left) (c .before .if2 .taken) (c .refused2 .ensures)
-
-slice-aggregate-record : tie.Need-slice-aggregate-record
-slice-aggregate-record c = search needs
-
-record-requires : tie.Need-record-requires
-record-requires c κs =
-    let v = c .before .before .before .before .before .before in
-    notification-asks (mem (start v)) (v .seek .result) (c .before .before .before .if1 .left) (now (start v .args .out)) (start v .args .id .id)
-    (start v .args .icon .id) (v .seek .ensures) (c .before .before .if2 .left) (search needs)
-
-granted-requires : tie.Need-granted-requires
-granted-requires c κs =
-    let v = c .before .before .before .before .before .before .before .before .before in
-    grant-asks (an-icon (start v .args .id .id) (start v .args .icon .id)) (mem (start v)) (v .seek .result) _ (v .seek .ensures)
-    (c .before .before .before .before .before .before .if1 .left)
-
-same-length : tie.Need-same-length
-same-length c = search needs
-
-returns-3 : tie.Need-returns-3
-returns-3 c =
-    let v = c .before .before .before .before .before .before .before .before .before .before in
-    notification-given (mem (start v)) (v .seek .result) _ (now (start v .args .out))
-    (c .before .before .before .before .before .before .before .if1 .left) (c .granted .ensures) (start v .args .id .id) (start v .args .icon .id)
-    (v .seek .ensures) (c .before .before .before .before .before .before .if2 .left) (c .before .before .before .«record» .ensures)
-
 pub notification-spec : {M : Type 1} → statement M
 notification-spec =
     tie.close
     (tie.spec
-    slice-aggregate-seek
-    seek-requires
-    refused-requires
-    returns
-    refused-requires-2
-    returns-2
-    slice-aggregate-record
-    record-requires
-    granted-requires
-    same-length
-    returns-3)
+    (λ c. search needs)
+    (λ c κs. refl)  -- seek-requires
+    (λ c κs. search needs)
+    (λ c.  -- returns
+    let v = c .before .before .before .before in
+    hand-refused (an-icon (start v .args .id .id) (start v .args .icon .id)) (mem (start v)) (v .seek .result) _ (v .seek .ensures)
+    (now (start v .args .out)) (c .before .if1 .taken) (c .refused .ensures))
+    (λ c κs. search needs)
+    (λ c.  -- returns-2
+    let v = c .before .before .before .before .before in
+    hand-small (an-icon (start v .args .id .id) (start v .args .icon .id)) (mem (start v)) (v .seek .result) _ (v .seek .ensures)
+    (now (start v .args .out)) (c .before .before .if1 .left) (c .before .if2 .taken) (c .refused2 .ensures))
+    (λ c. search needs)
+    (λ c κs.  -- record-requires
+    let v = c .before .before .before .before .before .before in
+    notification-asks (mem (start v)) (v .seek .result) (c .before .before .before .if1 .left) (now (start v .args .out)) (start v .args .id .id)
+    (start v .args .icon .id) (v .seek .ensures) (c .before .before .if2 .left) (search needs))
+    (λ c κs.  -- granted-requires
+    let v = c .before .before .before .before .before .before .before .before .before in
+    grant-asks (an-icon (start v .args .id .id) (start v .args .icon .id)) (mem (start v)) (v .seek .result) _ (v .seek .ensures)
+    (c .before .before .before .before .before .before .if1 .left))
+    (λ c. search needs)
+    (λ c.  -- returns-3
+    let v = c .before .before .before .before .before .before .before .before .before .before in
+    notification-given (mem (start v)) (v .seek .result) _ (now (start v .args .out))
+    (c .before .before .before .before .before .before .before .if1 .left) (c .granted .ensures) (start v .args .id .id) (start v .args .icon .id)
+    (v .seek .ensures) (c .before .before .before .before .before .before .if2 .left) (c .before .before .before .«record» .ensures)))

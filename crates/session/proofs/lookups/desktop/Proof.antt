@@ -13,48 +13,24 @@ mem u = memory (now (u .args .dir)) (now (u .args .bodies)) (now (u .args .cells
 abbrev start : tie.After-seek → tie.Start
 start v = v .before .before .before .before .before .before
 
-slice-aggregate-seek : tie.Need-slice-aggregate-seek
-slice-aggregate-seek c = search needs
-
-seek-requires : tie.Need-seek-requires
-seek-requires c κs = refl
-
-no-desktop-requires : tie.Need-no-desktop-requires
-no-desktop-requires c κs = search needs
-
-returns : tie.Need-returns
-returns c =
-    let v = c .before .before .before .before in
-    look-refused the-desktop (mem (start v)) (v .seek .result) _ (v .seek .ensures) (c .before .if1 .taken) (ap aDesktop (c .no-desktop .ensures))
-
-granted-requires : tie.Need-granted-requires
-granted-requires c κs =
-    let v = c .before .before .before in
-    grant-asks the-desktop (mem (start v)) (v .seek .result) _ (v .seek .ensures) (c .if1 .left)
-
-slice-aggregate-desktop-in : tie.Need-slice-aggregate-desktop-in
-slice-aggregate-desktop-in c = search needs
-
-desktop-in-requires : tie.Need-desktop-in-requires
-desktop-in-requires c κs =
-    let v = c .before .before .before .before .before in
-    (search needs, in-sets the-desktop (mem (start v)) (v .seek .result) _ (v .seek .ensures) (c .before .before .if1 .left))
-
-returns-2 : tie.Need-returns-2
-returns-2 c =
-    let v = c .before .before .before .before .before .before in
-    desktop-found (mem (start v)) (v .seek .result) _ (c .before .before .granted .ensures) (c .before .before .before .if1 .left) (v .seek .ensures)
-    (c .desktop-in .ensures)
-
 pub desktop-spec : {M : Type 1} → statement M
 desktop-spec =
     tie.close
     (tie.spec
-    slice-aggregate-seek
-    seek-requires
-    no-desktop-requires
-    returns
-    granted-requires
-    slice-aggregate-desktop-in
-    desktop-in-requires
-    returns-2)
+    (λ c. search needs)
+    (λ c κs. refl)  -- seek-requires
+    (λ c κs. search needs)
+    (λ c.  -- returns
+    let v = c .before .before .before .before in
+    look-refused the-desktop (mem (start v)) (v .seek .result) _ (v .seek .ensures) (c .before .if1 .taken) (ap aDesktop (c .no-desktop .ensures)))
+    (λ c κs.  -- granted-requires
+    let v = c .before .before .before in
+    grant-asks the-desktop (mem (start v)) (v .seek .result) _ (v .seek .ensures) (c .if1 .left))
+    (λ c. search needs)
+    (λ c κs.  -- desktop-in-requires
+    let v = c .before .before .before .before .before in
+    (search needs, in-sets the-desktop (mem (start v)) (v .seek .result) _ (v .seek .ensures) (c .before .before .if1 .left)))
+    (λ c.  -- returns-2
+    let v = c .before .before .before .before .before .before in
+    desktop-found (mem (start v)) (v .seek .result) _ (c .before .before .granted .ensures) (c .before .before .before .if1 .left) (v .seek .ensures)
+    (c .desktop-in .ensures)))

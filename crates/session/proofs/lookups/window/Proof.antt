@@ -13,49 +13,25 @@ mem u = memory (now (u .args .dir)) (now (u .args .bodies)) (now (u .args .cells
 abbrev start : tie.After-seek → tie.Start
 start v = v .before .before .before .before .before .before
 
-slice-aggregate-seek : tie.Need-slice-aggregate-seek
-slice-aggregate-seek c = search needs
-
-seek-requires : tie.Need-seek-requires
-seek-requires c κs = refl
-
-no-window-requires : tie.Need-no-window-requires
-no-window-requires c κs = search needs
-
-returns : tie.Need-returns
-returns c =
-    let v = c .before .before .before .before in
-    look-refused (a-window (start v .args .id .id)) (mem (start v)) (v .seek .result) _ (v .seek .ensures) (c .before .if1 .taken)
-    (ap aWindow (c .no-window .ensures))
-
-granted-requires : tie.Need-granted-requires
-granted-requires c κs =
-    let v = c .before .before .before in
-    grant-asks (a-window (start v .args .id .id)) (mem (start v)) (v .seek .result) _ (v .seek .ensures) (c .if1 .left)
-
-slice-aggregate-window-in : tie.Need-slice-aggregate-window-in
-slice-aggregate-window-in c = search needs
-
-window-in-requires : tie.Need-window-in-requires
-window-in-requires c κs =
-    let v = c .before .before .before .before .before in
-    (search needs, in-sets (a-window (start v .args .id .id)) (mem (start v)) (v .seek .result) _ (v .seek .ensures) (c .before .before .if1 .left))
-
-returns-2 : tie.Need-returns-2
-returns-2 c =
-    let v = c .before .before .before .before .before .before in
-    window-found (mem (start v)) (v .seek .result) _ (c .before .before .granted .ensures) (c .before .before .before .if1 .left)
-    (start v .args .id .id) (v .seek .ensures) (c .window-in .ensures)
-
 pub window-spec : {M : Type 1} → statement M
 window-spec =
     tie.close
     (tie.spec
-    slice-aggregate-seek
-    seek-requires
-    no-window-requires
-    returns
-    granted-requires
-    slice-aggregate-window-in
-    window-in-requires
-    returns-2)
+    (λ c. search needs)
+    (λ c κs. refl)  -- seek-requires
+    (λ c κs. search needs)
+    (λ c.  -- returns
+    let v = c .before .before .before .before in
+    look-refused (a-window (start v .args .id .id)) (mem (start v)) (v .seek .result) _ (v .seek .ensures) (c .before .if1 .taken)
+    (ap aWindow (c .no-window .ensures)))
+    (λ c κs.  -- granted-requires
+    let v = c .before .before .before in
+    grant-asks (a-window (start v .args .id .id)) (mem (start v)) (v .seek .result) _ (v .seek .ensures) (c .if1 .left))
+    (λ c. search needs)
+    (λ c κs.  -- window-in-requires
+    let v = c .before .before .before .before .before in
+    (search needs, in-sets (a-window (start v .args .id .id)) (mem (start v)) (v .seek .result) _ (v .seek .ensures) (c .before .before .if1 .left)))
+    (λ c.  -- returns-2
+    let v = c .before .before .before .before .before .before in
+    window-found (mem (start v)) (v .seek .result) _ (c .before .before .granted .ensures) (c .before .before .before .if1 .left)
+    (start v .args .id .id) (v .seek .ensures) (c .window-in .ensures)))

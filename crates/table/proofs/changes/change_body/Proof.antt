@@ -9,52 +9,25 @@ use borrow.Author.Needs.{needs}
 use Rattle.table.proofs.changes.change_body.Statement.{statement}
 use Rattle.table.proofs.changes.change_body.Tie as tie
 
-returns : tie.Need-returns
-returns c =
+pub change-body-spec : {M : Type 1} → statement M
+change-body-spec =
+    tie.close
+    (tie.spec
+    (λ c.  -- returns
     let a = c .before .before .before .before .args in
-    body-kept (rowsFrom (a .low) (a .high)) (a .at) (a .mark) (now (a .s)) (a .c) (now (a .bodies)) (c .if1 .taken)
-
-mul-base : tie.Need-mul-base
-mul-base c = search needs
-
-add-end : tie.Need-add-end
-add-end c = search needs
-
-sub-change-slot : tie.Need-sub-change-slot
-sub-change-slot c = search needs
-
-part-change-slot-start : tie.Need-part-change-slot-start
-part-change-slot-start c = search needs
-
-part-change-slot-end : tie.Need-part-change-slot-end
-part-change-slot-end c = search needs
-
-change-slot-requires : tie.Need-change-slot-requires
-change-slot-requires c κs = search needs
-
-same-length : tie.Need-same-length
-same-length c = search needs
-
-returns-2 : tie.Need-returns-2
-returns-2 c =
+    body-kept (rowsFrom (a .low) (a .high)) (a .at) (a .mark) (now (a .s)) (a .c) (now (a .bodies)) (c .if1 .taken))
+    (λ c. search needs)
+    (λ c. search needs)
+    (λ c. search needs)
+    (λ c. search needs)
+    (λ c. search needs)
+    (λ c κs. search needs)
+    (λ c. search needs)
+    (λ c.  -- returns-2
     let b = c .before .before .before .before .before .before .before .before .before in
     let a = b .args in
     let rows = rowsFrom (a .low) (a .high) in
     let base = 916 * a .c .slot in
     let f = c .before .before .change-slot in
     body-changed rows (a .at) (a .mark) (now (a .s)) (a .c) (now (a .bodies)) (c .before .before .before .before .before .if1 .left)
-    (slot-back (now (a .bodies)) (a .c .slot) base (base + 916 - base) (slotAfter rows (a .at) (a .mark) (now (a .s)) (a .c)) (omega (arith, b .pre .0 .0, b .pre .1 .slot)) refl (omega arith) (f .kept .0) (f .ensures))
-
-pub change-body-spec : {M : Type 1} → statement M
-change-body-spec =
-    tie.close
-    (tie.spec
-    returns
-    mul-base
-    add-end
-    sub-change-slot
-    part-change-slot-start
-    part-change-slot-end
-    change-slot-requires
-    same-length
-    returns-2)
+    (slot-back (now (a .bodies)) (a .c .slot) base (base + 916 - base) (slotAfter rows (a .at) (a .mark) (now (a .s)) (a .c)) (omega (arith, b .pre .0 .0, b .pre .1 .slot)) refl (omega arith) (f .kept .0) (f .ensures))))

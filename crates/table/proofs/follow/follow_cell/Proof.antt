@@ -8,18 +8,12 @@ use borrow.Author.Needs.{needs}
 use Rattle.table.proofs.follow.follow_cell.Statement.{statement}
 use Rattle.table.proofs.follow.follow_cell.Tie as tie
 
-enum-known-p : tie.Need-enum-known-p
-enum-known-p c = search needs
-
 put-icon-requires : tie.Need-put-icon-requires
 unfolding Follows
 put-icon-requires c κs =
     let b = c .before .before .before .before .before .before in
     let w : Able windowFields 11 (now (b .args .s)) (c .before .before .p .given .0 .0) = subst (Follows (now (b .args .s))) (c .before .before .p .given .1) (b .pre .1) in
     (b .pre .0, w .icon)
-
-enum-known-p-2 : tie.Need-enum-known-p-2
-enum-known-p-2 c = search needs
 
 put-icon-requires-2 : tie.Need-put-icon-requires-2
 unfolding Follows
@@ -28,23 +22,11 @@ put-icon-requires-2 c κs =
     let w : Able notificationFields 15 (now (b .args .s)) (c .before .before .p2 .given .0 .0) = subst (Follows (now (b .args .s))) (c .before .before .p2 .given .1) (b .pre .1) in
     (b .pre .0, w .icon)
 
-enum-told : tie.Need-enum-told
-enum-told c = search needs
-
-enum-told-2 : tie.Need-enum-told-2
-enum-told-2 c = search needs
-
-same-length : tie.Need-same-length
-same-length c = search needs
-
 returns : tie.Need-returns
 unfolding followedCell
 returns c =
     let a = c .before .before .before .before .before .before .before .before .before .args in
     c .before .before .put-icon .ensures ∙ ap (λ (p : Plan). followedCell (a .k) (now (a .s)) p (now (a .m))) (sym (c .before .before .before .before .before .p .given .1))
-
-same-length-2 : tie.Need-same-length-2
-same-length-2 c = search needs
 
 returns-2 : tie.Need-returns-2
 unfolding followedCell
@@ -68,15 +50,15 @@ pub follow-cell-spec : {M : Type 1} → statement M
 follow-cell-spec =
     tie.close
     (tie.spec
-    enum-known-p
+    (λ c. search needs)
     put-icon-requires
-    enum-known-p-2
+    (λ c. search needs)
     put-icon-requires-2
-    enum-told
-    enum-told-2
-    same-length
+    (λ c. search needs)
+    (λ c. search needs)
+    (λ c. search needs)
     returns
-    same-length-2
+    (λ c. search needs)
     returns-2
     returns-3
     returns-4)

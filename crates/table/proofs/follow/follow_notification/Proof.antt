@@ -10,29 +10,6 @@ use borrow.Author.Needs.{needs}
 use Rattle.table.proofs.follow.follow_notification.Statement.{statement}
 use Rattle.table.proofs.follow.follow_notification.Tie as tie
 
-enum-known-p : tie.Need-enum-known-p
-enum-known-p c = search needs
-
-returns : tie.Need-returns
-returns c =
-    let a = c .before .before .before .args in
-    no-notification (a .a) (a .b) (now (a .s)) (a .p) (now (a .m)) (c .match .keys2)
-
-returns-2 : tie.Need-returns-2
-returns-2 c =
-    let a = c .before .before .before .before .before .before .before .args in
-    notification-other (now (a .s)) (now (a .m)) (c .before .before .before .p .given .0 .0) (a .a) (a .b) (c .before .before .before .p .given .1) (c .if1 .taken)
-
-returns-3 : tie.Need-returns-3
-returns-3 c =
-    let a = c .before .before .before .before .before .before .before .before .before .args in
-    notification-second (now (a .s)) (now (a .m)) (c .before .before .before .before .before .p .given .0 .0) (a .a) (a .b) (c .before .before .before .before .before .p .given .1) (c .before .before .if1 .left) (c .if2 .taken)
-
-returns-4 : tie.Need-returns-4
-returns-4 c =
-    let a = c .before .before .before .before .before .before .before .before .before .before .before .args in
-    notification-deleted (now (a .s)) (now (a .m)) (c .before .before .before .before .before .before .before .p .given .0 .0) (a .a) (a .b) (c .before .before .before .before .before .before .before .p .given .1) (c .if3 .taken)
-
 change-slot-requires : tie.Need-change-slot-requires
 unfolding Follows
 change-slot-requires c κs =
@@ -40,23 +17,25 @@ change-slot-requires c κs =
     let w : Able notificationFields 15 (now (b .args .s)) (c .before .before .before .before .before .before .before .before .p .given .0 .0) = subst (Follows (now (b .args .s))) (c .before .before .before .before .before .before .before .before .p .given .1) (b .pre .1) in
     ((b .pre .0, omega arith, omega arith, omega arith, notification-fits), w)
 
-same-length : tie.Need-same-length
-same-length c = search needs
-
-returns-5 : tie.Need-returns-5
-returns-5 c =
-    let a = c .before .before .before .before .before .before .before .before .before .before .before .before .before .before .before .args in
-    notification-followed (now (a .s)) (now (a .m)) (c .before .before .before .before .before .before .before .before .before .before .before .p .given .0 .0) (a .a) (a .b) (c .before .before .before .before .before .before .before .before .before .before .before .p .given .1) (c .before .before .before .before .before .before .before .before .if1 .left) (c .before .before .before .before .before .before .if2 .left) (c .before .before .before .before .if3 .left) (c .before .before .change-slot .ensures)
-
 pub follow-notification-spec : {M : Type 1} → statement M
 follow-notification-spec =
     tie.close
     (tie.spec
-    enum-known-p
-    returns
-    returns-2
-    returns-3
-    returns-4
+    (λ c. search needs)
+    (λ c.  -- returns
+    let a = c .before .before .before .args in
+    no-notification (a .a) (a .b) (now (a .s)) (a .p) (now (a .m)) (c .match .keys2))
+    (λ c.  -- returns-2
+    let a = c .before .before .before .before .before .before .before .args in
+    notification-other (now (a .s)) (now (a .m)) (c .before .before .before .p .given .0 .0) (a .a) (a .b) (c .before .before .before .p .given .1) (c .if1 .taken))
+    (λ c.  -- returns-3
+    let a = c .before .before .before .before .before .before .before .before .before .args in
+    notification-second (now (a .s)) (now (a .m)) (c .before .before .before .before .before .p .given .0 .0) (a .a) (a .b) (c .before .before .before .before .before .p .given .1) (c .before .before .if1 .left) (c .if2 .taken))
+    (λ c.  -- returns-4
+    let a = c .before .before .before .before .before .before .before .before .before .before .before .args in
+    notification-deleted (now (a .s)) (now (a .m)) (c .before .before .before .before .before .before .before .p .given .0 .0) (a .a) (a .b) (c .before .before .before .before .before .before .before .p .given .1) (c .if3 .taken))
     change-slot-requires
-    same-length
-    returns-5)
+    (λ c. search needs)
+    (λ c.  -- returns-5
+    let a = c .before .before .before .before .before .before .before .before .before .before .before .before .before .before .before .args in
+    notification-followed (now (a .s)) (now (a .m)) (c .before .before .before .before .before .before .before .before .before .before .before .p .given .0 .0) (a .a) (a .b) (c .before .before .before .before .before .before .before .before .before .before .before .p .given .1) (c .before .before .before .before .before .before .before .before .if1 .left) (c .before .before .before .before .before .before .if2 .left) (c .before .before .before .before .if3 .left) (c .before .before .change-slot .ensures)))

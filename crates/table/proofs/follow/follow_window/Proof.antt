@@ -10,27 +10,6 @@ use borrow.Author.Needs.{needs}
 use Rattle.table.proofs.follow.follow_window.Statement.{statement}
 use Rattle.table.proofs.follow.follow_window.Tie as tie
 
-enum-known-p : tie.Need-enum-known-p
-enum-known-p c = search needs
-
-returns : tie.Need-returns
-returns c =
-    let a = c .before .before .before .args in
-    no-window (a .a) (now (a .s)) (a .p) (now (a .m)) (c .match .keys2)
-
-returns-2 : tie.Need-returns-2
-returns-2 c =
-    let a = c .before .before .before .before .before .before .before .args in
-    window-other (now (a .s)) (now (a .m)) (c .before .before .before .p .given .0 .0) (a .a) (c .before .before .before .p .given .1) (c .if1 .taken)
-
-returns-3 : tie.Need-returns-3
-returns-3 c =
-    let a = c .before .before .before .before .before .before .before .before .before .args in
-    window-deleted (now (a .s)) (now (a .m)) (c .before .before .before .before .before .p .given .0 .0) (a .a) (c .before .before .before .before .before .p .given .1) (c .if2 .taken)
-
-window-mark-requires : tie.Need-window-mark-requires
-window-mark-requires c κs = search needs
-
 change-slot-requires : tie.Need-change-slot-requires
 unfolding Follows
 change-slot-requires c κs =
@@ -38,23 +17,23 @@ change-slot-requires c κs =
     let w : Able windowFields 11 (now (b .args .s)) (c .before .before .before .before .before .before .before .p .given .0 .0) = subst (Follows (now (b .args .s))) (c .before .before .before .before .before .before .before .p .given .1) (b .pre .1) in
     ((b .pre .0, c .before .window-mark .ensures .1, omega arith, omega arith, window-fits), w)
 
-same-length : tie.Need-same-length
-same-length c = search needs
-
-returns-4 : tie.Need-returns-4
-returns-4 c =
-    let a = c .before .before .before .before .before .before .before .before .before .before .before .before .before .before .args in
-    window-followed (now (a .s)) (now (a .m)) (c .before .before .before .before .before .before .before .before .before .before .p .given .0 .0) (a .a) (c .before .before .before .before .before .before .before .before .before .before .p .given .1) (c .before .before .before .before .before .before .before .if1 .left) (c .before .before .before .before .before .if2 .left) (c .before .before .before .before .window-mark .ensures .0) (c .before .before .change-slot .ensures)
-
 pub follow-window-spec : {M : Type 1} → statement M
 follow-window-spec =
     tie.close
     (tie.spec
-    enum-known-p
-    returns
-    returns-2
-    returns-3
-    window-mark-requires
+    (λ c. search needs)
+    (λ c.  -- returns
+    let a = c .before .before .before .args in
+    no-window (a .a) (now (a .s)) (a .p) (now (a .m)) (c .match .keys2))
+    (λ c.  -- returns-2
+    let a = c .before .before .before .before .before .before .before .args in
+    window-other (now (a .s)) (now (a .m)) (c .before .before .before .p .given .0 .0) (a .a) (c .before .before .before .p .given .1) (c .if1 .taken))
+    (λ c.  -- returns-3
+    let a = c .before .before .before .before .before .before .before .before .before .args in
+    window-deleted (now (a .s)) (now (a .m)) (c .before .before .before .before .before .p .given .0 .0) (a .a) (c .before .before .before .before .before .p .given .1) (c .if2 .taken))
+    (λ c κs. search needs)
     change-slot-requires
-    same-length
-    returns-4)
+    (λ c. search needs)
+    (λ c.  -- returns-4
+    let a = c .before .before .before .before .before .before .before .before .before .before .before .before .before .before .args in
+    window-followed (now (a .s)) (now (a .m)) (c .before .before .before .before .before .before .before .before .before .before .p .given .0 .0) (a .a) (c .before .before .before .before .before .before .before .before .before .before .p .given .1) (c .before .before .before .before .before .before .before .if1 .left) (c .before .before .before .before .before .if2 .left) (c .before .before .before .before .window-mark .ensures .0) (c .before .before .change-slot .ensures)))

@@ -16,52 +16,28 @@ Inv-loop dir bodies first count low high n end i₀ i = (i ≤ end) × (end ≤ 
 abbrev μ-loop : tie.MeasureT-loop
 μ-loop dir bodies first count low high n end i₀ i = end - i
 
-add-end : tie.Need-add-end Inv-loop μ-loop
-add-end c = search needs
-
-loop-holds : tie.Need-loop-holds Inv-loop μ-loop
-loop-holds c =
-    let a = c .before .before .args in
-    (search needs, search needs, ok-start (recordOk (rowsFrom (a .low) (a .high)) (a .n) (now (a .dir)) (now (a .bodies))) (a .first) (a .count))
-
-record-ok-requires : tie.Need-record-ok-requires Inv-loop μ-loop
-record-ok-requires c κs = search needs
-
-returns : tie.Need-returns Inv-loop μ-loop
-returns c =
-    let w = c .before .before .before in
-    let a = c .before .before .before .before .before .before .args in
-    sym (w .loop .inv .2 ∙ ok-stop (recordOk (rowsFrom (a .low) (a .high)) (a .n) (now (a .dir)) (now (a .bodies))) (a .first + a .count) (w .loop .i) (c .before .before .loop-test .taken) (c .before .record-ok .ensures) (not-true (c .before .record-ok .result) (c .if1 .taken)))
-
-add-i : tie.Need-add-i Inv-loop μ-loop
-add-i c = search needs
-
-loop-less : tie.Need-loop-less Inv-loop μ-loop
-loop-less c = search needs
-
-loop-again : tie.Need-loop-again Inv-loop μ-loop
-loop-again c =
-    let w = c .before .before .before in
-    let a = c .before .before .before .before .before .before .args in
-    (search needs, search needs, w .loop .inv .2 ∙ ok-next (recordOk (rowsFrom (a .low) (a .high)) (a .n) (now (a .dir)) (now (a .bodies))) (a .first + a .count) (w .loop .i) (c .before .before .loop-test .taken) (c .before .record-ok .ensures) (not-false (c .before .record-ok .result) (c .if1 .left)))
-
-returns-2 : tie.Need-returns-2 Inv-loop μ-loop
-returns-2 c =
-    let w = c .before in
-    let a = c .before .before .before .before .args in
-    sym (w .loop .inv .2 ∙ ok-done (recordOk (rowsFrom (a .low) (a .high)) (a .n) (now (a .dir)) (now (a .bodies))) (a .first + a .count) (w .loop .i) (c .loop-test .left))
-
 pub records-ok-spec : {M : Type 1} → statement M
 records-ok-spec =
     tie.close
     (tie.spec
     Inv-loop
     μ-loop
-    add-end
-    loop-holds
-    record-ok-requires
-    returns
-    add-i
-    loop-less
-    loop-again
-    returns-2)
+    (λ c. search needs)
+    (λ c.  -- loop-holds
+    let a = c .before .before .args in
+    (search needs, search needs, ok-start (recordOk (rowsFrom (a .low) (a .high)) (a .n) (now (a .dir)) (now (a .bodies))) (a .first) (a .count)))
+    (λ c κs. search needs)
+    (λ c.  -- returns
+    let w = c .before .before .before in
+    let a = c .before .before .before .before .before .before .args in
+    sym (w .loop .inv .2 ∙ ok-stop (recordOk (rowsFrom (a .low) (a .high)) (a .n) (now (a .dir)) (now (a .bodies))) (a .first + a .count) (w .loop .i) (c .before .before .loop-test .taken) (c .before .record-ok .ensures) (not-true (c .before .record-ok .result) (c .if1 .taken))))
+    (λ c. search needs)
+    (λ c. search needs)
+    (λ c.  -- loop-again
+    let w = c .before .before .before in
+    let a = c .before .before .before .before .before .before .args in
+    (search needs, search needs, w .loop .inv .2 ∙ ok-next (recordOk (rowsFrom (a .low) (a .high)) (a .n) (now (a .dir)) (now (a .bodies))) (a .first + a .count) (w .loop .i) (c .before .before .loop-test .taken) (c .before .record-ok .ensures) (not-false (c .before .record-ok .result) (c .if1 .left))))
+    (λ c.  -- returns-2
+    let w = c .before in
+    let a = c .before .before .before .before .args in
+    sym (w .loop .inv .2 ∙ ok-done (recordOk (rowsFrom (a .low) (a .high)) (a .n) (now (a .dir)) (now (a .bodies))) (a .first + a .count) (w .loop .i) (c .loop-test .left))))

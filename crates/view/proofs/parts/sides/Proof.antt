@@ -9,9 +9,6 @@ use Rattle.wire.specs.Parts.{splice}
 use Rattle.view.proofs.Lists.{fill-first, fill-next, fill-end}
 use Rattle.view.proofs.parts.sides.Statement.{statement}
 use Rattle.view.proofs.parts.sides.Tie as tie
-use Rattle.view.proofs.parts.sides.Reads as reads
-use Rattle.view.proofs.parts.sides.Lts as lts
-use Rattle.wire.proofs.read_u16.Reads as read-u16-reads
 
 abbrev Inv-loop : tie.InvT-loop
 Inv-loop out₀ slot at n i₀ out i =
@@ -22,43 +19,23 @@ Inv-loop out₀ slot at n i₀ out i =
 abbrev μ-loop : tie.MeasureT-loop
 μ-loop out₀ slot at n i₀ out i = n - i
 
--- src/parts.rt:48:5
-loop-holds : tie.Need-loop-holds Inv-loop μ-loop
-loop-holds c =
+pub sides-spec : {M : Type 1} → statement M
+sides-spec =
+    tie.close
+    (tie.spec
+    Inv-loop
+    μ-loop
+    (λ c.  -- loop-holds
     let a = c .before .before .args in
-    (fill-first 2 (a .n) (now (a .slot)) (a .at) (now (a .out)), search needs, refl)
-
--- src/parts.rt:49:44
-mul-read-u16 : tie.Need-mul-read-u16 Inv-loop μ-loop
-mul-read-u16 c = search needs
-
--- src/parts.rt:49:39
-add-read-u16 : tie.Need-add-read-u16 Inv-loop μ-loop
-add-read-u16 c = search needs
-
--- src/parts.rt:49:18
-read-u16-requires : tie.Need-read-u16-requires Inv-loop μ-loop
-read-u16-requires c κs = search needs
-
--- src/parts.rt:49:9
-mul-out : tie.Need-mul-out Inv-loop μ-loop
-mul-out c = search needs
-
--- src/parts.rt:49:9
-slice-write-out : tie.Need-slice-write-out Inv-loop μ-loop
-slice-write-out c = search needs
-
--- src/parts.rt:50:9
-add-i : tie.Need-add-i Inv-loop μ-loop
-add-i c = search needs
-
--- src/parts.rt:48:5
-loop-less : tie.Need-loop-less Inv-loop μ-loop
-loop-less c = search needs
-
--- src/parts.rt:48:5
-loop-again : tie.Need-loop-again Inv-loop μ-loop
-loop-again c =
+    (fill-first 2 (a .n) (now (a .slot)) (a .at) (now (a .out)), search needs, refl))
+    (λ c. search needs)
+    (λ c. search needs)
+    (λ c κs. search needs)
+    (λ c. search needs)
+    (λ c. search needs)
+    (λ c. search needs)
+    (λ c. search needs)
+    (λ c.  -- loop-again
     let w = c .before .before in
     let a = w .before .before .before .args in
     let more : w .loop .i < length (w .loop .out) = omega arith in (
@@ -66,33 +43,9 @@ loop-again c =
           ∙ fill-next 2 (a .n) (now (a .slot)) (a .at) (w .loop .out) (w .loop .i) (c .read-u16 .result) (c .before .loop-test .taken) more (c .read-u16 .ensures),
       search needs,
       simp length-set (w .loop .inv .2),
-    )
-
--- src/parts.rt:43:1
-same-length : tie.Need-same-length Inv-loop μ-loop
-same-length c = search needs
-
--- src/parts.rt:43:1
-returns : tie.Need-returns Inv-loop μ-loop
-returns c =
+    ))
+    (λ c. search needs)
+    (λ c.  -- returns
     let w = c .before in
     let a = w .before .before .before .args in
-    sym (w .loop .inv .0 ∙ fill-end 2 (a .n) (now (a .slot)) (a .at) (w .loop .out) (w .loop .i) (c .loop-test .left))
-
-pub sides-spec : {M : Type 1} → statement M
-sides-spec =
-    tie.close
-    (tie.spec
-    Inv-loop
-    μ-loop
-    loop-holds
-    mul-read-u16
-    add-read-u16
-    read-u16-requires
-    mul-out
-    slice-write-out
-    add-i
-    loop-less
-    loop-again
-    same-length
-    returns)
+    sym (w .loop .inv .0 ∙ fill-end 2 (a .n) (now (a .slot)) (a .at) (w .loop .out) (w .loop .i) (c .loop-test .left))))

@@ -2,9 +2,6 @@ use Rattle.view.proofs.Handed.{no-desktop-ok, no-desktop-is}
 use borrow.Author.Needs.{needs}
 use Rattle.view.proofs.records.no_desktop.Statement.{statement}
 use Rattle.view.proofs.records.no_desktop.Tie as tie
-use Rattle.view.proofs.records.no_desktop.Reads as reads
-use Rattle.view.proofs.records.no_desktop.Lts as lts
-use Rattle.view.proofs.records.desktop_in.Reads as desktop-in-reads
 
 slice-aggregate-desktop-in : tie.Need-slice-aggregate-desktop-in
 slice-aggregate-desktop-in c = search needs
