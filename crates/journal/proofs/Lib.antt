@@ -4,3 +4,4 @@ pub mod Copies
 pub mod Rule
 pub mod Retracing
 pub mod Recalled
+pub mod Fits

@@ -1,3 +1,3 @@
-pub mod Amounts
+pub mod BookState
 pub mod Demand3
 pub mod Wellformed
