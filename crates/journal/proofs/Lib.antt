@@ -6,3 +6,4 @@ pub mod Replays
 pub mod Validations
 pub mod LoopInvariants
 pub mod Fits
+pub mod Indexed
