@@ -1,3 +1,3 @@
-pub mod Laid
-pub mod Kept
+pub mod LayoutsWritten
+pub mod LayoutsLossless
 pub mod Examples

@@ -1,15 +1,15 @@
-use Rattle.layout.proofs.Laid.{clear-next}
 use Rattle.wire.specs.Parts.{splice}
-use Rattle.wire.proofs.Parts.{splice-nil}
+use Rattle.wire.proofs.Parts.{splice-nil, clear-next}
 use denote.Ref.{now}
 use lib.ListN.{length, length-set, replicate}
 use Prim.Native.Nat.{ℕ, _-_, _≤_}
 use mathlib.Core.Path.{_≡_, refl, sym, ap, _∙_}
 use native.Mathlib.Omega.{arith}
 use borrow.Author.Needs.{needs}
-use Rattle.layout.proofs.clear.Statement.{statement}
-use Rattle.layout.proofs.clear.Tie as tie
+use Rattle.wire.proofs.clear.Statement.{statement}
+use Rattle.wire.proofs.clear.Tie as tie
 
+-- After i turns the first i bytes of the part are 0, which is a splice of i zeros; each turn adds one.
 abbrev Inv-loop : tie.InvT-loop
 Inv-loop out₀ at n i₀ out i = (i ≤ n) × (length out ≡ length out₀) × (out ≡ splice out₀ at (replicate i 0))
 

@@ -6,13 +6,12 @@ use Prim.Native.Nat.{ℕ, _+_, _-_, _≤_}
 use native.Mathlib.Omega.{arith}
 use lib.Dec.{leb}
 use lib.ListN.{length, take, replicate, length-append, length-take}
-use lib.Seq.{take-at, take-append-seam}
 use borrow.Author.Tests.{leb-true}
 use Rattle.wire.specs.Tests.{both}
 use Rattle.wire.specs.Numbers.{numAt}
-use Rattle.wire.specs.Parts.{slice, splice}
+use Rattle.wire.specs.Parts.{slice, splice, padded}
 use Rattle.wire.proofs.Tests.{both-left, both-right}
-use Rattle.wire.proofs.Parts.{length-slice, slice-mid}
+use Rattle.wire.proofs.Parts.{length-slice, slice-mid, length-padded, take-padded}
 use Rattle.wire.proofs.Numbers.{num1-is, num-cong}
 use Rattle.order.specs.declared.Row.{Row}
 use Rattle.order.specs.Rows.{rowsFrom, roomOf, lenOf, okOf}
@@ -22,23 +21,14 @@ use Rattle.body.specs.Bodies.{windowFields, notificationFields, desktopFields, 
 use Rattle.body.specs.Stores.{roomAll}
 use Rattle.body.proofs.Placed.{Placed, All, placed, len-cong}
 use Rattle.cache.specs.Cells.{pictureOf, cellOk}
-use Rattle.layout.specs.Layouts.{padded, fieldsBytes, recordBytes, pictureBytes, KeepsRecord, KeepsPicture}
-use Rattle.layout.proofs.Laid.{length-padded, short-field, length-record, field-is, padded-put}
+use Rattle.layout.specs.Layouts.{pictureSize, fieldsBytes, recordBytes, pictureBytes, SizesHold, KeepsRecord, KeepsPicture}
+use Rattle.layout.proofs.LayoutsWritten.{short-field, length-record, field-is, padded-put}
 
 -- ---- the bytes of each kind
 
-module _ (slot : List ℕ) where
-  pub length-window : length (recordBytes windowFields (bodyOf windowFields slot)) ≡ 850
-  unfolding roomAll
-  length-window = length-record windowFields slot
-
-  pub length-notification : length (recordBytes notificationFields (bodyOf notificationFields slot)) ≡ 916
-  unfolding roomAll
-  length-notification = length-record notificationFields slot
-
-  pub length-desktop : length (recordBytes desktopFields (bodyOf desktopFields slot)) ≡ 263
-  unfolding roomAll
-  length-desktop = length-record desktopFields slot
+pub sizes-hold : SizesHold
+unfolding roomAll
+sizes-hold = record { window = refl; notification = refl; desktop = refl }
 
 -- ---- records
 
@@ -48,7 +38,7 @@ module _ (r : Row) (slot : List ℕ) (off : ℕ) (p : Placed r) (ok : okOf r slo
   field = fieldIn r (slice slot off (roomOf r))
 
   abbrev place : List ℕ
-  place = padded (roomOf r) field
+  place = padded 0 (roomOf r) field
 
   length-field : length field ≡ lenOf r slot off
   length-field =
@@ -56,8 +46,7 @@ module _ (r : Row) (slot : List ℕ) (off : ℕ) (p : Placed r) (ok : okOf r slo
       ap (λ (x : List ℕ). length x) (field-is r slot off p ok) ∙ length-slice slot off (lenOf r slot off) (omega arith)
 
   begins : take (lenOf r slot off) place ≡ field
-  unfolding padded
-  begins = take-at field (replicate (roomOf r - length field) 0) (lenOf r slot off) length-field
+  begins = ap (λ (n : ℕ). take n place) (sym length-field) ∙ take-padded {A = ℕ} 0 (roomOf r) field (short-field r slot off (roomOf r))
 
   same-slice : slice place 0 (lenOf r slot off) ≡ slice slot off (lenOf r slot off)
   same-slice = let b : slice place 0 (lenOf r slot off) ≡ field = unfold slice in begins in b ∙ field-is r slot off p ok
@@ -78,9 +67,9 @@ unfolding fieldsOf fieldsBytes fieldsOk roomAll
 fields-back [] off slot at h a ok inside e = refl
 fields-back (r ∷ rs) off slot at h a ok inside e =
     let f = fieldIn r (slice slot off (roomOf r)) in
-    let w = padded (roomOf r) f in
+    let w = padded 0 (roomOf r) f in
     let rest = fieldsBytes rs (fieldsOf rs (off + roomOf r) slot) in
-    let lw : length w ≡ roomOf r = length-padded (roomOf r) f (short-field r slot off (roomOf r)) in
+    let lw : length w ≡ roomOf r = length-padded {A = ℕ} 0 (roomOf r) f in
     let o = both-left (okOf r slot off) (fieldsOk rs (off + roomOf r) slot) ok in
     let os = both-right (okOf r slot off) (fieldsOk rs (off + roomOf r) slot) ok in
     let l : length (h ++ w) ≡ at + roomOf r = length-append h w ∙ omega arith in
@@ -127,25 +116,6 @@ keeps-record low high m n slot ok inside =
     let rows = rowsFrom low high in
     record { long = length-record rows slot; back = record-back rows slot (placed low high) (fields-ok rows m n slot ok) inside }
 
--- what `record` asks, of a slot that holds a body
-abbrev pub Asked : ℕ → ℕ → List ℕ → List ℕ → Type 0
-Asked low high out slot =
-    ((low ≤ high) × (high ≤ 24) × (2 + roomAll (rowsFrom low high) ≤ length out) × (2 + roomAll (rowsFrom low high) ≤ length slot))
-    × (fieldsOk (rowsFrom low high) 2 slot ≡ true)
-
-module _ (m n : ℕ) (out slot : List ℕ) (long : length slot ≡ 916) where
-  pub window-asked : bodyOk windowFields m n slot ≡ true → 850 ≤ length out → Asked 1 15 out slot
-  unfolding roomAll
-  window-asked ok room = ((omega arith, omega arith, room, omega arith), fields-ok windowFields m n slot ok)
-
-  pub notification-asked : bodyOk notificationFields m n slot ≡ true → 916 ≤ length out → Asked 16 22 out slot
-  unfolding roomAll
-  notification-asked ok room = ((omega arith, omega arith, room, omega arith), fields-ok notificationFields m n slot ok)
-
-  pub desktop-asked : bodyOk desktopFields m n slot ≡ true → 263 ≤ length out → Asked 22 24 out slot
-  unfolding roomAll
-  desktop-asked ok room = ((omega arith, omega arith, room, omega arith), fields-ok desktopFields m n slot ok)
-
 -- ---- pictures
 
 -- the picture in a cell that holds an icon ends within it
@@ -161,13 +131,9 @@ in-cell cell ok =
     let a = laid cell 0 in
     record { low = omega arith; high = omega arith }
 
-short-picture : (cell : List ℕ) → cellOk cell ≡ true → length (pictureOf cell) ≤ 4235
+short-picture : (cell : List ℕ) → cellOk cell ≡ true → length (pictureOf cell) ≤ pictureSize
 unfolding pictureOf slice
 short-picture cell ok = let i = in-cell cell ok in simp length-take (omega arith)
-
-pub length-picture : (cell : List ℕ) → cellOk cell ≡ true → length (pictureBytes (pictureOf cell)) ≡ 4235
-unfolding pictureBytes
-length-picture cell ok = length-padded 4235 (pictureOf cell) (short-picture cell ok)
 
 module _ (cell : List ℕ) (ok : cellOk cell ≡ true) (long : 4240 ≤ length cell) where
   length-is : length (pictureOf cell) ≡ partsOf cell 0 .end - 3
@@ -175,8 +141,8 @@ module _ (cell : List ℕ) (ok : cellOk cell ≡ true) (long : 4240 ≤ length c
   length-is = let i = in-cell cell ok in length-slice cell 3 (partsOf cell 0 .end - 3) (omega arith)
 
   picture-begins : take (length (pictureOf cell)) (pictureBytes (pictureOf cell)) ≡ pictureOf cell
-  unfolding pictureBytes padded
-  picture-begins = take-append-seam (pictureOf cell) (replicate (4235 - length (pictureOf cell)) 0)
+  unfolding pictureBytes
+  picture-begins = take-padded {A = ℕ} 0 pictureSize (pictureOf cell) (short-picture cell ok)
 
   -- the layout as a cell has it, after entry and cache id
   abbrev copy : List ℕ
@@ -223,15 +189,16 @@ module _ (cell : List ℕ) (ok : cellOk cell ≡ true) (long : 4240 ≤ length c
 
   -- of a cell that holds an icon
   pub keeps-picture : KeepsPicture cell
-  keeps-picture = record { long = length-picture cell ok; back = picture-begins; read = picture-read }
+  unfolding pictureBytes
+  keeps-picture = record { long = length-padded {A = ℕ} 0 pictureSize (pictureOf cell); back = picture-begins; read = picture-read }
 
 -- the picture put, then zeros
-pub picture-put : (cell out : List ℕ) {end : ℕ} {x y : List ℕ} → end ≡ partsOf cell 0 .end → cellOk cell ≡ true → 4240 ≤ length cell → 4235 ≤ length out
-    → x ≡ splice out 0 (slice cell 3 (end - 3)) → y ≡ splice x (end - 3) (replicate (4235 - (end - 3)) 0) → y ≡ splice out 0 (pictureBytes (pictureOf cell))
+pub picture-put : (cell out : List ℕ) {end : ℕ} {x y : List ℕ} → end ≡ partsOf cell 0 .end → cellOk cell ≡ true → 4240 ≤ length cell → pictureSize ≤ length out
+    → x ≡ splice out 0 (slice cell 3 (end - 3)) → y ≡ splice x (end - 3) (replicate (pictureSize - (end - 3)) 0) → y ≡ splice out 0 (pictureBytes (pictureOf cell))
 unfolding pictureBytes pictureOf
 picture-put cell out {end} {x} {y} e ok long room ex ey =
     let i = in-cell cell ok in
     let p = slice cell 3 (partsOf cell 0 .end - 3) in
     let l : length p ≡ partsOf cell 0 .end - 3 = length-slice cell 3 (partsOf cell 0 .end - 3) (omega arith) in
-    padded-put out 0 4235 p {q = end - 3} {m = 4235 - (end - 3)} {x = x} {y = y} (omega arith) (omega arith) (omega arith) (omega arith)
+    padded-put out 0 pictureSize p {q = end - 3} {m = pictureSize - (end - 3)} {x = x} {y = y} (omega arith) (omega arith) (omega arith) (omega arith)
     (ex ∙ ap (λ (n : ℕ). splice out 0 (slice cell 3 (n - 3))) e) ey
