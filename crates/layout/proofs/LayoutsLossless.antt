@@ -10,19 +10,20 @@ use borrow.Author.Tests.{leb-true}
 use Rattle.wire.specs.Tests.{both}
 use Rattle.wire.specs.Numbers.{numAt}
 use Rattle.wire.specs.Parts.{slice, splice, padded}
-use Rattle.wire.proofs.Tests.{both-left, both-right}
+use Rattle.wire.proofs.Tests.{both-right}
 use Rattle.wire.proofs.Parts.{length-slice, slice-mid, length-padded, take-padded}
-use Rattle.wire.proofs.Numbers.{num1-is, num-cong}
+use Rattle.wire.proofs.Numbers.{num1-is, num-cong, num-padded}
 use Rattle.order.specs.declared.Row.{Row}
-use Rattle.order.specs.Rows.{rowsFrom, roomOf, lenOf, okOf}
+use Rattle.order.specs.Rows.{rowsFrom, roomOf, firstOf, lenOf}
 use Rattle.order.specs.Icons.{tabled, partsOf, bitsOk, sideOk}
 use Rattle.order.proofs.Pictures.{laid}
-use Rattle.body.specs.Bodies.{windowFields, notificationFields, desktopFields, Body, fieldIn, fieldsOf, fieldsOk, bodyOf, bodyOk}
+use Rattle.body.specs.Bodies.{Body, fieldIn, fieldsOf, bodyOf}
 use Rattle.body.specs.Stores.{roomAll}
-use Rattle.body.proofs.Placed.{Placed, All, placed, len-cong}
+use Rattle.body.proofs.Placed.{Placed, All, placed}
 use Rattle.cache.specs.Cells.{pictureOf, cellOk}
+use Rattle.layout.specs.Valid.{ValidField, ValidFields, ValidBody}
 use Rattle.layout.specs.Layouts.{pictureSize, fieldsBytes, recordBytes, pictureBytes, SizesHold, KeepsRecord, KeepsPicture}
-use Rattle.layout.proofs.LayoutsWritten.{short-field, length-record, field-is, padded-put}
+use Rattle.layout.proofs.LayoutsWritten.{length-record, padded-put}
 
 -- ---- the bytes of each kind
 
@@ -32,89 +33,49 @@ sizes-hold = record { window = refl; notification = refl; desktop = refl }
 
 -- ---- records
 
--- a field reads back from its padded bytes
-module _ (r : Row) (slot : List ℕ) (off : ℕ) (p : Placed r) (ok : okOf r slot off ≡ true) (inside : off + roomOf r ≤ length slot) where
-  abbrev field : List ℕ
-  field = fieldIn r (slice slot off (roomOf r))
-
+-- a field reads back from its place
+module _ (r : Row) (f : List ℕ) (p : Placed r) (v : ValidField r f) where
   abbrev place : List ℕ
-  place = padded 0 (roomOf r) field
+  place = padded 0 (roomOf r) f
 
-  length-field : length field ≡ lenOf r slot off
-  length-field =
-      let n = p .room slot off ok in
-      ap (λ (x : List ℕ). length x) (field-is r slot off p ok) ∙ length-slice slot off (lenOf r slot off) (omega arith)
+  pub short-field : length f ≤ roomOf r
+  short-field = let n = p .room f 0 (v .set) in omega (arith, v .long)
 
-  begins : take (lenOf r slot off) place ≡ field
-  begins = ap (λ (n : ℕ). take n place) (sym length-field) ∙ take-padded {A = ℕ} 0 (roomOf r) field (short-field r slot off (roomOf r))
+  same-length : lenOf r place 0 ≡ lenOf r f 0
+  unfolding lenOf firstOf
+  same-length =
+      let h : 0 + r .head ≤ roomOf r = omega (arith, p .head) in
+      rw (num-padded (r .head) (roomOf r) 0 f h)
 
-  same-slice : slice place 0 (lenOf r slot off) ≡ slice slot off (lenOf r slot off)
-  same-slice = let b : slice place 0 (lenOf r slot off) ≡ field = unfold slice in begins in b ∙ field-is r slot off p ok
-
-  same-length : lenOf r place 0 ≡ lenOf r slot off
-  same-length = len-cong r place slot 0 off (lenOf r slot off) long same-slice
-    where
-      long : r .head ≤ lenOf r slot off
-      long = unfold lenOf in omega (arith, p .head)
-
-  pub field-back : fieldIn r place ≡ field
+  pub field-back : fieldIn r place ≡ f
   unfolding fieldIn
-  field-back = ap (λ (i : ℕ). take i place) same-length ∙ begins
+  field-back = ap (λ (n : ℕ). take n place) (same-length ∙ sym (v .long)) ∙ take-padded {A = ℕ} 0 (roomOf r) f short-field
 
-pub fields-back : (rows : List Row) (off : ℕ) (slot : List ℕ) (at : ℕ) (h : List ℕ) → All Placed rows → fieldsOk rows off slot ≡ true
-    → off + roomAll rows ≤ length slot → length h ≡ at → fieldsOf rows at (h ++ fieldsBytes rows (fieldsOf rows off slot)) ≡ fieldsOf rows off slot
-unfolding fieldsOf fieldsBytes fieldsOk roomAll
-fields-back [] off slot at h a ok inside e = refl
-fields-back (r ∷ rs) off slot at h a ok inside e =
-    let f = fieldIn r (slice slot off (roomOf r)) in
+pub fields-back : (rows : List Row) (fs : List (List ℕ)) (at : ℕ) (h : List ℕ) → All Placed rows → ValidFields rows fs → length h ≡ at
+    → fieldsOf rows at (h ++ fieldsBytes rows fs) ≡ fs
+unfolding fieldsOf fieldsBytes
+fields-back [] [] at h a v e = refl
+fields-back [] (f ∷ fs) at h a v e = absurd v
+fields-back (r ∷ rs) [] at h a v e = absurd v
+fields-back (r ∷ rs) (f ∷ fs) at h a v e =
     let w = padded 0 (roomOf r) f in
-    let rest = fieldsBytes rs (fieldsOf rs (off + roomOf r) slot) in
+    let tail = fieldsBytes rs fs in
     let lw : length w ≡ roomOf r = length-padded {A = ℕ} 0 (roomOf r) f in
-    let o = both-left (okOf r slot off) (fieldsOk rs (off + roomOf r) slot) ok in
-    let os = both-right (okOf r slot off) (fieldsOk rs (off + roomOf r) slot) ok in
     let l : length (h ++ w) ≡ at + roomOf r = length-append h w ∙ omega arith in
-    let here : fieldIn r (slice (h ++ (w ++ rest)) at (roomOf r)) ≡ f =
-    ap (fieldIn r) (slice-mid h w rest at (roomOf r) e lw) ∙ field-back r slot off (a .0) o (omega arith) in
-    let then : fieldsOf rs (at + roomOf r) (h ++ (w ++ rest)) ≡ fieldsOf rs (off + roomOf r) slot =
-    ap (fieldsOf rs (at + roomOf r)) (sym (append-assoc h w rest))
-    ∙ fields-back rs (off + roomOf r) slot (at + roomOf r) (h ++ w) (a .1) os (omega arith) l in
+    let here : fieldIn r (slice (h ++ (w ++ tail)) at (roomOf r)) ≡ f =
+    ap (fieldIn r) (slice-mid h w tail at (roomOf r) e lw) ∙ field-back r f (a .0) (v .0) in
+    let then : fieldsOf rs (at + roomOf r) (h ++ (w ++ tail)) ≡ fs =
+    ap (fieldsOf rs (at + roomOf r)) (sym (append-assoc h w tail)) ∙ fields-back rs fs (at + roomOf r) (h ++ w) (a .1) (v .1) l in
     rw (here, then)
 
-body-is : (rows : List Row) (x : List ℕ) (a b : ℕ) (fs : List (List ℕ)) → numAt 1 x 0 ≡ a → numAt 1 x 1 ≡ b → fieldsOf rows 2 x ≡ fs
-    → bodyOf rows x ≡ record { first = a; second = b; fields = fs }
-unfolding bodyOf
-body-is rows x a b fs e f g = rw (e, f, g)
-
-fields-in : (rows : List Row) (slot : List ℕ) → All Placed rows → fieldsOk rows 2 slot ≡ true → 2 + roomAll rows ≤ length slot
-    → fieldsOf rows 2 (recordBytes rows (bodyOf rows slot)) ≡ bodyOf rows slot .fields
+record-back : (rows : List Row) (m n : ℕ) (b : Body) → All Placed rows → ValidBody rows m n b → bodyOf rows (recordBytes rows b) ≡ b
 unfolding recordBytes bodyOf
-fields-in rows slot a ok inside = fields-back rows 2 slot 2 (numAt 1 slot 0 ∷ numAt 1 slot 1 ∷ []) a ok inside refl
+record-back rows m n b a v =
+    let x = b .first ∷ b .second ∷ fieldsBytes rows (b .fields) in
+    rw (sym (num1-is x 0), sym (num1-is x 1), fields-back rows (b .fields) 2 (b .first ∷ b .second ∷ []) a (v .fields) refl)
 
-mark-first : (rows : List Row) (b : Body) → numAt 1 (recordBytes rows b) 0 ≡ b .first
-unfolding recordBytes
-mark-first rows b = sym (num1-is (b .first ∷ b .second ∷ fieldsBytes rows (b .fields)) 0)
-
-mark-second : (rows : List Row) (b : Body) → numAt 1 (recordBytes rows b) 1 ≡ b .second
-unfolding recordBytes
-mark-second rows b = sym (num1-is (b .first ∷ b .second ∷ fieldsBytes rows (b .fields)) 1)
-
-pub record-back : (rows : List Row) (slot : List ℕ) → All Placed rows → fieldsOk rows 2 slot ≡ true → 2 + roomAll rows ≤ length slot
-    → bodyOf rows (recordBytes rows (bodyOf rows slot)) ≡ bodyOf rows slot
-record-back rows slot a ok inside =
-    let b = bodyOf rows slot in
-    body-is rows (recordBytes rows b) (b .first) (b .second) (b .fields) (mark-first rows b) (mark-second rows b) (fields-in rows slot a ok inside)
-
-pub fields-ok : (rows : List Row) (m n : ℕ) (slot : List ℕ) → bodyOk rows m n slot ≡ true → fieldsOk rows 2 slot ≡ true
-unfolding bodyOk
-fields-ok rows m n slot ok =
-    both-right (leb (numAt 1 slot 1) n) (fieldsOk rows 2 slot) (both-right (leb (numAt 1 slot 0) m) (both (leb (numAt 1 slot 1) n) (fieldsOk rows 2 slot)) ok)
-
--- of a slot that holds a body
-pub keeps-record : (low high m n : ℕ) (slot : List ℕ) → bodyOk (rowsFrom low high) m n slot ≡ true → 2 + roomAll (rowsFrom low high) ≤ length slot
-    → KeepsRecord (rowsFrom low high) slot
-keeps-record low high m n slot ok inside =
-    let rows = rowsFrom low high in
-    record { long = length-record rows slot; back = record-back rows slot (placed low high) (fields-ok rows m n slot ok) inside }
+pub keeps-record : (low high m n : ℕ) (b : Body) → ValidBody (rowsFrom low high) m n b → KeepsRecord (rowsFrom low high) b
+keeps-record low high m n b v = record { long = length-record (rowsFrom low high) b; back = record-back (rowsFrom low high) m n b (placed low high) v }
 
 -- ---- pictures
 

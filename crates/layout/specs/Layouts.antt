@@ -43,7 +43,7 @@ recordBytes rows b = b .first ∷ b .second ∷ fieldsBytes rows (b .fields)
 unfoldable pub pictureBytes : List ℕ → List ℕ
 pictureBytes p = padded 0 pictureSize p
 
--- two marks and a place for each field
+-- two marks and the rooms of the fields
 pub record SizesHold : Type 0 where
   pub window : 2 + roomAll windowFields ≡ windowSize
   pub notification : 2 + roomAll notificationFields ≡ notificationSize
@@ -51,10 +51,10 @@ pub record SizesHold : Type 0 where
 
 -- ---- nothing is lost
 
--- the record of a slot has its two marks and a place for each field, and reads as the same body
-pub record KeepsRecord (rows : List Row) (slot : List ℕ) : Type 0 where
-  pub long : length (recordBytes rows (bodyOf rows slot)) ≡ 2 + roomAll rows
-  pub back : bodyOf rows (recordBytes rows (bodyOf rows slot)) ≡ bodyOf rows slot
+-- a record has its two marks and a place for each field, and reads as the body that it was made of
+pub record KeepsRecord (rows : List Row) (b : Body) : Type 0 where
+  pub long : length (recordBytes rows b) ≡ 2 + roomAll rows
+  pub back : bodyOf rows (recordBytes rows b) ≡ b
 
 -- the layout of the picture in a cell begins with it, and its numbers say where it ends
 pub record KeepsPicture (cell : List ℕ) : Type 0 where
