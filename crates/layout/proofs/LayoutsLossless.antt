@@ -84,11 +84,16 @@ pub record InCell (end : ℕ) : Type 0 where
   pub low : 12 ≤ end
   pub high : end ≤ 4238
 
-pub in-cell : (cell : List ℕ) → cellOk cell ≡ true → InCell (partsOf cell 0 .end)
+-- mask, color table and color together
+pub content-few : (cell : List ℕ) → cellOk cell ≡ true → partsOf cell 0 .end - partsOf cell 0 .mask ≤ 4224
 unfolding cellOk
-in-cell cell ok =
+content-few cell ok =
     let n = partsOf cell 0 .end - partsOf cell 0 .mask in
-    let l : n ≤ 4224 = leb-true n 4224 (both-right (both (both (bitsOk (numAt 1 cell 3)) (sideOk (numAt 2 cell 4))) (sideOk (numAt 2 cell 6))) (leb n 4224) ok) in
+    leb-true n 4224 (both-right (both (both (bitsOk (numAt 1 cell 3)) (sideOk (numAt 2 cell 4))) (sideOk (numAt 2 cell 6))) (leb n 4224) ok)
+
+pub in-cell : (cell : List ℕ) → cellOk cell ≡ true → InCell (partsOf cell 0 .end)
+in-cell cell ok =
+    let l = content-few cell ok in
     let a = laid cell 0 in
     record { low = omega arith; high = omega arith }
 

@@ -16,11 +16,15 @@ use Rattle.view.specs.Views.{windowOf, notificationOf, desktopOf, headSi
 
 -- ---- valid
 
+-- the bytes of a picture's mask, color table and color
+abbrev pub contentSize : List ℕ → ℕ
+contentSize p = pictureView p .mask + pictureView p .table + pictureView p .color
+
 -- a picture is as long as its numbers say
 pub record ValidPicture (p : List ℕ) : Type 0 where
   pub bytes : Bytes p
-  pub long : length p ≡ headSize p + (pictureView p .mask + pictureView p .table + pictureView p .color)
-  pub few : pictureView p .mask + pictureView p .table + pictureView p .color ≤ 4224
+  pub long : length p ≡ headSize p + contentSize p
+  pub few : contentSize p ≤ 4224
 
 -- memory that meets the rule holds such records and pictures
 pub record MemoryValid : Type 0 where

@@ -1,7 +1,9 @@
 // The fields of a record, each read from its place.
 ghost use mathlib.Core.Path.{_≡_};
-ghost use Prim.Native.Nat.{ℕ, _+_, _<_, _≤_};
+ghost use Prim.Native.Nat.{_≤_};
+ghost use lib.Dec.{leb};
 ghost use lib.ListN.{length, replicate};
+ghost use Rattle.wire.specs.Tests.{pick};
 ghost use Rattle.wire.specs.Numbers.{numAt};
 ghost use Rattle.wire.specs.Parts.{slice, splice, padded};
 ghost use Rattle.order.specs.Rows.{numbersRow, textRow, rectanglesRow, idsRow};
@@ -49,7 +51,7 @@ pub fn pointer(v: u8) -> Pointer
 
 // The lesser of two.
 fn least(a: usize, b: usize) -> usize
-    ensures { λ r. ⌜ (r ≤ a) × (r ≤ b) × ((i : ℕ) → i < a → i < b → i < r) ⌝ }
+    ensures { λ r. ⌜ r ≡ pick (leb a b) a b ⌝ }
 {
     if a <= b {
         return a;
@@ -104,25 +106,19 @@ pub fn rectangles(s: &[u8], at: usize) -> Rectangles
     Rectangles { count, sides }
 }
 
-// Puts n ids of 4 bytes, from index at on, at the start of out, which is ids of 0.
-fn put_ids(out: &mut [WindowId], s: &[u8], at: usize, n: usize)
-    requires { ⌜ (at ≤ 131070) × (n ≤ 64) × (now out ≡ replicate 64 (windowId 0)) ⌝ }
-    ensures { λ _. ⌜ now (out .exit) ≡ padded (windowId 0) 64 (eachOf windowId 4 n (now (s .entry)) at) ⌝ }
-{
-    let mut i = 0;
-    while i < n {
-        out[i] = window_id(s, at + 4 * i);
-        i += 1;
-    }
-}
-
 pub fn stack(s: &[u8], at: usize) -> Stack
     requires { ⌜ at ≤ 65535 ⌝ }
     ensures { λ r. ⌜ r ≡ stackOf (fieldAt (idsRow 0) (now (s .entry)) at) ⌝ }
 {
     let count = wire::read_u8(s, at);
     let n = least(count as usize, 64);
-    let mut ids = [WindowId { id: 0 }; 64];
-    put_ids(&mut ids, s, at + 1, n);
+    let none = WindowId { id: 0 };
+    let mut ids = [none; 64];
+    let mut i = 0;
+    while i < n {
+        let id = window_id(s, at + 1 + 4 * i);
+        ids[i] = id;
+        i += 1;
+    }
     Stack { count, ids }
 }
