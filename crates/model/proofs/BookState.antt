@@ -11,6 +11,7 @@ use Rattle.wire.specs.Tests.{pick, both, either}
 use Rattle.directory.specs.Directory.{windows, notifications}
 use Rattle.body.specs.Bodies.{Body}
 use Rattle.table.specs.Table.{Table, emptied, number, after, recordAt, pictureAt}
+use Rattle.journal.specs.Limits.{mostOrders, mostBytes}
 use Rattle.journal.specs.State.{State, run, present, bytesIn}
 use Rattle.session.specs.declared.LookupTarget.{LookupTarget}
 use Rattle.session.specs.declared.LookupTarget.the-variants.{Window, Notification, Cell, Desktop}
@@ -63,8 +64,8 @@ module _ (b : Book) where
 
   full-room : (o : List ℕ) → overFull (b .new) o ≡ not (hasRoom b o)
   full-room o =
-      rw (bytes-same (b .new), ltb-not 128 (length (b .new) + 1), ltb-not 32768 (bytesOf (b .new) + length o))
-      (either-not (leb (length (b .new) + 1) 128) (leb (bytesOf (b .new) + length o) 32768))
+      rw (bytes-same (b .new), ltb-not mostOrders (length (b .new) + 1), ltb-not mostBytes (bytesOf (b .new) + length o))
+      (either-not (leb (length (b .new) + 1) mostOrders) (leb (bytesOf (b .new) + length o) mostBytes))
 
   grants : (p : Payload) → grant (b .new) p ≡ says 0 b p
   grants p = ap (λ (n : ℕ). record { number = 0; count = length (b .new); bytes = n; payload = p }) (bytes-same (b .new))

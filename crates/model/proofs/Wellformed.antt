@@ -10,9 +10,10 @@ use native.Mathlib.Omega.{arith}
 use Rattle.wire.specs.Tests.{pick, either}
 use Rattle.wire.specs.Parts.{splice}
 use Rattle.table.specs.Table.{number}
+use Rattle.journal.specs.Limits.{mostOrders, mostBytes}
 use Rattle.journal.specs.State.{State, present, run, bytesIn}
 use Rattle.journal.specs.View.{Memory, tooShort, wellFormed, stateOf, View, short, unformed, formed, viewOf}
-use Rattle.journal.proofs.Logs.{bytes-append}
+use Rattle.journal.proofs.Runs.{bytes-append}
 use Rattle.journal.proofs.Fits.{fits}
 use Rattle.session.specs.Calls.{Call, reset, deliver, checkpoint, undo, look, Payload, nothing, body, picture, refuse, grant, overFull, without, payloadIn, found, isReset, answer, answerView, nextView, next}
 use Rattle.session.specs.Outcome.{Response, plain, replied, responseOf, answerWithin, outAfter}
@@ -109,13 +110,13 @@ either-false : (a b : Bool) → either a b ≡ false → (a ≡ false) × (b ≡
 either-false false b e = (refl, e)
 either-false true b e = let z : _≡_ {A = ℕ} 0 1 = cc in absurd (omega arith)
 
-module _ (s : State) (few : length (s .log) ≤ 128) (bytes : bytesIn (s .log) ≤ 32768) where
+module _ (s : State) (few : length (s .log) ≤ mostOrders) (bytes : bytesIn (s .log) ≤ mostBytes) where
   joined-fits : (o : List ℕ) → overFull (s .log) o ≡ false → Fits (grant (s .log ++ (o ∷ [])) nothing)
   unfolding bytesIn
   joined-fits o e =
-      let x = either-false (ltb 128 (length (s .log) + 1)) (ltb 32768 (bytesIn (s .log) + length o)) e in
-      let a = ltb-false 128 (length (s .log) + 1) (x .0) in
-      let b = ltb-false 32768 (bytesIn (s .log) + length o) (x .1) in
+      let x = either-false (ltb mostOrders (length (s .log) + 1)) (ltb mostBytes (bytesIn (s .log) + length o)) e in
+      let a = ltb-false mostOrders (length (s .log) + 1) (x .0) in
+      let b = ltb-false mostBytes (bytesIn (s .log) + length o) (x .1) in
       (omega (arith, length-append (s .log) (o ∷ []), a), omega (arith, bytes-append (s .log) (o ∷ []), b))
 
   delivered-fits : (o : List ℕ) (t u : Bool) → overFull (s .log) o ≡ u

@@ -10,6 +10,7 @@ use Rattle.wire.specs.Tests.{pick, both}
 use Rattle.directory.specs.Directory.{windows, notifications}
 use Rattle.body.specs.Bodies.{Body}
 use Rattle.table.specs.Table.{Table, emptied, number, after, recordAt, pictureAt}
+use Rattle.journal.specs.Limits.{mostOrders, mostBytes}
 use Rattle.session.specs.declared.LookupTarget.the-variants.{Window, Notification, Cell, Desktop}
 use Rattle.session.specs.Calls.{Call, reset, deliver, checkpoint, undo, look, Payload, nothing, body, picture, Answer}
 
@@ -34,9 +35,9 @@ unfoldable pub bytesOf : List (List ℕ) → ℕ
 bytesOf [] = 0
 bytesOf (o ∷ os) = length o + bytesOf os
 
--- with o the orders after the mark do not pass 128 or 32,768 bytes
+-- with o the orders after the mark do not pass the history room
 abbrev pub hasRoom : Book → List ℕ → Bool
-hasRoom b o = both (leb (length (b .new) + 1) 128) (leb (bytesOf (b .new) + length o) 32768)
+hasRoom b o = both (leb (length (b .new) + 1) mostOrders) (leb (bytesOf (b .new) + length o) mostBytes)
 
 -- the order joins the end; the mark moves to the end; the last k go
 abbrev pub joined : Book → List ℕ → Book

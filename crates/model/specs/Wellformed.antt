@@ -6,6 +6,7 @@ use mathlib.Core.Bool.{true, false}
 use mathlib.Core.List.{[]}
 use lib.ListN.{length}
 use Rattle.table.specs.Table.{emptied}
+use Rattle.journal.specs.Limits.{mostOrders, mostBytes}
 use Rattle.journal.specs.State.{State, bytesIn, allAccepted}
 use Rattle.journal.specs.View.{Memory, tooShort, wellFormed, formed, viewOf}
 use Rattle.session.specs.Calls.{Call, reset, Answer, next, answerView}
@@ -39,8 +40,8 @@ pub record Describes (m : Memory) : Type 0 where
   pub described : viewOf m ≡ formed state
   pub only : (s : State) → viewOf m ≡ formed s → s ≡ state
   pub accepted : allAccepted (state .marked) (state .log) ≡ true
-  pub few : length (state .log) ≤ 128
-  pub bytes : bytesIn (state .log) ≤ 32768
+  pub few : length (state .log) ≤ mostOrders
+  pub bytes : bytesIn (state .log) ≤ mostBytes
 
 unfoldable pub OneState : Type 0
 OneState = (m : Memory) → Meets m → Describes m
@@ -51,7 +52,7 @@ OnlyMeets = (m : Memory) (s : State) → viewOf m ≡ formed s → Meets m
 
 -- what any call reports fits the history room, whatever the memory
 abbrev pub Fits : Answer → Type 0
-Fits a = (a .count ≤ 128) × (a .bytes ≤ 32768)
+Fits a = (a .count ≤ mostOrders) × (a .bytes ≤ mostBytes)
 
 unfoldable pub RepliesFit : Type 0
 RepliesFit = (c : Call) (m : Memory) → Fits (answerView c (viewOf m))

@@ -3,6 +3,8 @@ use Prim.Native.Nat.{ℕ}
 use mathlib.Core.Path.{_≡_}
 use mathlib.Core.List.{List, [], _∷_}
 use lib.ListN.{getD}
+use Rattle.layout.specs.Layouts.{windowSize, notificationSize, desktopSize, pictureSize}
+use Rattle.journal.specs.Limits.{indexLength, bodiesLength, cellsLength, journalLength}
 use Rattle.journal.specs.View.{Memory, viewOf, Past}
 use Rattle.session.specs.Calls.{answerView, nextView}
 use Rattle.session.specs.Outcome.{Request, Response, responseOf}
@@ -10,7 +12,8 @@ use Rattle.session.specs.Packed.{packedOf}
 
 -- the bytes of the four parts, of the three records, and of a picture
 abbrev pub sizes : List ℕ
-sizes = 444 ∷ 44884 ∷ 50880 ∷ 32770 ∷ 850 ∷ 916 ∷ 263 ∷ 4235 ∷ []
+sizes =
+    indexLength ∷ bodiesLength ∷ cellsLength ∷ journalLength ∷ windowSize ∷ notificationSize ∷ desktopSize ∷ pictureSize ∷ []
 
 unfoldable pub sizeOf : ℕ → ℕ
 sizeOf what = getD sizes what 0

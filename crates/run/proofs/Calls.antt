@@ -14,6 +14,7 @@ use Rattle.wire.specs.Parts.{splice}
 use Rattle.wire.specs.Numbers.{numAt, bytesOf}
 use Rattle.wire.proofs.Parts.{splice-start}
 use Rattle.wire.proofs.Numbers.{length-bytes}
+use Rattle.layout.specs.Layouts.{windowSize, notificationSize, desktopSize, pictureSize}
 use Rattle.journal.specs.View.{Memory}
 use Rattle.session.specs.declared.Reply.{Reply}
 use Rattle.session.specs.declared.LookupTarget.{LookupTarget}
@@ -102,19 +103,19 @@ module _ (kind : ℕ) where
   length-look : {n : ℕ} → 4 ≤ kind → ((arg : List ℕ) → n ≡ blockLength (look (targetOf kind arg))) → Takes kind n
   length-look l f = record { takes = λ arg. f arg ∙ ap blockLength (sym (is-look kind arg l)) }
 
-  pub length-window : kind ≡ 4 → Takes kind 854
+  pub length-window : kind ≡ 4 → Takes kind (4 + windowSize)
   unfolding targetOf
   length-window e = length-look (omega (arith, e)) (λ arg. rw e)
 
-  pub length-notification : kind ≡ 5 → Takes kind 920
+  pub length-notification : kind ≡ 5 → Takes kind (4 + notificationSize)
   unfolding targetOf
   length-notification e = length-look (omega (arith, e)) (λ arg. rw e)
 
-  pub length-cell : kind ≡ 6 → Takes kind 4239
+  pub length-cell : kind ≡ 6 → Takes kind (4 + pictureSize)
   unfolding targetOf
   length-cell e = length-look (omega (arith, e)) (λ arg. rw e)
 
-  pub length-desktop : 4 ≤ kind → (kind ≡ 4 → ⊥) → (kind ≡ 5 → ⊥) → (kind ≡ 6 → ⊥) → Takes kind 267
+  pub length-desktop : 4 ≤ kind → (kind ≡ 4 → ⊥) → (kind ≡ 5 → ⊥) → (kind ≡ 6 → ⊥) → Takes kind (4 + desktopSize)
   unfolding targetOf
   length-desktop l a b c = length-look l (λ arg. rw (ne-eqb kind 4 a, ne-eqb kind 5 b, ne-eqb kind 6 c))
 

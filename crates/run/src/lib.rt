@@ -99,7 +99,7 @@ fn look_up(
     ensures { λ _. ⌜ Done (look target) (memory (now (dir .entry)) (now (bodies .entry)) (now (cells .entry)) (now (journal .entry))) (memory (now (dir .entry)) (now (bodies .entry)) (now (cells .entry)) (now (journal .entry))) (now (out .exit)) ⌝ }
 {
     let end = out.len();
-    layout::clear(out, 0, end);
+    wire::clear(out, 0, end);
     let r = session::lookups::look(dir, bodies, cells, journal, target, &mut out[4..end]);
     let head = session::packed::packed(r);
     wire::write_u32(out, 0, head);

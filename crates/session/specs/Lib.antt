@@ -2,3 +2,4 @@ pub mod Calls
 pub mod Outcome
 pub mod Delivery
 pub mod Targets
+pub mod Packed

@@ -6,6 +6,7 @@ use journal::JournalExtent;
 
 pub mod calls;
 pub mod lookups;
+pub mod packed;
 mod replies;
 
 // The needed bytes of the four parts.
