@@ -166,10 +166,12 @@ uint32_t rail_desktop(const uint8_t *directory, size_t directory_size, const uin
 
 /* ---- A list of calls in one. Empties the state memory and does the calls of `script` on it, in turn. A call is its kind (1 byte), the
  * size of what it carries (2 bytes) and so many bytes: an order, 8 bytes of steps, or the ids of a lookup as its function takes them, in 4
- * bytes each (a cell: 1 and 2 bytes). What is missing of them counts 0; any other kind empties. The list ends where no whole call is left or
- * `out` has no room for the next answer. Each answer takes a block of `out`: the 4 bytes that the call itself answers, and for a lookup
- * RAIL_.._SIZE bytes more, zeros where it is refused. Numbers are little-endian. Answers how many calls were done; where a part is
- * too short that is 0, and no byte is changed. */
+ * bytes each (a cell: 1 and 2 bytes). What is missing of them counts 0. Each answer takes a block of `out`: the 4 bytes that the call itself
+ * answers, and for a lookup RAIL_.._SIZE bytes more, zeros where it is refused. Numbers are little-endian.
+ * Answers how many calls were done and why no further one: RAIL_DONE at the end of the script; RAIL_BAD_STATE where a part is too short, and
+ * then no byte is changed; before an item that is not done RAIL_TOO_SHORT (fewer than 3 bytes are left), RAIL_LENGTH_DIFFERS (it is cut),
+ * RAIL_UNKNOWN_TYPE (no such kind), RAIL_OUTPUT_TOO_SMALL (`out` has no room for its block). Of these the first that applies is given; the
+ * calls before it are done, and their blocks stand in `out`. */
 enum rail_call {
     RAIL_CALL_RESET = 0,
     RAIL_CALL_DELIVER = 1,
@@ -183,6 +185,8 @@ enum rail_call {
 uint64_t rail_run(uint8_t *directory, size_t directory_size, uint8_t *bodies, size_t bodies_size,
                   uint8_t *cells, size_t cells_size, uint8_t *journal, size_t journal_size,
                   const uint8_t *script, size_t script_size, uint8_t *out, size_t out_size);
+static inline uint32_t rail_run_number(uint64_t answer) { return (uint32_t)(answer & 255u); }
+static inline uint64_t rail_run_calls(uint64_t answer) { return answer >> 8; }
 
 /* ---- Control messages, as 12 words: rail/messages.h has the words of each kind. */
 

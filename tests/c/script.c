@@ -100,6 +100,10 @@ static void add_calls(void) {
     add_notification(7, 3); /* 9 */
 }
 
+static int ends(uint64_t answer, uint32_t number, uint64_t done) {
+    return rail_run_number(answer) == number && rail_run_calls(answer) == done;
+}
+
 void test_script(void) {
     static struct rail_state other;
     static uint8_t out[sizeof expected];
@@ -113,23 +117,32 @@ void test_script(void) {
 #define OTHER                                                                                                       \
     other.directory, RAIL_DIRECTORY_SIZE, other.bodies, RAIL_BODIES_SIZE, other.cells, RAIL_CELLS_SIZE,             \
         other.journal
-    CHECK(rail_run(OTHER, RAIL_JOURNAL_SIZE - 1, script, script_size, out, sizeof out) == 0);
+    CHECK(rail_run(OTHER, RAIL_JOURNAL_SIZE - 1, script, script_size, out, sizeof out) == RAIL_BAD_STATE);
     CHECK(filled((const uint8_t *)&other, sizeof other, 0xA5) && filled(out, sizeof out, 0xA5));
-    CHECK(rail_run(OTHER, RAIL_JOURNAL_SIZE, script, script_size, out, last) == calls);
+    CHECK(ends(rail_run(OTHER, RAIL_JOURNAL_SIZE, script, script_size, out, last), RAIL_DONE, calls));
     CHECK(memcmp(out, expected, last) == 0);
     CHECK(filled(out + last, sizeof out - last, 0xA5));
     CHECK(memcmp(other.directory, now.directory, RAIL_DIRECTORY_SIZE) == 0);
+    /* no script at all: emptied, and nothing done */
+    CHECK(ends(rail_run(OTHER, RAIL_JOURNAL_SIZE, script, 0, out, 0), RAIL_DONE, 0));
+    CHECK(rail_number(rail_window(OTHER, RAIL_JOURNAL_SIZE, 7, out, sizeof out)) == RAIL_UNKNOWN_ID);
     /* a cut script and an output that is a byte short do all but the last call */
     memset(out, 0xA5, sizeof out);
-    CHECK(rail_run(OTHER, RAIL_JOURNAL_SIZE, script, script_size - 1, out, sizeof out) == calls - 1);
-    CHECK(rail_run(OTHER, RAIL_JOURNAL_SIZE, script, script_size, out, last - 1) == calls - 1);
+    CHECK(ends(rail_run(OTHER, RAIL_JOURNAL_SIZE, script, script_size - 1, out, sizeof out), RAIL_LENGTH_DIFFERS, calls - 1));
+    CHECK(ends(rail_run(OTHER, RAIL_JOURNAL_SIZE, script, script_size, out, last - 1), RAIL_OUTPUT_TOO_SMALL, calls - 1));
     last -= 4 + RAIL_NOTIFICATION_SIZE;
     CHECK(memcmp(out, expected, last) == 0);
     CHECK(filled(out + last, sizeof out - last, 0xA5));
-    /* the last kind empties */
+    /* an emptying, and then an item that is no call: less than its head, cut, of an unknown kind, and in this order */
     add(RAIL_CALL_RESET, script, 0);
     add(RAIL_CALL_WINDOW, script, 0);
-    CHECK(rail_run(OTHER, RAIL_JOURNAL_SIZE, script, script_size, out, sizeof out) == calls);
+    script[script_size] = RAIL_CALL_DESKTOP + 1;
+    script[script_size + 1] = script[script_size + 2] = 0;
+    CHECK(ends(rail_run(OTHER, RAIL_JOURNAL_SIZE, script, script_size + 2, out, sizeof out), RAIL_TOO_SHORT, calls));
+    CHECK(ends(rail_run(OTHER, RAIL_JOURNAL_SIZE, script, script_size + 3, out, sizeof out), RAIL_UNKNOWN_TYPE, calls));
+    script[script_size + 1] = 1;
+    CHECK(ends(rail_run(OTHER, RAIL_JOURNAL_SIZE, script, script_size + 3, out, sizeof out), RAIL_LENGTH_DIFFERS, calls));
+    CHECK(ends(rail_run(OTHER, RAIL_JOURNAL_SIZE, script, script_size, out, sizeof out), RAIL_DONE, calls));
     CHECK(rail_undo(OTHER, RAIL_JOURNAL_SIZE, 0) == RAIL_DONE);
     CHECK(rail_number(rail_window(OTHER, RAIL_JOURNAL_SIZE, 7, out, sizeof out)) == RAIL_UNKNOWN_ID);
 }

@@ -13,9 +13,9 @@ use Rattle.directory.specs.Plans.{cellAt, iconNumber}
 use Rattle.directory.specs.Directory.{recordNumber, numberIn}
 use Rattle.body.specs.Bodies.{setFlagged, emptyFields, emptyBody}
 use Rattle.table.specs.Table.{emptied, directory, number, bodyAfter, changeRecord, desktopAfter, changeDesktop, after}
-use Rattle.model.specs.Book.{makes, tableOf, bytesOf, bookNext, bookAnswer, bookAnswers}
+use Rattle.model.specs.Book.{makes, tableOf, bytesOf, bookNext, bookAfter, bookAnswer, bookAnswers}
 use Rattle.cases.specs.Cases.{CasesHold}
 
 pub cases-hold : CasesHold
-unfolding CasesHold readOf recordAs recordOf known widths numsAt numAt sizeOf allowed firstOf lenOf okOf cutOf fieldOf stepOf walkOf pictureFit flagsOf orderOf fieldsFit judgeOf slice cellAt iconNumber recordNumber numberIn setFlagged emptyFields emptyBody emptied directory number bodyAfter changeRecord desktopAfter changeDesktop after makes tableOf bytesOf bookNext bookAnswer bookAnswers
+unfolding CasesHold readOf recordAs recordOf known widths numsAt numAt sizeOf allowed firstOf lenOf okOf cutOf fieldOf stepOf walkOf pictureFit flagsOf orderOf fieldsFit judgeOf slice cellAt iconNumber recordNumber numberIn setFlagged emptyFields emptyBody emptied directory number bodyAfter changeRecord desktopAfter changeDesktop after makes tableOf bytesOf bookNext bookAfter bookAnswer bookAnswers
 cases-hold = refl

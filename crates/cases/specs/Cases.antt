@@ -2,6 +2,8 @@
 use Prim.Native.Nat.{ℕ}
 use mathlib.Core.Path.{_≡_}
 use mathlib.Core.List.{List, [], _∷_, map}
+use mathlib.Core.Option.{none, some}
+use Rattle.wire.specs.Tests.{pick}
 use Rattle.pdu.specs.declared.Read.{Read}
 use Rattle.pdu.specs.declared.Read.the-variants.{Message, Refused}
 use Rattle.pdu.specs.declared.Pdu.the-variants.{Handshake}
@@ -9,34 +11,40 @@ use Rattle.pdu.specs.Reading.{readOf}
 use Rattle.order.specs.declared.Judged.{Judged}
 use Rattle.order.specs.declared.Judged.the-variants.{Window, Desktop}
 use Rattle.order.specs.Judge.{refuse, judgeOf}
+use Rattle.directory.specs.Directory.{windows, sameFamily, sameRecord}
 use Rattle.body.specs.Bodies.{Body}
-use Rattle.session.specs.Calls.{Call, deliver, window, desktop, Given, nothing, body}
+use Rattle.table.specs.Table.{Table}
+use Rattle.session.specs.declared.LookupTarget.the-variants as T
+use Rattle.session.specs.Calls.{Call, deliver, look, Payload, nothing, body}
 use Rattle.session.specs.Calls as S
-use Rattle.model.specs.Book.{newBook, bookAnswers}
+use Rattle.model.specs.Book.{Book, newBook, tableOf, bookAfter, bookAnswers}
 
 -- what is asked, and what the rules answer: of a message; of an order, what its bytes alone say; of calls on an emptied state, what
--- the plain book says
+-- the plain book says, and the standing orders and the table that they leave
 pub data Question : Type 0 where
   readPdu : List ℕ → Question
   judgeOrder : List ℕ → Question
   askBook : List Call → Question
+  endOf : List Call → Question
 
 pub data Answer : Type 0 where
   readAs : Read → Answer
   judgedAs : Judged → Answer
   bookSays : List S.Answer → Answer
+  left : Book → Table → Answer
 
 abbrev pub ask : Question → Answer
 ask (readPdu bytes) = readAs (readOf bytes)
 ask (judgeOrder bytes) = judgedAs (judgeOf bytes)
 ask (askBook calls) = bookSays (bookAnswers calls newBook)
+ask (endOf calls) = left (bookAfter calls newBook) (tableOf (bookAfter calls newBook))
 
 -- an answer of a state call
-abbrev pub granted : ℕ → ℕ → Given → S.Answer
-granted count bytes given = record { number = 0; count = count; bytes = bytes; given = given }
+abbrev pub granted : ℕ → ℕ → Payload → S.Answer
+granted count bytes payload = record { number = 0; count = count; bytes = bytes; payload = payload }
 
 abbrev pub refused : ℕ → S.Answer
-refused number = record { number = number; count = 0; bytes = 0; given = nothing }
+refused number = record { number = number; count = 0; bytes = 0; payload = nothing }
 
 -- the orders of cases 4 and 5, and the window that case 4 makes: title "A", all else zero or empty
 abbrev pub newA : List ℕ
@@ -78,6 +86,20 @@ windowA =
 abbrev pub desktopNone : Body
 desktopNone = record { first = 0; second = 0; fields = four ∷ (0 ∷ []) ∷ [] }
 
+-- a table with this window alone, no cell filled, and an emptied desktop
+abbrev pub tableA : Table
+tableA =
+    record {
+      records = λ f a b. pick (sameRecord windows 65624 0 f a b) (some windowA) none;
+      many = λ f. pick (sameFamily windows f) 1 0;
+      cells = λ c. none;
+      desktop = desktopNone;
+    }
+
+-- the window of cases 4 and 5 looked up
+abbrev pub lookA : Call
+lookA = look (T.Window (record { id = 65624 }))
+
 pub record Case : Type 0 where
   pub question : Question
   pub answer : Answer
@@ -116,19 +138,21 @@ cases =
       answer = judgedAs (refuse 5 3);
     }
     -- 4 on an emptied state: one window, title "A"; delivered again: 9, nothing changed
+    ∷ record { question = endOf (deliver newA ∷ []); answer = left (record { old = []; new = newA ∷ [] }) tableA }
+    ∷ record { question = endOf (deliver newA ∷ deliver newA ∷ []); answer = left (record { old = []; new = newA ∷ [] }) tableA }
     ∷ record {
-      question = askBook (deliver newA ∷ window 65624 ∷ deliver newA ∷ window 65624 ∷ []);
+      question = askBook (deliver newA ∷ lookA ∷ deliver newA ∷ lookA ∷ []);
       answer = bookSays (granted 1 15 nothing ∷ granted 1 15 (body windowA) ∷ refused 9 ∷ granted 1 15 (body windowA) ∷ []);
     }
     -- 5: then the window gone; on an empty table 9
     ∷ record {
-      question = askBook (deliver newA ∷ deliver deleteA ∷ window 65624 ∷ []);
+      question = askBook (deliver newA ∷ deliver deleteA ∷ lookA ∷ []);
       answer = bookSays (granted 1 15 nothing ∷ granted 2 26 nothing ∷ refused 9 ∷ []);
     }
     ∷ record { question = askBook (deliver deleteA ∷ []); answer = bookSays (refused 9 ∷ []) }
     -- 6: desktop none, granted on an empty table; with type byte 05: 4
     ∷ record {
-      question = askBook (deliver (0x2E ∷ 0x07 ∷ 0x00 ∷ 0x01 ∷ 0x00 ∷ 0x00 ∷ 0x04 ∷ []) ∷ desktop ∷ []);
+      question = askBook (deliver (0x2E ∷ 0x07 ∷ 0x00 ∷ 0x01 ∷ 0x00 ∷ 0x00 ∷ 0x04 ∷ []) ∷ look T.Desktop ∷ []);
       answer = bookSays (granted 1 7 nothing ∷ granted 1 7 (body desktopNone) ∷ []);
     }
     ∷ record { question = askBook (deliver (0x2E ∷ 0x07 ∷ 0x00 ∷ 0x01 ∷ 0x00 ∷ 0x00 ∷ 0x05 ∷ []) ∷ []); answer = bookSays (refused 4 ∷ []) }

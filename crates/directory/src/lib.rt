@@ -102,6 +102,18 @@ pub fn judge(dir: &[u8], s: &[u8]) -> Plan
     }
 }
 
+// The number of a plan.
+pub fn number(p: Plan) -> u8
+    ensures { λ r. ⌜ r ≡ numberOf p ⌝ }
+{
+    match p {
+        Plan::ChangeWindow(_) => 0,
+        Plan::ChangeNotification(_) => 0,
+        Plan::ChangeDesktop(_) => 0,
+        Plan::Refuse(n) => n,
+    }
+}
+
 // Notes the change of an order that has been judged.
 pub fn note(dir: &mut [u8], s: &[u8], p: Plan)
     requires { ⌜ (soundDirectory (now dir) ≡ true) × (p ≡ planOf (now dir) (now s)) ⌝ }

@@ -1,6 +1,9 @@
-pub mod Logs
-pub mod Turns
+pub mod Runs
+pub mod Stored
+pub mod Logged
 pub mod Copies
-pub mod Rule
-pub mod Retracing
-pub mod Recalled
+pub mod Replays
+pub mod Validations
+pub mod LoopInvariants
+pub mod Fits
+pub mod Indexed

@@ -7,10 +7,11 @@ use lib.Dec.{ltb}
 use lib.ListN.{length, drop}
 use Rattle.wire.specs.Tests.{pick, both, any}
 use Rattle.table.specs.Memory.{decode, soundTable}
+use Rattle.journal.specs.Limits.{indexLength, bodiesLength, cellsLength, journalLength, mostOrders, logStart}
 use Rattle.journal.specs.State.{State, allAccepted}
 use Rattle.journal.specs.Journal.{countOf, withinFrom, logOf}
 
--- the parts: directory, bodies and cells of the table at the mark; the journal
+-- the parts: index, bodies and cells of the table at the mark; the journal
 pub record Memory : Type 0 where
   pub dir : List ℕ
   pub bodies : List ℕ
@@ -23,21 +24,23 @@ memory dir bodies cells journal = record { dir = dir; bodies = bodies; cells = c
 -- a part is shorter than needed
 abbrev pub tooShort : Memory → Bool
 tooShort m =
-    any (ltb (length (m .dir)) 444 ∷ ltb (length (m .bodies)) 44884 ∷ ltb (length (m .cells)) 50880 ∷ ltb (length (m .journal)) 32770 ∷ [])
+    any
+    (ltb (length (m .dir)) indexLength ∷ ltb (length (m .bodies)) bodiesLength ∷ ltb (length (m .cells)) cellsLength
+    ∷ ltb (length (m .journal)) journalLength ∷ [])
 
 -- the bytes past the needed lengths are as they were
 pub record Past (m m' : Memory) : Type 0 where
-  pub dir : drop 444 (m' .dir) ≡ drop 444 (m .dir)
-  pub bodies : drop 44884 (m' .bodies) ≡ drop 44884 (m .bodies)
-  pub cells : drop 50880 (m' .cells) ≡ drop 50880 (m .cells)
-  pub journal : drop 32770 (m' .journal) ≡ drop 32770 (m .journal)
+  pub dir : drop indexLength (m' .dir) ≡ drop indexLength (m .dir)
+  pub bodies : drop bodiesLength (m' .bodies) ≡ drop bodiesLength (m .bodies)
+  pub cells : drop cellsLength (m' .cells) ≡ drop cellsLength (m .cells)
+  pub journal : drop journalLength (m' .journal) ≡ drop journalLength (m .journal)
 
 -- the table at the mark is one, and the journal's orders lie within the room and are accepted in turn
 unfoldable pub wellFormed : Memory → Bool
 wellFormed m =
     pick (not (soundTable (m .dir) (m .bodies) (m .cells))) false
-    (pick (ltb 128 (countOf (m .journal))) false
-    (pick (not (withinFrom (countOf (m .journal)) 2 (m .journal))) false
+    (pick (ltb mostOrders (countOf (m .journal))) false
+    (pick (not (withinFrom (countOf (m .journal)) logStart (m .journal))) false
     (allAccepted (decode (m .dir) (m .bodies) (m .cells)) (logOf (m .journal)))))
 
 -- document 01's rule: long enough, and well formed

@@ -5,12 +5,12 @@ use mathlib.Core.List.{List, _∷_, _++_}
 use Prim.Native.Nat.{ℕ}
 use lib.ListN.{replicate}
 use Rattle.wire.specs.Numbers.{numAt}
-use Rattle.wire.specs.Parts.{slice}
+use Rattle.wire.specs.Parts.{slice, padded}
 use Rattle.order.specs.Rows.{lenOf, firstOf, okOf}
 use Rattle.order.specs.Icons.{partsOf}
 use Rattle.body.specs.Bodies.{windowFields, desktopFields, fieldIn, fieldsOf, fieldsOk, bodyOf, bodyOk}
 use Rattle.cache.specs.Cells.{pictureOf, cellOk}
-use Rattle.layout.specs.Layouts.{padded, fieldsBytes, recordBytes, pictureBytes}
+use Rattle.layout.specs.Layouts.{fieldsBytes, recordBytes, pictureBytes}
 
 -- hooked and not syncing; active window 00020052; one id in the stacking list, where two stood before
 abbrev desktop : List ℕ

@@ -1,3 +1,4 @@
-pub mod Laid
-pub mod Kept
+pub mod LayoutsWritten
+pub mod LayoutsLossless
+pub mod ValidMemory
 pub mod Examples

@@ -1,3 +1,4 @@
-pub mod Amounts
+pub mod BookState
 pub mod Demand3
 pub mod Wellformed
+pub mod Lossless

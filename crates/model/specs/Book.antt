@@ -9,8 +9,10 @@ use lib.ListN.{length, take}
 use Rattle.wire.specs.Tests.{pick, both}
 use Rattle.directory.specs.Directory.{windows, notifications}
 use Rattle.body.specs.Bodies.{Body}
-use Rattle.table.specs.Table.{Table, emptied, number, after}
-use Rattle.session.specs.Calls.{Call, reset, deliver, checkpoint, undo, window, notification, cell, desktop, Given, nothing, body, picture, Answer}
+use Rattle.table.specs.Table.{Table, emptied, number, after, recordAt, pictureAt}
+use Rattle.journal.specs.Limits.{mostOrders, mostBytes}
+use Rattle.session.specs.declared.LookupTarget.the-variants.{Window, Notification, Cell, Desktop}
+use Rattle.session.specs.Calls.{Call, reset, deliver, checkpoint, undo, look, Payload, nothing, body, picture, Answer}
 
 -- a list of standing orders with a mark in it: those up to the mark, and those after it
 pub record Book : Type 0 where
@@ -33,9 +35,9 @@ unfoldable pub bytesOf : List (List ℕ) → ℕ
 bytesOf [] = 0
 bytesOf (o ∷ os) = length o + bytesOf os
 
--- with o the orders after the mark do not pass 128 or 32,768 bytes
+-- with o the orders after the mark do not pass the history room
 abbrev pub hasRoom : Book → List ℕ → Bool
-hasRoom b o = both (leb (length (b .new) + 1) 128) (leb (bytesOf (b .new) + length o) 32768)
+hasRoom b o = both (leb (length (b .new) + 1) mostOrders) (leb (bytesOf (b .new) + length o) mostBytes)
 
 -- the order joins the end; the mark moves to the end; the last k go
 abbrev pub joined : Book → List ℕ → Book
@@ -53,17 +55,14 @@ bookNext reset b = newBook
 bookNext (deliver o) b = pick (both (eqb (number (tableOf b) o) 0) (hasRoom b o)) (joined b o) b
 bookNext checkpoint b = markMoved b
 bookNext (undo k) b = pick (leb k (length (b .new))) (lastGone k b) b
-bookNext (window id) b = b
-bookNext (notification x y) b = b
-bookNext (cell cache entry) b = b
-bookNext desktop b = b
+bookNext (look target) b = b
 
 -- the count and the bytes are those of the orders after the mark once the call is done
-abbrev pub says : ℕ → Book → Given → Answer
-says n b given = record { number = n; count = length (b .new); bytes = bytesOf (b .new); given = given }
+abbrev pub says : ℕ → Book → Payload → Answer
+says n b payload = record { number = n; count = length (b .new); bytes = bytesOf (b .new); payload = payload }
 
 abbrev pub refuses : ℕ → Answer
-refuses n = record { number = n; count = 0; bytes = 0; given = nothing }
+refuses n = record { number = n; count = 0; bytes = 0; payload = nothing }
 
 abbrev pub givesBody : Book → Option Body → Answer
 givesBody b none = refuses 9
@@ -79,10 +78,11 @@ bookAnswer (deliver o) b =
     pick (eqb (number (tableOf b) o) 0) (pick (hasRoom b o) (says 0 (joined b o) nothing) (refuses 12)) (refuses (number (tableOf b) o))
 bookAnswer checkpoint b = says 0 (markMoved b) nothing
 bookAnswer (undo k) b = pick (leb k (length (b .new))) (says 0 (lastGone k b) nothing) (refuses 13)
-bookAnswer (window id) b = givesBody b (tableOf b .records windows id 0)
-bookAnswer (notification x y) b = givesBody b (tableOf b .records notifications x y)
-bookAnswer (cell cache entry) b = givesPicture b (pick (both (leb cache 1) (leb entry 5)) (tableOf b .cells (6 * cache + entry)) none)
-bookAnswer desktop b = says 0 b (body (tableOf b .desktop))
+bookAnswer (look (Window w)) b = givesBody b (recordAt (tableOf b) windows (w .id) 0)
+bookAnswer (look (Notification w n)) b = givesBody b (recordAt (tableOf b) notifications (w .id) (n .id))
+bookAnswer (look (Cell cache entry)) b =
+    givesPicture b (pick (both (leb cache 1) (leb entry 5)) (pictureAt (tableOf b) (6 * cache + entry)) none)
+bookAnswer (look Desktop) b = says 0 b (body (tableOf b .desktop))
 
 -- over a list of calls
 unfoldable pub bookAfter : List Call → Book → Book

@@ -2,34 +2,42 @@
 -- nothing.
 use mathlib.Core.Path.{_≡_}
 use mathlib.Core.Bool.{false}
-use mathlib.Core.List.{List, [], _∷_}
-use Prim.Native.Nat.{ℕ}
+use mathlib.Core.List.{List, [], _∷_, map}
 use Rattle.journal.specs.State.{State, present}
 use Rattle.journal.specs.View.{Memory, tooShort, formed, viewOf}
 use Rattle.session.specs.Calls.{Call, reset, Answer}
-use Rattle.session.specs.Replies.{Shown, shown, Stepped}
+use Rattle.session.specs.Outcome.{Request, plain, Response, responseOf, CallOutcome}
 use Rattle.model.specs.Book.{Book, newBook, tableOf, bookAfter, bookAnswers}
 
--- a run of calls: each meets its entry point's statement
-pub data Calls : Memory → List Call → List Shown → Memory → Type 0 where
+-- a run of calls: each meets its entry point's statement, on the output memory lent to it
+pub data Calls : Memory → List Request → List Response → Memory → Type 0 where
   none : {m : Memory} → Calls m [] [] m
-  more : {m n e : Memory} {c : Call} {r : Shown} {cs : List Call} {rs : List Shown} → Stepped c m r n → Calls n cs rs e → Calls m (c ∷ cs) (r ∷ rs) e
+  more : {m n e : Memory} {q : Request} {r : Response} {qs : List Request} {rs : List Response} → CallOutcome q m r n → Calls n qs rs e → Calls m (q ∷ qs) (r ∷ rs) e
 
--- what the entry points show of answers
-unfoldable pub allShown : List Call → List Answer → List Shown
-allShown [] rs = []
-allShown (c ∷ cs) [] = []
-allShown (c ∷ cs) (a ∷ rs) = shown c a ∷ allShown cs rs
+abbrev pub callsIn : List Request → List Call
+callsIn qs = map (λ (q : Request). q .call) qs
 
--- the answers are the book's, and the memory at the end describes the book's table and its orders after the mark
-pub record AsBook (cs : List Call) (rs : List Shown) (e : Memory) : Type 0 where
-  pub answers : rs ≡ allShown cs (bookAnswers cs newBook)
+-- what the entry points respond, given the answers
+unfoldable pub responsesOf : List Request → List Answer → List Response
+responsesOf [] answers = []
+responsesOf (q ∷ qs) [] = []
+responsesOf (q ∷ qs) (a ∷ answers) = responseOf q a ∷ responsesOf qs answers
+
+-- memory describes the book's table and its orders after the mark
+pub record DescribesBook (e : Memory) (b : Book) : Type 0 where
   pub state : State
   pub describes : viewOf e ≡ formed state
-  pub table : present state ≡ tableOf (bookAfter cs newBook)
-  pub since : state .log ≡ bookAfter cs newBook .new
+  pub table : present state ≡ tableOf b
+  pub since : state .log ≡ b .new
+
+-- the responses are the book's, and the memory at the end describes the book
+pub record AsBook (qs : List Request) (rs : List Response) (e : Memory) : Type 0 where
+  pub answers : rs ≡ responsesOf qs (bookAnswers (callsIn qs) newBook)
+  pub holds : DescribesBook e (bookAfter (callsIn qs) newBook)
 
 -- memory of the measure is emptied, and then any list of calls follows, refused ones among them
 unfoldable pub Demand3 : Type 0
 Demand3 =
-    (m n e : Memory) (r : Shown) (cs : List Call) (rs : List Shown) → tooShort m ≡ false → Stepped reset m r n → Calls n cs rs e → AsBook cs rs e
+    (m n e : Memory) (r : Response) (qs : List Request) (rs : List Response) → tooShort m ≡ false → CallOutcome (plain reset) m r n
+    → Calls n qs rs e
+    → AsBook qs rs e

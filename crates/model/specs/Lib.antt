@@ -1,3 +1,4 @@
 pub mod Book
 pub mod Claim
 pub mod Wellformed
+pub mod Lossless

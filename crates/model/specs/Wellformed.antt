@@ -6,11 +6,11 @@ use mathlib.Core.Bool.{true, false}
 use mathlib.Core.List.{[]}
 use lib.ListN.{length}
 use Rattle.table.specs.Table.{emptied}
+use Rattle.journal.specs.Limits.{mostOrders, mostBytes}
 use Rattle.journal.specs.State.{State, bytesIn, allAccepted}
 use Rattle.journal.specs.View.{Memory, tooShort, wellFormed, formed, viewOf}
-use Rattle.session.specs.declared.Reply.{Reply}
 use Rattle.session.specs.Calls.{Call, reset, Answer, next, answerView}
-use Rattle.session.specs.Replies.{Shown, plain, Stepped}
+use Rattle.session.specs.Outcome.{Request, plain, Response, replied, CallOutcome}
 
 pub record Meets (m : Memory) : Type 0 where
   pub long : tooShort m ≡ false
@@ -23,16 +23,16 @@ emptiedState = record { marked = emptied; log = [] }
 -- emptying is granted where no part is too short
 unfoldable pub EmptyingGranted : Type 0
 EmptyingGranted =
-    (m n : Memory) (r : Shown) → tooShort m ≡ false → Stepped reset m r n → r ≡ plain (record { number = 0; count = 0; bytes = 0 })
+    (m n : Memory) (r : Response) → tooShort m ≡ false → CallOutcome (plain reset) m r n → r ≡ replied (record { number = 0; count = 0; bytes = 0 })
 
 -- and where it is granted, what it leaves meets the rule
 unfoldable pub EmptiedMeets : Type 0
-EmptiedMeets = (m n : Memory) (r : Reply) → Stepped reset m (plain r) n → r .number ≡ 0 → Meets n × (viewOf n ≡ formed emptiedState)
+EmptiedMeets = (m n : Memory) (r : Response) → CallOutcome (plain reset) m r n → r .reply .number ≡ 0 → Meets n × (viewOf n ≡ formed emptiedState)
 
 -- each call, refused or not
 unfoldable pub CallsKeep : Type 0
 CallsKeep =
-    (c : Call) (m n : Memory) (r : Shown) (s : State) → Stepped c m r n → viewOf m ≡ formed s → Meets n × (viewOf n ≡ formed (next c s))
+    (q : Request) (m n : Memory) (r : Response) (s : State) → CallOutcome q m r n → viewOf m ≡ formed s → Meets n × (viewOf n ≡ formed (next (q .call) s))
 
 -- some state, no other, its orders are accepted in turn from its table at the mark on, and they fit the history room
 pub record Describes (m : Memory) : Type 0 where
@@ -40,8 +40,8 @@ pub record Describes (m : Memory) : Type 0 where
   pub described : viewOf m ≡ formed state
   pub only : (s : State) → viewOf m ≡ formed s → s ≡ state
   pub accepted : allAccepted (state .marked) (state .log) ≡ true
-  pub few : length (state .log) ≤ 128
-  pub bytes : bytesIn (state .log) ≤ 32768
+  pub few : length (state .log) ≤ mostOrders
+  pub bytes : bytesIn (state .log) ≤ mostBytes
 
 unfoldable pub OneState : Type 0
 OneState = (m : Memory) → Meets m → Describes m
@@ -52,7 +52,7 @@ OnlyMeets = (m : Memory) (s : State) → viewOf m ≡ formed s → Meets m
 
 -- what any call reports fits the history room, whatever the memory
 abbrev pub Fits : Answer → Type 0
-Fits a = (a .count ≤ 128) × (a .bytes ≤ 32768)
+Fits a = (a .count ≤ mostOrders) × (a .bytes ≤ mostBytes)
 
 unfoldable pub RepliesFit : Type 0
 RepliesFit = (c : Call) (m : Memory) → Fits (answerView c (viewOf m))

@@ -8,7 +8,7 @@ use crate::Fit;
 use crate::IconParts;
 use crate::rows::first_bad;
 
-fn has_table(bits: u8) -> bool
+pub fn has_table(bits: u8) -> bool
     ensures { λ r. ⌜ r ≡ tabled bits ⌝ }
 {
     (bits == 1) | (bits == 4) | (bits == 8)

@@ -2,7 +2,8 @@
 ghost use Rattle.journal.specs.View.{memory};
 ghost use Rattle.run.specs.Script.{Runs};
 
-// Empties the state memory and does the script's calls on it, each answer in a block of the output: how many are done.
+// Empties the state memory and does the script's calls on it, each answer in a block of the output: the number with which the run
+// ends, and 256 times the calls done.
 #[no_mangle]
 pub extern "C" fn rail_run(
     dir: &mut [u8],
@@ -14,6 +15,5 @@ pub extern "C" fn rail_run(
 ) -> u64
     ensures { λ r. ⌜ Runs (now (script .entry)) (memory (now (dir .entry)) (now (bodies .entry)) (now (cells .entry)) (now (journal .entry))) (now (out .entry)) r (memory (now (dir .exit)) (now (bodies .exit)) (now (cells .exit)) (now (journal .exit))) (now (out .exit)) ⌝ }
 {
-    let n = run::run(dir, bodies, cells, journal, script, out);
-    n as u64
+    run::run(dir, bodies, cells, journal, script, out)
 }

@@ -1,20 +1,17 @@
-// The state calls and lookups for C.
+// The state calls and lookups for C: each reply as one number.
+ghost use mathlib.Core.List.{[]};
 ghost use mathlib.Core.Path.{_≡_};
 ghost use Rattle.journal.specs.View.{memory};
-ghost use Rattle.session.specs.Calls.{reset, deliver, checkpoint, undo, window, notification, cell, desktop};
-ghost use Rattle.rail.specs.States.{packedOf, sizeOf, CallExport, LookupExport};
+ghost use Rattle.session.specs.Calls.{reset, deliver, checkpoint, undo};
+ghost use Rattle.session.specs.Outcome.{plain, lookup};
+ghost use Rattle.session.specs.declared.LookupTarget.the-variants.{Window, Notification, Cell, Desktop};
+ghost use Rattle.rail.specs.States.{sizeOf, Exported};
 use ids::NotifyIconId;
 use ids::WindowId;
-use session::Reply;
+use session::LookupTarget;
 use session::calls;
-use session::handouts;
-
-// A reply as one number: the number, 256 times the count, 65,536 times the bytes.
-fn packed(r: Reply) -> u32
-    ensures { λ n. ⌜ n ≡ packedOf r ⌝ }
-{
-    (r.number as u32) + 256 * (r.count % 256) + 65536 * (r.bytes % 65536)
-}
+use session::lookups::look;
+use session::packed::packed;
 
 // The bytes of a part of the state memory, or of a record.
 #[no_mangle]
@@ -41,7 +38,7 @@ pub extern "C" fn rail_reset(
     cells: &[u8],
     journal: &mut [u8],
 ) -> u32
-    ensures { λ r. ⌜ CallExport reset (memory (now (dir .entry)) (now (bodies .entry)) (now (cells .entry)) (now (journal .entry))) r (memory (now (dir .exit)) (now (bodies .exit)) (now (cells .entry)) (now (journal .exit))) ⌝ }
+    ensures { λ r. ⌜ Exported (plain reset) (memory (now (dir .entry)) (now (bodies .entry)) (now (cells .entry)) (now (journal .entry))) r [] (memory (now (dir .exit)) (now (bodies .exit)) (now (cells .entry)) (now (journal .exit))) ⌝ }
 {
     let r = calls::reset(dir, bodies, cells, journal);
     packed(r)
@@ -55,7 +52,7 @@ pub extern "C" fn rail_deliver(
     journal: &mut [u8],
     order: &[u8],
 ) -> u32
-    ensures { λ r. ⌜ CallExport (deliver (now (order .entry))) (memory (now (dir .entry)) (now (bodies .entry)) (now (cells .entry)) (now (journal .entry))) r (memory (now (dir .entry)) (now (bodies .entry)) (now (cells .entry)) (now (journal .exit))) ⌝ }
+    ensures { λ r. ⌜ Exported (plain (deliver (now (order .entry)))) (memory (now (dir .entry)) (now (bodies .entry)) (now (cells .entry)) (now (journal .entry))) r [] (memory (now (dir .entry)) (now (bodies .entry)) (now (cells .entry)) (now (journal .exit))) ⌝ }
 {
     let r = calls::deliver(dir, bodies, cells, journal, order);
     packed(r)
@@ -68,7 +65,7 @@ pub extern "C" fn rail_checkpoint(
     cells: &mut [u8],
     journal: &mut [u8],
 ) -> u32
-    ensures { λ r. ⌜ CallExport checkpoint (memory (now (dir .entry)) (now (bodies .entry)) (now (cells .entry)) (now (journal .entry))) r (memory (now (dir .exit)) (now (bodies .exit)) (now (cells .exit)) (now (journal .exit))) ⌝ }
+    ensures { λ r. ⌜ Exported (plain checkpoint) (memory (now (dir .entry)) (now (bodies .entry)) (now (cells .entry)) (now (journal .entry))) r [] (memory (now (dir .exit)) (now (bodies .exit)) (now (cells .exit)) (now (journal .exit))) ⌝ }
 {
     let r = calls::checkpoint(dir, bodies, cells, journal);
     packed(r)
@@ -82,7 +79,7 @@ pub extern "C" fn rail_undo(
     journal: &mut [u8],
     k: u64,
 ) -> u32
-    ensures { λ r. ⌜ CallExport (undo k) (memory (now (dir .entry)) (now (bodies .entry)) (now (cells .entry)) (now (journal .entry))) r (memory (now (dir .entry)) (now (bodies .entry)) (now (cells .entry)) (now (journal .exit))) ⌝ }
+    ensures { λ r. ⌜ Exported (plain (undo k)) (memory (now (dir .entry)) (now (bodies .entry)) (now (cells .entry)) (now (journal .entry))) r [] (memory (now (dir .entry)) (now (bodies .entry)) (now (cells .entry)) (now (journal .exit))) ⌝ }
 {
     let r = calls::undo(dir, bodies, cells, journal, k);
     packed(r)
@@ -97,10 +94,10 @@ pub extern "C" fn rail_window(
     id: u32,
     out: &mut [u8],
 ) -> u32
-    ensures { λ r. ⌜ LookupExport (window id) (memory (now (dir .entry)) (now (bodies .entry)) (now (cells .entry)) (now (journal .entry))) (now (out .entry)) r (now (out .exit)) ⌝ }
+    ensures { λ r. ⌜ Exported (lookup (Window (record { id = id })) (now (out .entry))) (memory (now (dir .entry)) (now (bodies .entry)) (now (cells .entry)) (now (journal .entry))) r (now (out .exit)) (memory (now (dir .entry)) (now (bodies .entry)) (now (cells .entry)) (now (journal .entry))) ⌝ }
 {
-    let id = WindowId { id };
-    let r = handouts::window(dir, bodies, cells, journal, id, out);
+    let target = LookupTarget::Window(WindowId { id });
+    let r = look(dir, bodies, cells, journal, target, out);
     packed(r)
 }
 
@@ -114,11 +111,10 @@ pub extern "C" fn rail_notification(
     icon: u32,
     out: &mut [u8],
 ) -> u32
-    ensures { λ r. ⌜ LookupExport (notification id icon) (memory (now (dir .entry)) (now (bodies .entry)) (now (cells .entry)) (now (journal .entry))) (now (out .entry)) r (now (out .exit)) ⌝ }
+    ensures { λ r. ⌜ Exported (lookup (Notification (record { id = id }) (record { id = icon })) (now (out .entry))) (memory (now (dir .entry)) (now (bodies .entry)) (now (cells .entry)) (now (journal .entry))) r (now (out .exit)) (memory (now (dir .entry)) (now (bodies .entry)) (now (cells .entry)) (now (journal .entry))) ⌝ }
 {
-    let id = WindowId { id };
-    let icon = NotifyIconId { id: icon };
-    let r = handouts::notification(dir, bodies, cells, journal, id, icon, out);
+    let target = LookupTarget::Notification(WindowId { id }, NotifyIconId { id: icon });
+    let r = look(dir, bodies, cells, journal, target, out);
     packed(r)
 }
 
@@ -132,9 +128,10 @@ pub extern "C" fn rail_cell(
     entry: u16,
     out: &mut [u8],
 ) -> u32
-    ensures { λ r. ⌜ LookupExport (cell cache entry) (memory (now (dir .entry)) (now (bodies .entry)) (now (cells .entry)) (now (journal .entry))) (now (out .entry)) r (now (out .exit)) ⌝ }
+    ensures { λ r. ⌜ Exported (lookup (Cell cache entry) (now (out .entry))) (memory (now (dir .entry)) (now (bodies .entry)) (now (cells .entry)) (now (journal .entry))) r (now (out .exit)) (memory (now (dir .entry)) (now (bodies .entry)) (now (cells .entry)) (now (journal .entry))) ⌝ }
 {
-    let r = handouts::cell(dir, bodies, cells, journal, cache, entry, out);
+    let target = LookupTarget::Cell(cache, entry);
+    let r = look(dir, bodies, cells, journal, target, out);
     packed(r)
 }
 
@@ -146,8 +143,8 @@ pub extern "C" fn rail_desktop(
     journal: &[u8],
     out: &mut [u8],
 ) -> u32
-    ensures { λ r. ⌜ LookupExport desktop (memory (now (dir .entry)) (now (bodies .entry)) (now (cells .entry)) (now (journal .entry))) (now (out .entry)) r (now (out .exit)) ⌝ }
+    ensures { λ r. ⌜ Exported (lookup Desktop (now (out .entry))) (memory (now (dir .entry)) (now (bodies .entry)) (now (cells .entry)) (now (journal .entry))) r (now (out .exit)) (memory (now (dir .entry)) (now (bodies .entry)) (now (cells .entry)) (now (journal .entry))) ⌝ }
 {
-    let r = handouts::desktop(dir, bodies, cells, journal, out);
+    let r = look(dir, bodies, cells, journal, LookupTarget::Desktop, out);
     packed(r)
 }

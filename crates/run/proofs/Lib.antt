@@ -1,3 +1,3 @@
-pub mod Blocks
-pub mod Scripts
-pub mod Turns
+pub mod Calls
+pub mod Ends
+pub mod RunLoop

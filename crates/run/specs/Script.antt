@@ -1,96 +1,129 @@
 -- DEMAND 3 on running code: a list of calls as bytes, the answers as bytes, and what running the one gives of the other. Assumes
 -- nothing.
-use Prim.Native.Nat.{ℕ, zero, suc, _+_, _*_, _-_, _%_}
+use Prim.Native.Nat.{ℕ, zero, suc, _+_, _*_, _-_, _/_, _%_, _<_}
 use mathlib.Core.Path.{_≡_}
-use mathlib.Core.Bool.{Bool, true, false}
+use mathlib.Core.Bool.{true, false}
 use mathlib.Core.List.{List, [], _∷_, _++_, map, flatten}
-use lib.Dec.{eqb, leb}
+use mathlib.Core.Option.{Option, none, some}
+use lib.Dec.{eqb, ltb}
 use lib.ListN.{length, drop, replicate}
-use Rattle.wire.specs.Tests.{pick, both}
+use Rattle.wire.specs.Tests.{pick}
 use Rattle.wire.specs.Parts.{slice, splice}
 use Rattle.wire.specs.Numbers.{numAt, bytesOf}
-use Rattle.journal.specs.State.{State, present}
-use Rattle.journal.specs.View.{Memory, tooShort, formed, viewOf}
-use Rattle.session.specs.declared.Reply.{Reply}
-use Rattle.session.specs.Calls.{Call, reset, deliver, checkpoint, undo, window, notification, cell, desktop, Answer}
-use Rattle.session.specs.Replies.{replyOf}
-use Rattle.session.specs.Handouts.{neededFor, handedAfter}
-use Rattle.model.specs.Book.{newBook, tableOf, bookAfter, bookAnswers}
+use Rattle.journal.specs.View.{Memory, Past, tooShort}
+use Rattle.session.specs.declared.LookupTarget.{LookupTarget}
+use Rattle.session.specs.declared.LookupTarget.the-variants.{Window, Notification, Cell, Desktop}
+use Rattle.session.specs.Calls.{Call, reset, deliver, checkpoint, undo, look}
+use Rattle.session.specs.Outcome.{Request, Response, neededFor}
+use Rattle.session.specs.Packed.{packedOf}
+use Rattle.model.specs.Book.{newBook, bookAfter, bookAnswers}
+use Rattle.model.specs.Claim.{responsesOf, DescribesBook}
 
--- ---- a script: calls, each its kind (1 byte), the size of what it carries (2) and so many bytes; a byte that is missing counts 0
+-- ---- a script: items, each its kind (1 byte), the size of what it carries (2) and so many bytes; what is missing of a call's
+-- numbers counts 0
 
 -- 4: a window; 5: a notification icon; 6: a cell, by cache and entry; 7: the desktop
-unfoldable pub lookupOf : ℕ → List ℕ → Call
-lookupOf kind arg =
-    pick (eqb kind 4) (window (numAt 4 arg 0))
-    (pick (eqb kind 5) (notification (numAt 4 arg 0) (numAt 4 arg 4))
-    (pick (eqb kind 6) (cell (numAt 1 arg 0) (numAt 2 arg 1)) desktop))
+unfoldable pub targetOf : ℕ → List ℕ → LookupTarget
+targetOf kind arg =
+    pick (eqb kind 4) (Window (record { id = numAt 4 arg 0 }))
+    (pick (eqb kind 5) (Notification (record { id = numAt 4 arg 0 }) (record { id = numAt 4 arg 4 }))
+    (pick (eqb kind 6) (Cell (numAt 1 arg 0) (numAt 2 arg 1)) Desktop))
 
--- 1: a delivery; 2: a mark; 3: a step back; any other: an emptying
+-- 0: an emptying; 1: a delivery; 2: a mark; 3: a step back
 unfoldable pub changeOf : ℕ → List ℕ → Call
 changeOf kind arg =
-    pick (eqb kind 1) (deliver arg)
-    (pick (eqb kind 2) checkpoint
-    (pick (eqb kind 3) (undo (numAt 8 arg 0)) reset))
-
-abbrev pub isLookup : ℕ → Bool
-isLookup kind = both (leb 4 kind) (leb kind 7)
+    pick (eqb kind 0) reset
+    (pick (eqb kind 1) (deliver arg)
+    (pick (eqb kind 2) checkpoint (undo (numAt 8 arg 0))))
 
 unfoldable pub callOf : ℕ → List ℕ → Call
-callOf kind arg = pick (isLookup kind) (lookupOf kind arg) (changeOf kind arg)
+callOf kind arg = pick (ltb kind 4) (changeOf kind arg) (look (targetOf kind arg))
 
--- the first call of a script, and the bytes that it takes
+-- the first item of a script: its kind, its bytes in all, and its call
+abbrev pub kindOf : List ℕ → ℕ
+kindOf s = numAt 1 s 0
+
+abbrev pub itemLength : List ℕ → ℕ
+itemLength s = 3 + numAt 2 s 1
+
 unfoldable pub firstCall : List ℕ → Call
-firstCall s = callOf (numAt 1 s 0) (slice s 3 (numAt 2 s 1))
+firstCall s = callOf (kindOf s) (slice s 3 (numAt 2 s 1))
 
-abbrev pub firstLength : List ℕ → ℕ
-firstLength s = 3 + numAt 2 s 1
+-- ---- the answers: a block for each call, of fixed size
 
--- the list ends where no whole call is left; at most f calls are read
-unfoldable pub callsFrom : ℕ → List ℕ → List Call
-callsFrom zero s = []
-callsFrom (suc f) s = pick (leb (firstLength s) (length s)) (firstCall s ∷ callsFrom f (drop (firstLength s) s)) []
+-- a lookup is lent zeros, which are left where it is refused
+abbrev pub requestOf : Call → Request
+requestOf c = record { call = c; out = replicate (neededFor c) 0 }
 
-unfoldable pub callsOf : List ℕ → List Call
-callsOf s = callsFrom (length s) s
-
--- ---- the answers: a block for each, of fixed size
-
--- the number (1 byte), the count (1) and the bytes (2)
-abbrev pub headOf : Reply → List ℕ
-headOf r = bytesOf 4 (r .number + 256 * (r .count % 256) + 65536 * (r .bytes % 65536))
+-- the packed reply (4 bytes), then what a lookup hands out
+abbrev pub blockOf : Response → List ℕ
+blockOf r = bytesOf 4 (packedOf (r .reply)) ++ r .out
 
 abbrev pub blockLength : Call → ℕ
 blockLength c = 4 + neededFor c
 
--- then what a lookup hands out, in a field of zeros, which are left where it is refused
-unfoldable pub blockOf : Call → Answer → List ℕ
-blockOf c a = headOf (replyOf a) ++ handedAfter c a (replicate (neededFor c) 0)
-
-unfoldable pub blocksOf : List Call → List Answer → List (List ℕ)
-blocksOf [] rs = []
-blocksOf (c ∷ cs) [] = []
-blocksOf (c ∷ cs) (a ∷ rs) = blockOf c a ∷ blocksOf cs rs
+-- the book's
+abbrev pub blocksOf : List Call → List (List ℕ)
+blocksOf calls = map blockOf (responsesOf (map requestOf calls) (bookAnswers calls newBook))
 
 -- ---- a run
 
--- the calls, in turn, for whose blocks there is room
-unfoldable pub doneOf : List Call → ℕ → List Call
-doneOf [] room = []
-doneOf (c ∷ cs) room = pick (leb (blockLength c) room) (c ∷ doneOf cs (room - blockLength c)) []
+-- the number with which it ends before the first item of s, given the room that is left for blocks: 0 at the end of the script, 2
+-- for fewer than 3 bytes, 3 for an item that is cut, 4 for an unknown kind, 14 for too little room; none where its call is done
+unfoldable pub endsWith : List ℕ → ℕ → Option ℕ
+endsWith s room =
+    pick (eqb (length s) 0) (some 0)
+    (pick (ltb (length s) 3) (some 2)
+    (pick (ltb (length s) (itemLength s)) (some 3)
+    (pick (ltb 7 (kindOf s)) (some 4)
+    (pick (ltb room (blockLength (firstCall s))) (some 14) none))))
 
--- cs are done: the output begins with the blocks of the book's answers, each of its call's size, and the memory describes the
--- book's table and its orders after the mark
-pub record RunAs (cs : List Call) (out : List ℕ) (r : ℕ) (e : Memory) (out' : List ℕ) : Type 0 where
-  pub calls : r ≡ length cs
-  pub answers : out' ≡ splice out 0 (flatten (blocksOf cs (bookAnswers cs newBook)))
-  pub sizes : map length (blocksOf cs (bookAnswers cs newBook)) ≡ map blockLength cs
-  pub state : State
-  pub describes : viewOf e ≡ formed state
-  pub table : present state ≡ tableOf (bookAfter cs newBook)
-  pub since : state .log ≡ bookAfter cs newBook .new
+-- the calls that are done, and the number with which the run ends
+pub record Course : Type 0 where
+  pub calls : List Call
+  pub number : ℕ
+
+abbrev pub endsHere : ℕ → Course
+endsHere n = record { calls = []; number = n }
+
+abbrev pub callFirst : Call → Course → Course
+callFirst c p = record { calls = c ∷ p .calls; number = p .number }
+
+abbrev pub unlessEnds : Option ℕ → Course → Course
+unlessEnds none p = p
+unlessEnds (some n) p = endsHere n
+
+-- at most f calls; a script has fewer calls than bytes
+unfoldable pub courseFrom : ℕ → List ℕ → ℕ → Course
+courseFrom zero s room = endsHere 0
+courseFrom (suc f) s room =
+    unlessEnds (endsWith s room) (callFirst (firstCall s) (courseFrom f (drop (itemLength s) s) (room - blockLength (firstCall s))))
+
+unfoldable pub courseOf : List ℕ → ℕ → Course
+courseOf s room = courseFrom (length s) s room
+
+-- the answer as one number: the number, and 256 times the calls done (modulo 2^56)
+abbrev pub packedRun : Course → ℕ
+packedRun p = p .number + 256 * (length (p .calls) % 0x100000000000000)
+
+-- so a caller takes it apart again
+pub record RunUnpacked (p : Course) : Type 0 where
+  pub number : packedRun p % 256 ≡ p .number
+  pub calls : packedRun p / 256 ≡ length (p .calls)
+
+unfoldable pub RunUnpacks : Type 0
+RunUnpacks = (p : Course) → p .number < 256 → length (p .calls) < 0x100000000000000 → RunUnpacked p
+
+-- its calls are done: the output begins with the blocks of the book's answers, each of its call's size, the memory describes the
+-- book, and the bytes past the needed lengths are as they were
+pub record RunAs (p : Course) (m : Memory) (out : List ℕ) (r : ℕ) (e : Memory) (out' : List ℕ) : Type 0 where
+  pub says : r ≡ packedRun p
+  pub answers : out' ≡ splice out 0 (flatten (blocksOf (p .calls)))
+  pub sizes : map length (blocksOf (p .calls)) ≡ map blockLength (p .calls)
+  pub holds : DescribesBook e (bookAfter (p .calls) newBook)
+  pub past : Past m e
 
 -- a run of the script s on the memory m, which is emptied first; where that is refused nothing changes
 pub record Runs (s : List ℕ) (m : Memory) (out : List ℕ) (r : ℕ) (e : Memory) (out' : List ℕ) : Type 0 where
-  pub refused : tooShort m ≡ true → (r ≡ 0) × (e ≡ m) × (out' ≡ out)
-  pub ran : tooShort m ≡ false → RunAs (doneOf (callsOf s) (length out)) out r e out'
+  pub refused : tooShort m ≡ true → (r ≡ 1) × (e ≡ m) × (out' ≡ out)
+  pub ran : tooShort m ≡ false → RunAs (courseOf s (length out)) m out r e out'

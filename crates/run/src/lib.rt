@@ -2,16 +2,16 @@
 ghost use mathlib.Core.Path.{_≡_};
 ghost use Prim.Native.Nat.{_≤_};
 ghost use lib.ListN.{length, drop};
-ghost use Rattle.wire.specs.Parts.{splice};
 ghost use Rattle.wire.specs.Numbers.{numAt};
 ghost use Rattle.journal.specs.View.{memory, formed, viewOf};
-ghost use Rattle.session.specs.Replies.{plain, Stepped};
-ghost use Rattle.session.specs.Handouts.{Handed};
+ghost use Rattle.session.specs.Calls.{look};
+ghost use Rattle.session.specs.Outcome.{replied, CallOutcome};
 ghost use Rattle.model.specs.Wellformed.{emptiedState};
-ghost use Rattle.run.specs.Script.{lookupOf, changeOf, callOf, callsOf, headOf, blockLength, doneOf, RunAs, Runs};
-ghost use Rattle.run.specs.Steps.{Takes, nextLength, Done};
+ghost use Rattle.run.specs.Script.{targetOf, changeOf, callOf, requestOf, blockLength, endsWith, courseOf, RunAs, Runs};
+ghost use Rattle.run.specs.Steps.{Takes, endNumber, Done};
 use ids::NotifyIconId;
 use ids::WindowId;
+use session::LookupTarget;
 use session::Reply;
 
 // The number of 8 bytes at the start; a byte past the end counts 0.
@@ -23,7 +23,7 @@ fn read_u64(s: &[u8]) -> u64
     low + 4294967296 * high
 }
 
-// Kinds 1, 2 and 3 and, for any other, an emptying.
+// Kinds 0 to 3.
 fn change(
     dir: &mut [u8],
     bodies: &mut [u8],
@@ -32,65 +32,48 @@ fn change(
     kind: u8,
     arg: &[u8],
 ) -> Reply
-    ensures { λ r. ⌜ Stepped (changeOf kind (now (arg .entry))) (memory (now (dir .entry)) (now (bodies .entry)) (now (cells .entry)) (now (journal .entry))) (plain r) (memory (now (dir .exit)) (now (bodies .exit)) (now (cells .exit)) (now (journal .exit))) ⌝ }
+    ensures { λ r. ⌜ CallOutcome (requestOf (changeOf kind (now (arg .entry)))) (memory (now (dir .entry)) (now (bodies .entry)) (now (cells .entry)) (now (journal .entry))) (replied r) (memory (now (dir .exit)) (now (bodies .exit)) (now (cells .exit)) (now (journal .exit))) ⌝ }
 {
+    if kind == 0 {
+        return session::calls::reset(dir, bodies, cells, journal);
+    }
     if kind == 1 {
         return session::calls::deliver(dir, bodies, cells, journal, arg);
     }
     if kind == 2 {
         return session::calls::checkpoint(dir, bodies, cells, journal);
     }
-    if kind == 3 {
-        let k = read_u64(arg);
-        return session::calls::undo(dir, bodies, cells, journal, k);
-    }
-    session::calls::reset(dir, bodies, cells, journal)
+    let k = read_u64(arg);
+    session::calls::undo(dir, bodies, cells, journal, k)
 }
 
-// Kinds 4 to 7.
-fn look_up(
-    dir: &[u8],
-    bodies: &[u8],
-    cells: &[u8],
-    journal: &[u8],
-    kind: u8,
-    arg: &[u8],
-    out: &mut [u8],
-) -> Reply
-    ensures { λ r. ⌜ Handed (lookupOf kind (now (arg .entry))) (memory (now (dir .entry)) (now (bodies .entry)) (now (cells .entry)) (now (journal .entry))) (now (out .entry)) r (now (out .exit)) ⌝ }
+// What a lookup of kinds 4 to 7 looks for.
+fn target_of(kind: u8, arg: &[u8]) -> LookupTarget
+    ensures { λ r. ⌜ r ≡ targetOf kind (now (arg .entry)) ⌝ }
 {
-    let first = wire::read_u32(arg, 0);
-    let id = WindowId { id: first };
+    let id = wire::read_u32(arg, 0);
     if kind == 4 {
-        return session::handouts::window(dir, bodies, cells, journal, id, out);
+        return LookupTarget::Window(WindowId { id });
     }
     if kind == 5 {
-        let second = wire::read_u32(arg, 4);
-        let icon = NotifyIconId { id: second };
-        return session::handouts::notification(dir, bodies, cells, journal, id, icon, out);
+        let icon = wire::read_u32(arg, 4);
+        return LookupTarget::Notification(WindowId { id }, NotifyIconId { id: icon });
     }
     if kind == 6 {
         let cache = wire::read_u8(arg, 0);
         let entry = wire::read_u16(arg, 1);
-        return session::handouts::cell(dir, bodies, cells, journal, cache, entry, out);
+        return LookupTarget::Cell(cache, entry);
     }
-    session::handouts::desktop(dir, bodies, cells, journal, out)
-}
-
-// Writes the number, the count and the bytes of a reply.
-fn put_head(out: &mut [u8], r: Reply)
-    requires { ⌜ 4 ≤ length (now out) ⌝ }
-    ensures { λ _. ⌜ now (out .exit) ≡ splice (now (out .entry)) 0 (headOf r) ⌝ }
-{
-    let number = r.number as u32;
-    let v = number + 256 * (r.count % 256) + 65536 * (r.bytes % 65536);
-    wire::write_u32(out, 0, v);
+    LookupTarget::Desktop
 }
 
 // The bytes that the block of a call takes.
 fn block_length(kind: u8) -> usize
     ensures { λ r. ⌜ Takes kind r ⌝ }
 {
+    if kind < 4 {
+        return 4;
+    }
     if kind == 4 {
         return 4 + layout::WINDOW;
     }
@@ -100,29 +83,26 @@ fn block_length(kind: u8) -> usize
     if kind == 6 {
         return 4 + layout::PICTURE;
     }
-    if kind == 7 {
-        return 4 + layout::DESKTOP;
-    }
-    4
+    4 + layout::DESKTOP
 }
 
-// A lookup and its block.
-fn look_up_block(
+// A lookup and its block: the reply is put before what it hands out in a field of zeros.
+fn look_up(
     dir: &[u8],
     bodies: &[u8],
     cells: &[u8],
     journal: &[u8],
-    kind: u8,
-    arg: &[u8],
+    target: LookupTarget,
     out: &mut [u8],
 )
-    requires { ⌜ length (now out) ≡ blockLength (lookupOf kind (now arg)) ⌝ }
-    ensures { λ _. ⌜ Done (lookupOf kind (now (arg .entry))) (memory (now (dir .entry)) (now (bodies .entry)) (now (cells .entry)) (now (journal .entry))) (memory (now (dir .entry)) (now (bodies .entry)) (now (cells .entry)) (now (journal .entry))) (now (out .exit)) ⌝ }
+    requires { ⌜ length (now out) ≡ blockLength (look target) ⌝ }
+    ensures { λ _. ⌜ Done (look target) (memory (now (dir .entry)) (now (bodies .entry)) (now (cells .entry)) (now (journal .entry))) (memory (now (dir .entry)) (now (bodies .entry)) (now (cells .entry)) (now (journal .entry))) (now (out .exit)) ⌝ }
 {
     let end = out.len();
-    layout::clear(out, 0, end);
-    let r = look_up(dir, bodies, cells, journal, kind, arg, &mut out[4..end]);
-    put_head(out, r);
+    wire::clear(out, 0, end);
+    let r = session::lookups::look(dir, bodies, cells, journal, target, &mut out[4..end]);
+    let head = session::packed::packed(r);
+    wire::write_u32(out, 0, head);
 }
 
 // A call and its block.
@@ -138,30 +118,40 @@ fn call(
     requires { ⌜ length (now out) ≡ blockLength (callOf kind (now arg)) ⌝ }
     ensures { λ _. ⌜ Done (callOf kind (now (arg .entry))) (memory (now (dir .entry)) (now (bodies .entry)) (now (cells .entry)) (now (journal .entry))) (memory (now (dir .exit)) (now (bodies .exit)) (now (cells .exit)) (now (journal .exit))) (now (out .exit)) ⌝ }
 {
-    if (4 <= kind) & (kind <= 7) {
-        look_up_block(dir, bodies, cells, journal, kind, arg, out);
-    } else {
+    if kind < 4 {
         let r = change(dir, bodies, cells, journal, kind, arg);
-        put_head(out, r);
+        let head = session::packed::packed(r);
+        wire::write_u32(out, 0, head);
+    } else {
+        let target = target_of(kind, arg);
+        look_up(dir, bodies, cells, journal, target, out);
     }
 }
 
-// The bytes of the call at index at; 0 where it is not whole or there is no room for its block.
-fn next_length(script: &[u8], at: usize, room: usize) -> usize
+// The number with which the run ends at index at, 255 where a call is done.
+fn end_at(script: &[u8], at: usize, room: usize) -> u8
     requires { ⌜ at ≤ length (now script) ⌝ }
-    ensures { λ r. ⌜ r ≡ nextLength (drop at (now (script .entry))) room ⌝ }
+    ensures { λ r. ⌜ r ≡ endNumber (endsWith (drop at (now (script .entry))) room) ⌝ }
 {
     let left = script.len() - at;
-    if left < 3 {
+    if left == 0 {
         return 0;
+    }
+    if left < 3 {
+        return 2;
     }
     let kind = wire::read_u8(script, at);
     let size = wire::read_u16(script, at + 1) as usize;
-    let block = block_length(kind);
-    if (left < 3 + size) | (room < block) {
-        return 0;
+    if left < 3 + size {
+        return 3;
     }
-    3 + size
+    if 7 < kind {
+        return 4;
+    }
+    if room < block_length(kind) {
+        return 14;
+    }
+    255
 }
 
 // The script's calls are done on emptied memory, each block behind the one before.
@@ -172,18 +162,19 @@ fn run_on(
     journal: &mut [u8],
     script: &[u8],
     out: &mut [u8],
-) -> usize
+) -> u64
     requires { ⌜ viewOf (memory (now dir) (now bodies) (now cells) (now journal)) ≡ formed emptiedState ⌝ }
-    ensures { λ r. ⌜ RunAs (doneOf (callsOf (now (script .entry))) (length (now (out .entry)))) (now (out .entry)) r (memory (now (dir .exit)) (now (bodies .exit)) (now (cells .exit)) (now (journal .exit))) (now (out .exit)) ⌝ }
+    ensures { λ r. ⌜ RunAs (courseOf (now (script .entry)) (length (now (out .entry)))) (memory (now (dir .entry)) (now (bodies .entry)) (now (cells .entry)) (now (journal .entry))) (now (out .entry)) r (memory (now (dir .exit)) (now (bodies .exit)) (now (cells .exit)) (now (journal .exit))) (now (out .exit)) ⌝ }
 {
     let mut at: usize = 0;
     let mut to: usize = 0;
     let mut n: usize = 0;
-    let mut len = next_length(script, 0, out.len());
-    while len != 0 {
+    let mut ended = end_at(script, 0, out.len());
+    while ended == 255 {
         let kind = wire::read_u8(script, at);
+        let size = wire::read_u16(script, at + 1) as usize;
         let arg = at + 3;
-        let after = at + len;
+        let after = arg + size;
         let end = to + block_length(kind);
         call(
             dir,
@@ -197,12 +188,12 @@ fn run_on(
         at = after;
         to = end;
         n += 1;
-        len = next_length(script, at, out.len() - to);
+        ended = end_at(script, at, out.len() - to);
     }
-    n
+    (ended as u64) + 256 * ((n as u64) % 0x100000000000000)
 }
 
-// Empties the memory and does the script's calls on it: how many are done.
+// Empties the memory and does the script's calls on it: the number with which the run ends, and 256 times the calls done.
 pub fn run(
     dir: &mut [u8],
     bodies: &mut [u8],
@@ -210,12 +201,12 @@ pub fn run(
     journal: &mut [u8],
     script: &[u8],
     out: &mut [u8],
-) -> usize
+) -> u64
     ensures { λ r. ⌜ Runs (now (script .entry)) (memory (now (dir .entry)) (now (bodies .entry)) (now (cells .entry)) (now (journal .entry))) (now (out .entry)) r (memory (now (dir .exit)) (now (bodies .exit)) (now (cells .exit)) (now (journal .exit))) (now (out .exit)) ⌝ }
 {
     let r = session::calls::reset(dir, bodies, cells, journal);
     if r.number != 0 {
-        return 0;
+        return 1;
     }
     run_on(dir, bodies, cells, journal, script, out)
 }

@@ -1,8 +1,2 @@
-pub mod Refusals
-pub mod Granted
-pub mod Moved
-pub mod CallWays
-pub mod Seeking
-pub mod Looked
-pub mod LookWays
-pub mod Handing
+pub mod Outcomes
+pub mod Unpacks

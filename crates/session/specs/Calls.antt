@@ -8,59 +8,70 @@ use lib.ListN.{length, take}
 use Rattle.wire.specs.Tests.{pick, both, either}
 use Rattle.directory.specs.Directory.{windows, notifications}
 use Rattle.body.specs.Bodies.{Body}
-use Rattle.table.specs.Table.{Table, emptied, number}
+use Rattle.table.specs.Table.{Table, emptied, number, recordAt, pictureAt}
+use Rattle.journal.specs.Limits.{mostOrders, mostBytes}
 use Rattle.journal.specs.State.{State, present, bytesIn}
 use Rattle.journal.specs.View.{View, short, unformed, formed}
+use Rattle.session.specs.declared.LookupTarget.{LookupTarget}
+use Rattle.session.specs.declared.LookupTarget.the-variants.{Window, Notification, Cell, Desktop}
 
--- document 01's emptying, delivery, mark, step back, and the four lookups
+-- document 01's emptying, delivery, mark, step back and looking up
 pub data Call : Type 0 where
   reset : Call
   deliver : List ℕ → Call
   checkpoint : Call
   undo : ℕ → Call
-  window : ℕ → Call
-  notification : ℕ → ℕ → Call
-  cell : ℕ → ℕ → Call
-  desktop : Call
+  look : LookupTarget → Call
 
 -- what a lookup hands out, raw
-pub data Given : Type 0 where
-  nothing : Given
-  body : Body → Given
-  picture : List ℕ → Given
+pub data Payload : Type 0 where
+  nothing : Payload
+  body : Body → Payload
+  picture : List ℕ → Payload
 
 -- a granted call reports how many orders stand after the mark and their bytes
 pub record Answer : Type 0 where
   pub number : ℕ
   pub count : ℕ
   pub bytes : ℕ
-  pub given : Given
+  pub payload : Payload
 
 abbrev pub refuse : ℕ → Answer
-refuse n = record { number = n; count = 0; bytes = 0; given = nothing }
+refuse n = record { number = n; count = 0; bytes = 0; payload = nothing }
 
-abbrev pub grant : List (List ℕ) → Given → Answer
-grant log given = record { number = 0; count = length log; bytes = bytesIn log; given = given }
+abbrev pub grant : List (List ℕ) → Payload → Answer
+grant log payload = record { number = 0; count = length log; bytes = bytesIn log; payload = payload }
 
 -- 12: with the order the history room would be passed
 abbrev pub overFull : List (List ℕ) → List ℕ → Bool
-overFull log o = either (ltb 128 (length log + 1)) (ltb 32768 (bytesIn log + length o))
+overFull log o = either (ltb mostOrders (length log + 1)) (ltb mostBytes (bytesIn log + length o))
 
 -- the last k orders taken away
 abbrev pub without : ℕ → List (List ℕ) → List (List ℕ)
 without k log = take (length log - k) log
 
-abbrev pub foundBody : List (List ℕ) → Option Body → Answer
-foundBody log none = refuse 9
-foundBody log (some b) = grant log (body b)
+-- ---- looking up
 
-abbrev pub foundPicture : List (List ℕ) → Option (List ℕ) → Answer
-foundPicture log none = refuse 9
-foundPicture log (some p) = grant log (picture p)
+abbrev pub aBody : Option Body → Payload
+aBody none = nothing
+aBody (some b) = body b
 
--- a cell outside the caches is none
-abbrev pub cellAsked : Table → ℕ → ℕ → Option (List ℕ)
-cellAsked t cache entry = pick (not (both (leb cache 1) (leb entry 5))) none (t .cells (6 * cache + entry))
+abbrev pub aPicture : Option (List ℕ) → Payload
+aPicture none = nothing
+aPicture (some p) = picture p
+
+-- what a table has of a target: nothing for an absent id, an empty cell or one outside the caches
+unfoldable pub payloadIn : LookupTarget → Table → Payload
+payloadIn (Window w) t = aBody (recordAt t windows (w .id) 0)
+payloadIn (Notification w n) t = aBody (recordAt t notifications (w .id) (n .id))
+payloadIn (Cell cache entry) t = pick (both (leb cache 1) (leb entry 5)) (aPicture (pictureAt t (6 * cache + entry))) nothing
+payloadIn Desktop t = body (t .desktop)
+
+-- 9 for nothing
+abbrev pub found : List (List ℕ) → Payload → Answer
+found log nothing = refuse 9
+found log (body b) = grant log (body b)
+found log (picture p) = grant log (picture p)
 
 -- ---- on a state
 
@@ -71,10 +82,7 @@ answer (deliver o) s =
     (pick (overFull (s .log) o) (refuse 12) (grant (s .log ++ (o ∷ [])) nothing))
 answer checkpoint s = grant [] nothing
 answer (undo k) s = pick (ltb (length (s .log)) k) (refuse 13) (grant (without k (s .log)) nothing)
-answer (window id) s = foundBody (s .log) (present s .records windows id 0)
-answer (notification a b) s = foundBody (s .log) (present s .records notifications a b)
-answer (cell cache entry) s = foundPicture (s .log) (cellAsked (present s) cache entry)
-answer desktop s = grant (s .log) (body (present s .desktop))
+answer (look target) s = found (s .log) (payloadIn target (present s))
 
 unfoldable pub next : Call → State → State
 next reset s = record { marked = emptied; log = [] }
@@ -82,10 +90,7 @@ next (deliver o) s =
     pick (either (not (eqb (number (present s) o) 0)) (overFull (s .log) o)) s (record { marked = s .marked; log = s .log ++ (o ∷ []) })
 next checkpoint s = record { marked = present s; log = [] }
 next (undo k) s = pick (ltb (length (s .log)) k) s (record { marked = s .marked; log = without k (s .log) })
-next (window id) s = s
-next (notification a b) s = s
-next (cell cache entry) s = s
-next desktop s = s
+next (look target) s = s
 
 -- ---- on any memory: 1 where it is too short or not well formed, but emptying takes any that is long enough
 
@@ -94,10 +99,7 @@ isReset reset = true
 isReset (deliver o) = false
 isReset checkpoint = false
 isReset (undo k) = false
-isReset (window id) = false
-isReset (notification a b) = false
-isReset (cell cache entry) = false
-isReset desktop = false
+isReset (look target) = false
 
 unfoldable pub answerView : Call → View → Answer
 answerView c short = refuse 1

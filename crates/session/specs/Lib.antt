@@ -1,4 +1,5 @@
 pub mod Calls
-pub mod Replies
-pub mod Seek
-pub mod Handouts
+pub mod Outcome
+pub mod Delivery
+pub mod Targets
+pub mod Packed

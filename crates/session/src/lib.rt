@@ -1,15 +1,13 @@
 // The state calls: a table at the last checkpoint and a journal of the orders since, in four lent memories. A call that
 // cannot change a memory takes it shared; bytes past the needed lengths stay as they were.
-use view::DesktopRecord;
-use view::NotificationRecord;
-use view::Picture;
-use view::WindowRecord;
+use ids::NotifyIconId;
+use ids::WindowId;
+use journal::JournalExtent;
 
 pub mod calls;
-pub mod handouts;
 pub mod lookups;
+pub mod packed;
 mod replies;
-mod seek;
 
 // The needed bytes of the four parts.
 pub const DIRECTORY: usize = directory::slots::LENGTH;
@@ -27,30 +25,16 @@ pub struct Reply {
     pub bytes: u32,
 }
 
-// What a lookup finds: its number and, where it is 0, how many orders stand and where they end in the journal.
-pub struct Sought {
+// What a lookup finds: a window by its id, a notification icon by its two ids, a cell by cache id and entry, or the desktop state.
+pub enum LookupTarget {
+    Window(WindowId),
+    Notification(WindowId, NotifyIconId),
+    Cell(u8, u16),
+    Desktop,
+}
+
+// The number of an order that is delivered, and the extent of the journal after it.
+pub struct Delivery {
     pub number: u8,
-    pub count: usize,
-    pub end: usize,
-}
-
-// What a lookup hands out; an empty record where it is refused.
-pub struct WindowReply {
-    pub reply: Reply,
-    pub found: WindowRecord,
-}
-
-pub struct NotificationReply {
-    pub reply: Reply,
-    pub found: NotificationRecord,
-}
-
-pub struct CellReply {
-    pub reply: Reply,
-    pub found: Picture,
-}
-
-pub struct DesktopReply {
-    pub reply: Reply,
-    pub found: DesktopRecord,
+    pub extent: JournalExtent,
 }

@@ -1,122 +1,149 @@
-// The lookups: what is wanted is followed from the mark through the journal's orders, and handed out as a typed record.
+// The lookup: what is looked up is followed from the mark through the journal's orders, and handed out in its fixed layout.
 ghost use mathlib.Core.Path.{_≡_};
+ghost use mathlib.Core.Bool.{true};
+ghost use Prim.Native.Nat.{_+_, _≤_};
+ghost use lib.ListN.{length};
+ghost use Rattle.wire.specs.Parts.{splice};
+ghost use Rattle.directory.specs.Slots.{isAt, firstFrom};
+ghost use Rattle.directory.specs.Directory.{directoryOf};
+ghost use Rattle.table.specs.Follow.{roomFor};
 ghost use Rattle.journal.specs.View.{memory};
-ghost use Rattle.session.specs.Calls.{window, notification, cell, desktop, refuse};
-ghost use Rattle.session.specs.Replies.{windowReply, notificationReply, cellReply, desktopReply, aWindow, aNotification, aCell, aDesktop, Stepped};
-use crate::CellReply;
-use crate::DesktopReply;
-use crate::NotificationReply;
-use crate::WindowReply;
+ghost use Rattle.session.specs.Outcome.{lookup, handed, layoutSize, payloadBytes, CallOutcome};
+ghost use Rattle.session.specs.Targets.{cellNumber, isFound, wantOf, listedIn, payloadHeld, validHeld};
+use crate::LookupTarget;
+use crate::Reply;
 use crate::replies::granted;
 use crate::replies::refused;
-use crate::seek::cell_wanted;
-use crate::seek::seek;
-use ids::NotifyIconId;
-use ids::WindowId;
+use directory::Found;
+use directory::slots;
 use table::Want;
 
-fn no_window(number: u8) -> WindowReply
-    ensures { λ r. ⌜ r ≡ windowReply (refuse number) ⌝ }
+// The cell of a cache and an entry, 12 for one outside the caches.
+fn cell_number(cache: u8, entry: u16) -> usize
+    ensures { λ r. ⌜ r ≡ cellNumber cache entry ⌝ }
 {
-    let reply = refused(number);
-    let found = view::records::no_window();
-    WindowReply { reply, found }
-}
-
-pub fn window(dir: &[u8], bodies: &[u8], cells: &[u8], journal: &[u8], id: WindowId) -> WindowReply
-    ensures { λ r. ⌜ Stepped (window (id .id)) (memory (now (dir .entry)) (now (bodies .entry)) (now (cells .entry)) (now (journal .entry))) (aWindow r) (memory (now (dir .entry)) (now (bodies .entry)) (now (cells .entry)) (now (journal .entry))) ⌝ }
-{
-    let mut m = [0u8; 916];
-    let w = seek(dir, bodies, cells, journal, Want::Window(id.id), &mut m);
-    if w.number != 0 {
-        return no_window(w.number);
+    let inside = (cache <= 1) & (entry <= 5);
+    if !inside {
+        return slots::CELLS;
     }
-    let reply = granted(w.count, w.end);
-    let found = view::records::window_in(&m);
-    WindowReply { reply, found }
+    6 * (cache as usize) + (entry as usize)
 }
 
-fn no_notification(number: u8) -> NotificationReply
-    ensures { λ r. ⌜ r ≡ notificationReply (refuse number) ⌝ }
+fn want_of(target: LookupTarget) -> Want
+    ensures { λ r. ⌜ r ≡ wantOf target ⌝ }
 {
-    let reply = refused(number);
-    let found = view::records::no_notification();
-    NotificationReply { reply, found }
+    match target {
+        LookupTarget::Window(w) => Want::Window(w),
+        LookupTarget::Notification(w, n) => Want::Notification(w, n),
+        LookupTarget::Cell(cache, entry) => Want::Cell(cell_number(cache, entry)),
+        LookupTarget::Desktop => Want::Desktop,
+    }
 }
 
-pub fn notification(
+fn found(d: &[u8], first: usize, count: usize, a: u32, b: u32) -> bool
+    requires { ⌜ first + count ≤ 48 ⌝ }
+    ensures { λ r. ⌜ r ≡ isFound (firstFrom count first (isAt (now (d .entry)) a b)) ⌝ }
+{
+    let f = slots::find(d, first, count, a, b);
+    match f {
+        Found::At(_) => true,
+        Found::Nothing => false,
+    }
+}
+
+// Whether an index lists the target.
+fn listed(d: &[u8], target: LookupTarget) -> bool
+    ensures { λ r. ⌜ r ≡ listedIn target (directoryOf (now (d .entry))) ⌝ }
+{
+    match target {
+        LookupTarget::Window(w) => found(d, 0, 32, w.id, 0),
+        LookupTarget::Notification(w, n) => found(d, 32, 16, w.id, n.id),
+        LookupTarget::Cell(cache, entry) => slots::is_filled(d, cell_number(cache, entry)),
+        LookupTarget::Desktop => true,
+    }
+}
+
+// The bytes that the target takes.
+fn size_of(target: LookupTarget) -> usize
+    ensures { λ r. ⌜ r ≡ layoutSize target ⌝ }
+{
+    match target {
+        LookupTarget::Window(_) => layout::WINDOW,
+        LookupTarget::Notification(_, _) => layout::NOTIFICATION,
+        LookupTarget::Cell(_, _) => layout::PICTURE,
+        LookupTarget::Desktop => layout::DESKTOP,
+    }
+}
+
+// Hands out what the memory m holds of the target.
+fn hand_out(out: &mut [u8], m: &[u8], target: LookupTarget)
+    requires { ⌜ (layoutSize target ≤ length (now out)) × (length (now m) ≡ roomFor (wantOf target)) × (validHeld target (now m) ≡ true) ⌝ }
+    ensures { λ _. ⌜ now (out .exit) ≡ splice (now (out .entry)) 0 (payloadBytes target (payloadHeld target (now (m .entry)))) ⌝ }
+{
+    match target {
+        LookupTarget::Window(_) => layout::record(out, m, 1, 15),
+        LookupTarget::Notification(_, _) => layout::record(out, m, 16, 22),
+        LookupTarget::Cell(_, _) => layout::picture(out, m),
+        LookupTarget::Desktop => layout::record(out, m, 22, 24),
+    }
+}
+
+// The lookup in a memory m of the target's size.
+fn look_in(
     dir: &[u8],
     bodies: &[u8],
     cells: &[u8],
     journal: &[u8],
-    id: WindowId,
-    icon: NotifyIconId,
-) -> NotificationReply
-    ensures { λ r. ⌜ Stepped (notification (id .id) (icon .id)) (memory (now (dir .entry)) (now (bodies .entry)) (now (cells .entry)) (now (journal .entry))) (aNotification r) (memory (now (dir .entry)) (now (bodies .entry)) (now (cells .entry)) (now (journal .entry))) ⌝ }
+    target: LookupTarget,
+    m: &mut [u8],
+    out: &mut [u8],
+) -> Reply
+    requires { ⌜ length (now m) ≡ roomFor (wantOf target) ⌝ }
+    ensures { λ r. ⌜ CallOutcome (lookup target (now (out .entry))) (memory (now (dir .entry)) (now (bodies .entry)) (now (cells .entry)) (now (journal .entry))) (handed r (now (out .exit))) (memory (now (dir .entry)) (now (bodies .entry)) (now (cells .entry)) (now (journal .entry))) ⌝ }
 {
-    let mut m = [0u8; 916];
-    let w = seek(
-        dir,
-        bodies,
-        cells,
-        journal,
-        Want::Notification(id.id, icon.id),
-        &mut m,
-    );
-    if w.number != 0 {
-        return no_notification(w.number);
+    let mut d = [0u8; crate::DIRECTORY];
+    let want = want_of(target);
+    let w = journal::validate(dir, bodies, cells, journal, want, &mut d, m);
+    if w.end == 0 {
+        return refused(1);
     }
-    let reply = granted(w.count, w.end);
-    let found = view::records::notification_in(&m);
-    NotificationReply { reply, found }
+    if !listed(&d, target) {
+        return refused(9);
+    }
+    let size = size_of(target);
+    if out.len() < size {
+        return refused(14);
+    }
+    hand_out(out, m, target);
+    granted(w)
 }
 
-fn no_cell(number: u8) -> CellReply
-    ensures { λ r. ⌜ r ≡ cellReply (refuse number) ⌝ }
-{
-    let reply = refused(number);
-    let found = view::records::no_picture();
-    CellReply { reply, found }
-}
-
-pub fn cell(
+pub fn look(
     dir: &[u8],
     bodies: &[u8],
     cells: &[u8],
     journal: &[u8],
-    cache: u8,
-    entry: u16,
-) -> CellReply
-    ensures { λ r. ⌜ Stepped (cell cache entry) (memory (now (dir .entry)) (now (bodies .entry)) (now (cells .entry)) (now (journal .entry))) (aCell r) (memory (now (dir .entry)) (now (bodies .entry)) (now (cells .entry)) (now (journal .entry))) ⌝ }
+    target: LookupTarget,
+    out: &mut [u8],
+) -> Reply
+    ensures { λ r. ⌜ CallOutcome (lookup target (now (out .entry))) (memory (now (dir .entry)) (now (bodies .entry)) (now (cells .entry)) (now (journal .entry))) (handed r (now (out .exit))) (memory (now (dir .entry)) (now (bodies .entry)) (now (cells .entry)) (now (journal .entry))) ⌝ }
 {
-    let k = cell_wanted(cache, entry);
-    let mut m = [0u8; 4240];
-    let w = seek(dir, bodies, cells, journal, Want::Cell(k), &mut m);
-    if w.number != 0 {
-        return no_cell(w.number);
+    match target {
+        LookupTarget::Window(_) => {
+            let mut m = [0u8; body::SLOT];
+            look_in(dir, bodies, cells, journal, target, &mut m, out)
+        }
+        LookupTarget::Notification(_, _) => {
+            let mut m = [0u8; body::SLOT];
+            look_in(dir, bodies, cells, journal, target, &mut m, out)
+        }
+        LookupTarget::Cell(_, _) => {
+            let mut m = [0u8; cache::CELL];
+            look_in(dir, bodies, cells, journal, target, &mut m, out)
+        }
+        LookupTarget::Desktop => {
+            let mut m = [0u8; body::SLOT];
+            look_in(dir, bodies, cells, journal, target, &mut m, out)
+        }
     }
-    let reply = granted(w.count, w.end);
-    let found = view::records::picture_in(&m);
-    CellReply { reply, found }
-}
-
-fn no_desktop(number: u8) -> DesktopReply
-    ensures { λ r. ⌜ r ≡ desktopReply (refuse number) ⌝ }
-{
-    let reply = refused(number);
-    let found = view::records::no_desktop();
-    DesktopReply { reply, found }
-}
-
-pub fn desktop(dir: &[u8], bodies: &[u8], cells: &[u8], journal: &[u8]) -> DesktopReply
-    ensures { λ r. ⌜ Stepped desktop (memory (now (dir .entry)) (now (bodies .entry)) (now (cells .entry)) (now (journal .entry))) (aDesktop r) (memory (now (dir .entry)) (now (bodies .entry)) (now (cells .entry)) (now (journal .entry))) ⌝ }
-{
-    let mut m = [0u8; 916];
-    let w = seek(dir, bodies, cells, journal, Want::Desktop, &mut m);
-    if w.number != 0 {
-        return no_desktop(w.number);
-    }
-    let reply = granted(w.count, w.end);
-    let found = view::records::desktop_in(&m);
-    DesktopReply { reply, found }
 }

@@ -1,9 +1,11 @@
 // Replies.
 ghost use mathlib.Core.Path.{_≡_};
 ghost use Prim.Native.Nat.{_-_, _≤_};
+ghost use Rattle.journal.specs.Limits.{logStart, mostOrders, journalLength};
 ghost use Rattle.session.specs.Calls.{refuse};
-ghost use Rattle.session.specs.Replies.{replyOf};
+ghost use Rattle.session.specs.Outcome.{replyOf};
 use crate::Reply;
+use journal::JournalExtent;
 
 pub fn refused(number: u8) -> Reply
     ensures { λ r. ⌜ r ≡ replyOf (refuse number) ⌝ }
@@ -15,13 +17,13 @@ pub fn refused(number: u8) -> Reply
     }
 }
 
-// A granted call, with count orders that end at index end of the journal.
-pub fn granted(count: usize, end: usize) -> Reply
-    requires { ⌜ (count ≤ 128) × (2 ≤ end) × (end ≤ 32770) ⌝ }
-    ensures { λ r. ⌜ r ≡ record { number = 0; count = count; bytes = end - 2 } ⌝ }
+// A granted call that leaves a journal of that extent.
+pub fn granted(w: JournalExtent) -> Reply
+    requires { ⌜ (w .count ≤ mostOrders) × (logStart ≤ w .end) × (w .end ≤ journalLength) ⌝ }
+    ensures { λ r. ⌜ r ≡ record { number = 0; count = w .count; bytes = w .end - logStart } ⌝ }
 {
-    let count = count as u32;
-    let bytes = (end - 2) as u32;
+    let count = w.count as u32;
+    let bytes = (w.end - journal::START) as u32;
     Reply {
         number: 0,
         count,

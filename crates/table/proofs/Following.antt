@@ -19,7 +19,7 @@ use Rattle.directory.proofs.Planned.{Planned, planned, window-second}
 use Rattle.directory.proofs.Numbered.{judged-number, refused-number, planned-desktop}
 use Rattle.body.specs.Bodies.{windowFields}
 use Rattle.table.specs.declared.Want.{Want}
-use Rattle.table.specs.declared.Want.the-variants.{Window, Notification, Cell, Desktop}
+use Rattle.table.specs.declared.Want.the-variants.{Nothing, Window, Notification, Cell, Desktop}
 use Rattle.table.specs.Table.{Table, directory, number, changeRecord, changeDesktop, changeOn, after}
 use Rattle.table.specs.Memory.{decode, soundTable}
 use Rattle.table.specs.Changes.{markOf}
@@ -35,18 +35,20 @@ use Rattle.table.proofs.Followed.{record-long, icon-long, record-follow
 pub begin-holds : (want : Want) (dir bodies cells m : List ℕ) → soundTable dir bodies cells ≡ true → length m ≡ roomFor want
     → Holds want (decode dir bodies cells) (beginOf want dir bodies cells m)
 unfolding Holds beginOf
-begin-holds (Window a) dir bodies cells m sound long = record-begun dir bodies cells m (table-has dir bodies cells sound) windows a 0 long
-begin-holds (Notification a b) dir bodies cells m sound long =
-    record-begun dir bodies cells m (table-has dir bodies cells sound) notifications a b long
+begin-holds Nothing dir bodies cells m sound long = tt
+begin-holds (Window w) dir bodies cells m sound long = record-begun dir bodies cells m (table-has dir bodies cells sound) windows (w .id) 0 long
+begin-holds (Notification w n) dir bodies cells m sound long =
+    record-begun dir bodies cells m (table-has dir bodies cells sound) notifications (w .id) (n .id) long
 begin-holds (Cell k) dir bodies cells m sound long = cell-begun dir bodies cells m (table-has dir bodies cells sound) k long
 begin-holds Desktop dir bodies cells m sound long = desktop-begun dir bodies cells m (table-has dir bodies cells sound) long
 
 pub begin-length : (want : Want) (dir bodies cells m : List ℕ) → soundTable dir bodies cells ≡ true → length m ≡ roomFor want
     → length (beginOf want dir bodies cells m) ≡ roomFor want
 unfolding beginOf
-begin-length (Window a) dir bodies cells m sound long = record-length dir bodies cells m (table-has dir bodies cells sound) windows a 0 long
-begin-length (Notification a b) dir bodies cells m sound long =
-    record-length dir bodies cells m (table-has dir bodies cells sound) notifications a b long
+begin-length Nothing dir bodies cells m sound long = long
+begin-length (Window w) dir bodies cells m sound long = record-length dir bodies cells m (table-has dir bodies cells sound) windows (w .id) 0 long
+begin-length (Notification w n) dir bodies cells m sound long =
+    record-length dir bodies cells m (table-has dir bodies cells sound) notifications (w .id) (n .id) long
 begin-length (Cell k) dir bodies cells m sound long = cell-length dir bodies cells m (table-has dir bodies cells sound) k long
 begin-length Desktop dir bodies cells m sound long = desktop-begun-length dir bodies cells m (table-has dir bodies cells sound) long
 
@@ -82,8 +84,9 @@ module _ (t : Table) (dir s : List ℕ) (bytes : Bytes s) (same : directory t �
     where
       go : (want : Want) → length m ≡ roomFor want → Holds want t m
           → Holds want (changeDesktop t flags s) (followedOf want s (ChangeDesktop flags) m)
-      go (Window a) long h = record-stays t flags s windows a 0 m h
-      go (Notification a b) long h = record-stays t flags s notifications a b m h
+      go Nothing long h = tt
+      go (Window w) long h = record-stays t flags s windows (w .id) 0 m h
+      go (Notification w n) long h = record-stays t flags s notifications (w .id) (n .id) m h
       go (Cell k) long h = cell-stays t flags s k m h
       go Desktop long h = let w = desktop-able dir s flags e in desktop-followed t flags s m long (w .0) (w .1) h
   holds-then want m long h (ChangeWindow c) e z = rw (w .judged, ← w .fresh, ← window-second dir s c w) (go want long h)
@@ -93,13 +96,14 @@ module _ (t : Table) (dir s : List ℕ) (bytes : Bytes s) (same : directory t �
 
       go : (want : Want) → length m ≡ roomFor want → Holds want t m
           → Holds want (changeRecord t windows (c .a) (c .b) (c .fresh) (c .flags) s (c .icon)) (followedOf want s (ChangeWindow c) m)
-      go (Window a) long h =
+      go Nothing long h = tt
+      go (Window x) long h =
           subst
           (λ (q : Bool).
-          HoldsRecord windows a 0 (changeRecord t windows (c .a) (c .b) (c .fresh) (c .flags) s (c .icon))
-          (recordChanged windowFields 11 (markOf (c .flags)) q s c m)) (window-same dir s c w a)
-          (record-followed windows dir s bytes c w t same a 0 m long h)
-      go (Notification a b) long h = other-followed windows dir s bytes c w t same notifications a b m refl h
+          HoldsRecord windows (x .id) 0 (changeRecord t windows (c .a) (c .b) (c .fresh) (c .flags) s (c .icon))
+          (recordChanged windowFields 11 (markOf (c .flags)) q s c m)) (window-same dir s c w (x .id))
+          (record-followed windows dir s bytes c w t same (x .id) 0 m long h)
+      go (Notification x n) long h = other-followed windows dir s bytes c w t same notifications (x .id) (n .id) m refl h
       go (Cell k) long h = cell-followed windows dir s bytes c w t same k m long h
       go Desktop long h = desktop-stays windows dir s bytes c w t same m h
   holds-then want m long h (ChangeNotification c) e z = rw (w .judged, ← w .fresh) (go want long h)
@@ -110,8 +114,9 @@ module _ (t : Table) (dir s : List ℕ) (bytes : Bytes s) (same : directory t �
       go : (want : Want) → length m ≡ roomFor want → Holds want t m
           → Holds want (changeRecord t notifications (c .a) (c .b) (c .fresh) (c .flags) s (c .icon))
           (followedOf want s (ChangeNotification c) m)
-      go (Window a) long h = other-followed notifications dir s bytes c w t same windows a 0 m refl h
-      go (Notification a b) long h = record-followed notifications dir s bytes c w t same a b m long h
+      go Nothing long h = tt
+      go (Window x) long h = other-followed notifications dir s bytes c w t same windows (x .id) 0 m refl h
+      go (Notification x n) long h = record-followed notifications dir s bytes c w t same (x .id) (n .id) m long h
       go (Cell k) long h = cell-followed notifications dir s bytes c w t same k m long h
       go Desktop long h = desktop-stays notifications dir s bytes c w t same m h
 
@@ -132,15 +137,16 @@ unfolding followedOf followedWindow followedNotification followedCell followedDe
 follow-length want dir s m bytes sound long = go want (planOf dir s) refl long
   where
     go : (want : Want) (p : Plan) → planOf dir s ≡ p → length m ≡ roomFor want → length (followedOf want s p m) ≡ roomFor want
-    go (Window a) (ChangeWindow c) e long = record-long windows dir s bytes c (planned dir s bytes windows c e) (eqb (c .a) a) m long
-    go (Window a) (ChangeNotification c) e long = long
-    go (Window a) (ChangeDesktop flags) e long = long
-    go (Window a) (Refuse n) e long = long
-    go (Notification a b) (ChangeWindow c) e long = long
-    go (Notification a b) (ChangeNotification c) e long =
-        record-long notifications dir s bytes c (planned dir s bytes notifications c e) (both (eqb (c .a) a) (eqb (c .b) b)) m long
-    go (Notification a b) (ChangeDesktop flags) e long = long
-    go (Notification a b) (Refuse n) e long = long
+    go Nothing p e long = long
+    go (Window w) (ChangeWindow c) e long = record-long windows dir s bytes c (planned dir s bytes windows c e) (eqb (c .a) (w .id)) m long
+    go (Window w) (ChangeNotification c) e long = long
+    go (Window w) (ChangeDesktop flags) e long = long
+    go (Window w) (Refuse n) e long = long
+    go (Notification w n) (ChangeWindow c) e long = long
+    go (Notification w n) (ChangeNotification c) e long =
+        record-long notifications dir s bytes c (planned dir s bytes notifications c e) (both (eqb (c .a) (w .id)) (eqb (c .b) (n .id))) m long
+    go (Notification w n) (ChangeDesktop flags) e long = long
+    go (Notification w n) (Refuse k) e long = long
     go (Cell k) (ChangeWindow c) e long = icon-long windows dir s bytes c (planned dir s bytes windows c e) k m long
     go (Cell k) (ChangeNotification c) e long = icon-long notifications dir s bytes c (planned dir s bytes notifications c e) k m long
     go (Cell k) (ChangeDesktop flags) e long = long

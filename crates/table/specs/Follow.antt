@@ -21,14 +21,15 @@ use Rattle.body.specs.Bodies.{Body, windowFields, notificationFields, desktopFi
 use Rattle.body.specs.Stores.{EndsWell}
 use Rattle.cache.specs.Cells.{cellOf, pictureOf, cellOk, putOf}
 use Rattle.table.specs.declared.Want.{Want}
-use Rattle.table.specs.declared.Want.the-variants.{Window, Notification, Cell, Desktop}
+use Rattle.table.specs.declared.Want.the-variants.{Nothing, Window, Notification, Cell, Desktop}
 use Rattle.table.specs.Table.{Table}
 use Rattle.table.specs.Changes.{markOf, slotAfter, desktopSlot, Able}
 
--- the bytes of the memory: a slot, or a cell
+-- the bytes of the memory: a slot, or a cell, or none
 abbrev pub roomFor : Want → ℕ
-roomFor (Window a) = 916
-roomFor (Notification a b) = 916
+roomFor Nothing = 0
+roomFor (Window w) = 916
+roomFor (Notification w n) = 916
 roomFor (Cell k) = 4240
 roomFor Desktop = 916
 
@@ -41,8 +42,9 @@ abbrev pub beginCell : ℕ → List ℕ → List ℕ → List ℕ
 beginCell k cells m = pick (ltb k 12) (splice m 0 (cellOf cells k)) m
 
 unfoldable pub beginOf : Want → List ℕ → List ℕ → List ℕ → List ℕ → List ℕ
-beginOf (Window a) dir bodies cells m = beginRecord (firstFrom 32 0 (isAt dir a 0)) bodies m
-beginOf (Notification a b) dir bodies cells m = beginRecord (firstFrom 16 32 (isAt dir a b)) bodies m
+beginOf Nothing dir bodies cells m = m
+beginOf (Window w) dir bodies cells m = beginRecord (firstFrom 32 0 (isAt dir (w .id) 0)) bodies m
+beginOf (Notification w n) dir bodies cells m = beginRecord (firstFrom 16 32 (isAt dir (w .id) (n .id))) bodies m
 beginOf (Cell k) dir bodies cells m = beginCell k cells m
 beginOf Desktop dir bodies cells m = splice m 0 (slotOf bodies 48)
 
@@ -81,8 +83,9 @@ followedDesktop s (ChangeDesktop flags) m = desktopSlot flags s m
 followedDesktop s (Refuse n) m = m
 
 unfoldable pub followedOf : Want → List ℕ → Plan → List ℕ → List ℕ
-followedOf (Window a) s p m = followedWindow a s p m
-followedOf (Notification a b) s p m = followedNotification a b s p m
+followedOf Nothing s p m = m
+followedOf (Window w) s p m = followedWindow (w .id) s p m
+followedOf (Notification w n) s p m = followedNotification (w .id) (n .id) s p m
 followedOf (Cell k) s p m = followedCell k s p m
 followedOf Desktop s p m = followedDesktop s p m
 
@@ -96,8 +99,9 @@ Follows s (Refuse n) = Unit {0}
 -- ---- what the memory then holds: what the table has of what is wanted, where it has any
 
 unfoldable pub Holds : Want → Table → List ℕ → Type 0
-Holds (Window a) t m = (x : Body) → t .records windows a 0 ≡ some x → (bodyOf windowFields m ≡ x) × (bodyOk windowFields 12 12 m ≡ true)
-Holds (Notification a b) t m =
-    (x : Body) → t .records notifications a b ≡ some x → (bodyOf notificationFields m ≡ x) × (bodyOk notificationFields 12 0 m ≡ true)
+Holds Nothing t m = Unit {0}
+Holds (Window w) t m = (x : Body) → t .records windows (w .id) 0 ≡ some x → (bodyOf windowFields m ≡ x) × (bodyOk windowFields 12 12 m ≡ true)
+Holds (Notification w n) t m =
+    (x : Body) → t .records notifications (w .id) (n .id) ≡ some x → (bodyOf notificationFields m ≡ x) × (bodyOk notificationFields 12 0 m ≡ true)
 Holds (Cell k) t m = (p : List ℕ) → t .cells k ≡ some p → (pictureOf m ≡ p) × (cellOk m ≡ true)
 Holds Desktop t m = (bodyOf desktopFields m ≡ t .desktop) × (bodyOk desktopFields 1 1 m ≡ true)

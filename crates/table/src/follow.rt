@@ -39,10 +39,11 @@ pub fn begin(m: &mut [u8], dir: &[u8], bodies: &[u8], cells: &[u8], want: Want)
     ensures { λ _. ⌜ now (m .exit) ≡ beginOf want (now (dir .entry)) (now (bodies .entry)) (now (cells .entry)) (now (m .entry)) ⌝ }
 {
     match want {
-        Want::Window(a) => begin_record(m, dir, bodies, 0, 32, a, 0),
-        Want::Notification(a, b) => begin_record(m, dir, bodies, 32, 16, a, b),
+        Want::Window(w) => begin_record(m, dir, bodies, 0, 32, w.id, 0),
+        Want::Notification(w, n) => begin_record(m, dir, bodies, 32, 16, w.id, n.id),
         Want::Cell(k) => begin_cell(m, cells, k),
         Want::Desktop => wire::copy_part(m, 0, bodies, 43968, 916),
+        Want::Nothing => {}
     }
 }
 
@@ -128,9 +129,10 @@ pub fn follow(m: &mut [u8], s: &[u8], p: Plan, want: Want)
     ensures { λ _. ⌜ now (m .exit) ≡ followedOf want (now (s .entry)) p (now (m .entry)) ⌝ }
 {
     match want {
-        Want::Window(a) => follow_window(m, s, p, a),
-        Want::Notification(a, b) => follow_notification(m, s, p, a, b),
+        Want::Window(w) => follow_window(m, s, p, w.id),
+        Want::Notification(w, n) => follow_notification(m, s, p, w.id, n.id),
         Want::Cell(k) => follow_cell(m, s, p, k),
         Want::Desktop => follow_desktop(m, s, p),
+        Want::Nothing => {}
     }
 }

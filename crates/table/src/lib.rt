@@ -7,6 +7,8 @@ ghost use lib.ListN.{length};
 ghost use Rattle.table.specs.Memory.{soundTable};
 ghost use Rattle.table.specs.Outcome.{Emptied, Delivered};
 use directory::Plan;
+use ids::NotifyIconId;
+use ids::WindowId;
 
 mod changes;
 pub mod follow;
@@ -15,10 +17,12 @@ pub mod sound;
 // The bytes of the bodies of 48 records and of the desktop state.
 pub const BODIES: usize = 44884;
 
-// What is followed: a window by its id, a notification icon by its two ids, a cell by its number, or the desktop state.
+// What is followed: nothing, a window by its id, a notification icon by its two ids, a cell by its number, or the desktop
+// state.
 pub enum Want {
-    Window(u32),
-    Notification(u32, u32),
+    Nothing,
+    Window(WindowId),
+    Notification(WindowId, NotifyIconId),
     Cell(usize),
     Desktop,
 }

@@ -1,5 +1,4 @@
-pub mod Lists
-pub mod Fields
-pub mod Ways
-pub mod Handed
-pub mod Drawn
+pub mod ViewsRead
+pub mod ViewsRecords
+pub mod ViewsLossless
+pub mod PicturesLossless

@@ -1,11 +1,13 @@
 -- Records as they are handed out: the typed view of a raw record. Assumes nothing.
-use Prim.Native.Nat.{ℕ, _*_, _-_, _/_, _%_}
+use Prim.Native.Nat.{ℕ, zero, suc, _+_, _*_, _-_, _/_, _%_}
 use mathlib.Core.Bool.{true, false}
-use mathlib.Core.List.{List, [], _++_}
+use mathlib.Core.List.{List, [], _∷_}
 use lib.Dec.{eqb}
-use lib.ListN.{getD, take, drop, replicate}
+use lib.ListN.{getD, drop}
 use Rattle.wire.specs.Tests.{pick}
-use Rattle.wire.specs.Numbers.{numAt, numsAt}
+use Rattle.wire.specs.Numbers.{numAt}
+use Rattle.wire.specs.Parts.{padded}
+use Rattle.ids.specs.declared.WindowId.{WindowId}
 use Rattle.order.specs.Icons.{tabled}
 use Rattle.body.specs.Bodies.{Body}
 use Rattle.view.specs.declared.Pair.{Pair}
@@ -16,28 +18,32 @@ use Rattle.view.specs.declared.Stack.{Stack}
 use Rattle.view.specs.declared.WindowRecord.{WindowRecord}
 use Rattle.view.specs.declared.NotificationRecord.{NotificationRecord}
 use Rattle.view.specs.declared.DesktopRecord.{DesktopRecord}
-use Rattle.view.specs.declared.Picture.{Picture}
+use Rattle.view.specs.declared.PictureRecord.{PictureRecord}
 
 -- ---- one field
 
--- numbers, and zeros to the end
-unfoldable pub padded : ℕ → List ℕ → List ℕ
-padded n xs = take n (xs ++ replicate n 0)
+abbrev pub windowId : ℕ → WindowId
+windowId v = record { id = v }
+
+-- n numbers of w bytes one after the other, the first at index at, each as make gives it
+unfoldable pub eachOf : {A : Type 0} → (ℕ → A) → ℕ → ℕ → List ℕ → ℕ → List A
+eachOf make w zero s at = []
+eachOf make w (suc n) s at = make (numAt w s at) ∷ eachOf make w n s (at + w)
 
 unfoldable pub pairOf : List ℕ → Pair
 pairOf f = record { x = numAt 4 f 0; y = numAt 4 f 4 }
 
--- length 2, bytes
+-- count 2, bytes
 unfoldable pub textOf : List ℕ → Text
-textOf f = record { length = numAt 2 f 0; bytes = padded 520 (drop 2 f) }
+textOf f = record { count = numAt 2 f 0; bytes = padded 0 520 (eachOf (λ v. v) 1 (numAt 2 f 0) f 2) }
 
 -- count 2, rectangles of four numbers of 2
 unfoldable pub rectanglesOf : List ℕ → Rectangles
-rectanglesOf f = record { count = numAt 2 f 0; sides = padded 64 (numsAt (replicate (4 * numAt 2 f 0) 2) f 2) }
+rectanglesOf f = record { count = numAt 2 f 0; sides = padded 0 64 (eachOf (λ v. v) 2 (4 * numAt 2 f 0) f 2) }
 
 -- count 1, ids of 4
 unfoldable pub stackOf : List ℕ → Stack
-stackOf f = record { count = numAt 1 f 0; ids = padded 64 (numsAt (replicate (numAt 1 f 0) 4) f 1) }
+stackOf f = record { count = numAt 1 f 0; ids = padded (windowId 0) 64 (eachOf windowId 4 (numAt 1 f 0) f 1) }
 
 -- 0 for none, else the number of the cell and 1
 unfoldable pub pointerOf : ℕ → Pointer
@@ -52,7 +58,7 @@ fieldOf b k = getD (b .fields) k []
 unfoldable pub windowOf : Body → WindowRecord
 windowOf b =
     record {
-      owner = numAt 4 (fieldOf b 0) 0;
+      owner = windowId (numAt 4 (fieldOf b 0) 0);
       style = numAt 4 (fieldOf b 1) 0;
       «extended_style» = numAt 4 (fieldOf b 1) 4;
       «show_state» = numAt 1 (fieldOf b 2) 0;
@@ -60,7 +66,7 @@ windowOf b =
       «client_offset» = pairOf (fieldOf b 4);
       «client_size» = pairOf (fieldOf b 5);
       «rp_content» = numAt 1 (fieldOf b 6) 0;
-      «root_parent» = numAt 4 (fieldOf b 7) 0;
+      «root_parent» = windowId (numAt 4 (fieldOf b 7) 0);
       «window_offset» = pairOf (fieldOf b 8);
       «client_delta» = pairOf (fieldOf b 9);
       «window_size» = pairOf (fieldOf b 10);
@@ -87,14 +93,18 @@ notificationOf b =
 unfoldable pub desktopOf : Body → DesktopRecord
 desktopOf b =
     record {
-      active = record { id = numAt 4 (fieldOf b 0) 0 };
+      active = windowId (numAt 4 (fieldOf b 0) 0);
       hooked = eqb (b .first) 1;
       syncing = eqb (b .second) 1;
       stack = stackOf (fieldOf b 1);
     }
 
--- bits 1, width 2, height 2, the color table's length 2 if there is one, mask's 2, color's 2, then the bytes
-unfoldable pub pictureView : List ℕ → Picture
+-- the picture's numbers: bits 1, width 2, height 2, the color table's length 2 if there is one, mask's 2, color's 2
+abbrev pub headSize : List ℕ → ℕ
+headSize p = pick (tabled (numAt 1 p 0)) 11 9
+
+-- then its bytes
+unfoldable pub pictureView : List ℕ → PictureRecord
 pictureView p =
     pick (tabled (numAt 1 p 0))
     (record {
@@ -104,7 +114,7 @@ pictureView p =
       mask = numAt 2 p 7;
       table = numAt 2 p 5;
       color = numAt 2 p 9;
-      bytes = padded 4224 (drop 11 p);
+      bytes = padded 0 4224 (drop 11 p);
     })
     (record {
       bits = numAt 1 p 0;
@@ -113,5 +123,5 @@ pictureView p =
       mask = numAt 2 p 5;
       table = 0;
       color = numAt 2 p 7;
-      bytes = padded 4224 (drop 9 p);
+      bytes = padded 0 4224 (drop 9 p);
     })

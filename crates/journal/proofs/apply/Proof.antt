@@ -2,12 +2,14 @@ use native.Mathlib.Omega.{arith}
 use Prim.Native.Nat.{_-_}
 use denote.Ref.{now}
 use borrow.Author.Needs.{needs}
-use Rattle.journal.proofs.Turns.{Applying, applying-start, applying-next, applying-end, ending-room}
+use Rattle.journal.proofs.LoopInvariants.{ApplyInv, apply-start, apply-next, apply-end, end-room}
 use Rattle.journal.proofs.apply.Statement.{statement}
 use Rattle.journal.proofs.apply.Tie as tie
 
+-- The orders left make of the table so far what all make of the first one.
+
 abbrev Inv-loop : tie.InvT-loop
-Inv-loop dir₀ bodies₀ cells₀ journal count p₀ i₀ dir bodies cells p i = Applying dir₀ bodies₀ cells₀ journal count dir bodies cells p i
+Inv-loop dir₀ bodies₀ cells₀ journal count p₀ i₀ dir bodies cells p i = ApplyInv dir₀ bodies₀ cells₀ journal count dir bodies cells p i
 
 abbrev μ-loop : tie.MeasureT-loop
 μ-loop dir₀ bodies₀ cells₀ journal count p₀ i₀ dir bodies cells p i = count - i
@@ -20,20 +22,20 @@ apply-spec =
     μ-loop
     (λ c.  -- loop-holds
     let u = c .before .before .before .before in
-    applying-start (now (u .args .dir)) (now (u .args .bodies)) (now (u .args .cells)) (now (u .args .journal)) (u .args .count) (u .pre .0) (u .pre .1 .1))
+    apply-start (now (u .args .dir)) (now (u .args .bodies)) (now (u .args .cells)) (now (u .args .journal)) (u .args .count) (u .pre .0) (u .pre .1 .1))
     (λ c. omega (arith, c .before .loop .inv .ending .high))  -- add-read-u16
     (λ c κs. search needs)
     (λ c. search needs)
     (λ c.  -- add-end
     let w = c .before .before in
-    omega (arith, ending-room (now (w .before .before .before .before .before .args .journal)) (w .loop .inv .ending) (c .before .loop-test .taken) (c .read-u16 .ensures)))
+    omega (arith, end-room (now (w .before .before .before .before .before .args .journal)) (w .loop .inv .ending) (c .before .loop-test .taken) (c .read-u16 .ensures)))
     (λ c. search needs)
     (λ c. search needs)
     (λ c.  -- part-deliver-end
     let r = c .before .before .before in
     let w = r .before .before in
     let u = w .before .before .before .before .before in
-    omega (arith, ending-room (now (u .args .journal)) (w .loop .inv .ending) (r .before .loop-test .taken) (r .read-u16 .ensures), u .pre .1 .0))
+    omega (arith, end-room (now (u .args .journal)) (w .loop .inv .ending) (r .before .loop-test .taken) (r .read-u16 .ensures), u .pre .1 .0))
     (λ c κs. c .before .before .before .before .before .before .loop .inv .sound)  -- deliver-requires
     (λ c. search needs)
     (λ c. omega (arith, c .before .before .before .before .before .before .before .before .before .before .before .before .loop-test .taken))  -- loop-less
@@ -42,7 +44,7 @@ apply-spec =
     let r = s .before .before .before .before .before in
     let w = r .before .before in
     let u = w .before .before .before .before .before in
-    applying-next (now (u .args .dir)) (now (u .args .bodies)) (now (u .args .cells)) (now (u .args .journal)) (w .loop .inv) (r .before .loop-test .taken)
+    apply-next (now (u .args .dir)) (now (u .args .bodies)) (now (u .args .cells)) (now (u .args .journal)) (w .loop .inv) (r .before .loop-test .taken)
     (r .read-u16 .ensures) (s .deliver .ensures) (s .deliver .kept .0) (s .deliver .kept .1 .0) (s .deliver .kept .1 .1 .0))
     (λ c. c .before .loop .inv .long)  -- same-length
     (λ c. c .before .loop .inv .big)  -- same-length-2
@@ -50,4 +52,4 @@ apply-spec =
     (λ c.  -- returns
     let w = c .before in
     let u = w .before .before .before .before .before in
-    applying-end (now (u .args .dir)) (now (u .args .bodies)) (now (u .args .cells)) (now (u .args .journal)) (w .loop .inv) (c .loop-test .left)))
+    apply-end (now (u .args .dir)) (now (u .args .bodies)) (now (u .args .cells)) (now (u .args .journal)) (w .loop .inv) (c .loop-test .left)))

@@ -1,4 +1,4 @@
-use Rattle.layout.proofs.Kept.{InCell, in-cell, picture-put}
+use Rattle.layout.proofs.LayoutsLossless.{InCell, in-cell, picture-put}
 use Rattle.order.specs.declared.IconParts.{IconParts}
 use Rattle.order.specs.Icons.{partsOf}
 use denote.Ref.{now}

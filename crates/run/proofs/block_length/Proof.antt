@@ -1,4 +1,5 @@
-use Rattle.run.proofs.Blocks.{length-4, length-5, length-6, length-7, length-other}
+-- By the kind: four bytes for the reply, and those of the layout that a lookup of the kind hands out.
+use Rattle.run.proofs.Calls.{length-change, length-window, length-notification, length-cell, length-desktop}
 use borrow.Author.Needs.{needs}
 use Rattle.run.proofs.block_length.Statement.{statement}
 use Rattle.run.proofs.block_length.Tie as tie
@@ -7,12 +8,12 @@ pub block-length-spec : {M : Type 1} → statement M
 block-length-spec =
     tie.close
     (tie.spec
+    (λ c. length-change _ (c .if1 .taken))  -- returns
     (λ c. search needs)
-    (λ c. length-4 _ (c .if1 .taken))  -- returns
+    (λ c. length-window _ (c .if2 .taken))  -- returns-2
     (λ c. search needs)
-    (λ c. length-5 _ (c .if2 .taken))  -- returns-2
+    (λ c. length-notification _ (c .if3 .taken))  -- returns-3
     (λ c. search needs)
-    (λ c. length-6 _ (c .if3 .taken))  -- returns-3
+    (λ c. length-cell _ (c .if4 .taken))  -- returns-4
     (λ c. search needs)
-    (λ c. length-7 _ (c .if4 .taken))  -- returns-4
-    (λ c. length-other _ (c .before .before .before .if1 .left) (c .before .before .if2 .left) (c .before .if3 .left) (c .if4 .left)))  -- returns-5
+    (λ c. length-desktop _ (c .before .before .before .if1 .left) (c .before .before .if2 .left) (c .before .if3 .left) (c .if4 .left)))  -- returns-5

@@ -1,7 +1,8 @@
+-- By the kind: a change has a block of its reply alone, a lookup one of its own.
 use mathlib.Core.Path.{ap, _∙_}
 use denote.Ref.{now}
 use Rattle.run.specs.Script.{blockLength}
-use Rattle.run.proofs.Blocks.{is-lookup, is-change, done-as, plain-change, change-block}
+use Rattle.run.proofs.Calls.{is-change, looks, hands-nothing, done-as, change-block}
 use borrow.Author.Needs.{needs}
 use Rattle.run.proofs.call.Statement.{statement}
 use Rattle.run.proofs.call.Tie as tie
@@ -10,27 +11,29 @@ pub call-spec : {M : Type 1} → statement M
 call-spec =
     tie.close
     (tie.spec
-    (λ c κs.  -- look-up-block-requires
-    let u = c .before .before .before .before .before .before .before .before .before .before .before .before in
-    u .pre ∙ ap blockLength (is-lookup (u .args .kind) (now (u .args .arg)) (c .before .before .before .before .before .if1 .taken)))
     (λ c κs. search needs)
     (λ c κs. search needs)
+    (λ c κs. search needs)
+    (λ c κs. search needs)
+    (λ c κs.  -- look-up-requires
+    let start = c .before .before .before .before .before .before .before .before .before .before .before .before .before in
+    start .pre ∙ ap blockLength (looks _ _ (c .before .before .before .before .before .before .if1 .left) (c .before .before .before .before .before .target-of .ensures)))
     (λ c. search needs)
     (λ c. search needs)
     (λ c. search needs)
     (λ c. search needs)
     (λ c. search needs)
     (λ c.  -- returns
-    let u = c .before .before .before .before .before .before .before .before .before .before .before .before .before .before .before in
-    done-as (is-lookup (u .args .kind) (now (u .args .arg)) (c .before .before .before .before .before .before .before .before .if1 .taken)) (c .before .before .look-up-block .ensures))
-    (λ c. search needs)
-    (λ c. search needs)
-    (λ c. search needs)
-    (λ c. search needs)
-    (λ c. search needs)
-    (λ c.  -- returns-2
-    let u = c .before .before .before .before .before .before .before .before .before .before .before .before .before .before .before .before .before .before .before .before .before .before .before .before in
-    let e = is-change (u .args .kind) (now (u .args .arg)) (c .before .before .before .before .before .before .before .before .before .before .before .before .before .before .before .before .before .if1 .left) in
+    let start = c .before .before .before .before .before .before .before .before .before .before .before .before .before .before .before .before .before .before .before .before .before .before .before .before .before in
+    let kind = start .args .kind in
+    let arg = now (start .args .arg) in
+    let e = is-change kind arg (c .before .before .before .before .before .before .before .before .before .before .before .before .before .before .before .before .before .before .if1 .taken) in
     done-as e
-    (change-block (now (u .args .out)) (plain-change (u .args .kind) (now (u .args .arg))) (c .before .before .before .before .before .before .before .before .before .before .before .before .change .ensures) (u .pre ∙ ap blockLength e)
-    (c .before .before .put-head .ensures))))
+    (change-block (now (start .args .out)) (hands-nothing kind arg) (c .before .before .before .before .before .before .before .before .before .before .before .before .before .change .ensures) (start .pre ∙ ap blockLength e) (c .before .before .before .before .packed .ensures)
+    (c .before .before .write-u32 .ensures)))
+    (λ c. search needs)
+    (λ c. search needs)
+    (λ c. search needs)
+    (λ c. search needs)
+    (λ c. search needs)
+    (λ c. done-as (looks _ _ (c .before .before .before .before .before .before .before .before .before .if1 .left) (c .before .before .before .before .before .before .before .before .target-of .ensures)) (c .before .before .look-up .ensures)))  -- returns-2

@@ -1,4 +1,5 @@
-use Rattle.run.proofs.Blocks.{stepped-as, is-deliver, is-checkpoint, is-undo, is-reset}
+-- Each kind is a call of its own, and its outcome is carried over to changeOf.
+use Rattle.run.proofs.Calls.{outcome-as, is-reset, is-deliver, is-checkpoint, is-undo}
 use borrow.Author.Needs.{needs}
 use Rattle.run.proofs.change.Statement.{statement}
 use Rattle.run.proofs.change.Tie as tie
@@ -12,23 +13,25 @@ change-spec =
     (λ c. search needs)
     (λ c. search needs)
     (λ c. search needs)
-    (λ c. stepped-as (is-deliver _ _ (c .before .before .before .before .before .before .before .if1 .taken)) (c .before .before .deliver .ensures))  -- returns
+    (λ c. outcome-as (is-reset _ _ (c .before .before .before .before .before .before .before .before .before .before .before .if1 .taken)) (c .before .before .before .before .before .before .reset .ensures))  -- returns
     (λ c κs. search needs)
     (λ c. search needs)
     (λ c. search needs)
     (λ c. search needs)
     (λ c. search needs)
-    (λ c. stepped-as (is-checkpoint _ _ (c .before .before .before .before .before .before .before .before .before .before .before .before .before .if2 .taken)) (c .before .before .before .before .before .before .before .before .checkpoint .ensures))  -- returns-2
+    (λ c. outcome-as (is-deliver _ _ (c .before .before .before .before .before .before .before .if2 .taken)) (c .before .before .deliver .ensures))  -- returns-2
+    (λ c κs. search needs)
+    (λ c. search needs)
+    (λ c. search needs)
+    (λ c. search needs)
+    (λ c. search needs)
+    (λ c. outcome-as (is-checkpoint _ _ (c .before .before .before .before .before .before .before .before .before .before .before .before .before .if3 .taken)) (c .before .before .before .before .before .before .before .before .checkpoint .ensures))  -- returns-3
     (λ c κs. search needs)
     (λ c κs. search needs)
     (λ c. search needs)
     (λ c. search needs)
     (λ c. search needs)
     (λ c. search needs)
-    (λ c. stepped-as (is-undo _ _ (c .before .before .before .before .before .before .before .before .if3 .taken) _ (c .before .before .before .before .before .before .before .read-u64 .ensures)) (c .before .before .undo .ensures))  -- returns-3
-    (λ c κs. search needs)
-    (λ c. search needs)
-    (λ c. search needs)
-    (λ c. search needs)
-    (λ c. search needs)
-    (λ c. stepped-as (is-reset _ _ (c .before .before .before .before .before .before .before .before .before .before .before .before .before .if1 .left) (c .before .before .before .before .before .before .before .before .before .before .before .before .if2 .left) (c .before .before .before .before .before .before .before .before .before .before .before .if3 .left)) (c .before .before .before .before .before .before .reset .ensures)))  -- returns-4
+    (λ c.  -- returns-4
+    let tests = c .before .before .before .before .before .before .before .before in
+    outcome-as (is-undo _ _ (tests .before .before .if1 .left) (tests .before .if2 .left) (tests .if3 .left) _ (c .before .before .before .before .before .before .before .read-u64 .ensures)) (c .before .before .undo .ensures)))

@@ -1,4 +1,6 @@
-use Rattle.run.proofs.Blocks.{handed-as, is-window, is-notification, is-cell, is-desktop}
+-- The output is cleared, the lookup is lent what follows the first four bytes, and its reply is put there.
+use denote.Ref.{now}
+use Rattle.run.proofs.Calls.{look-block}
 use borrow.Author.Needs.{needs}
 use Rattle.run.proofs.look_up.Statement.{statement}
 use Rattle.run.proofs.look_up.Tie as tie
@@ -8,18 +10,15 @@ look-up-spec =
     tie.close
     (tie.spec
     (λ c κs. search needs)
-    (λ c κs. search needs)
     (λ c. search needs)
-    (λ c. handed-as (is-window _ _ (c .before .before .before .before .if1 .taken) _ (c .before .before .before .before .before .read-u32 .ensures)) (c .before .before .window .ensures))  -- returns
-    (λ c κs. search needs)
-    (λ c κs. search needs)
     (λ c. search needs)
-    (λ c. handed-as (is-notification _ _ (c .before .before .before .before .before .if2 .taken) _ _ (c .before .before .before .before .before .before .before .read-u32 .ensures) (c .before .before .before .before .read-u322 .ensures)) (c .before .before .notification .ensures))  -- returns-2
+    (λ c. search needs)
     (λ c κs. search needs)
     (λ c κs. search needs)
     (λ c κs. search needs)
     (λ c. search needs)
-    (λ c. handed-as (is-cell _ _ (c .before .before .before .before .before .before .if3 .taken) _ _ (c .before .before .before .before .before .read-u8 .ensures) (c .before .before .before .before .read-u16 .ensures)) (c .before .before .cell .ensures))  -- returns-3
-    (λ c κs. search needs)
-    (λ c. search needs)
-    (λ c. handed-as (is-desktop _ _ (c .before .before .before .before .before .before .if1 .left) (c .before .before .before .before .before .if2 .left) (c .before .before .before .before .if3 .left)) (c .before .before .desktop .ensures)))  -- returns-4
+    (λ c.  -- returns
+    let start = c .before .before .before .before .before .before .before .before .before .before .before .before .before .before .before .before .before .before in
+    let cleared = c .before .before .before .before .before .before .before .before .before .before .before in
+    let looked = c .before .before .before .before .before .before .before in
+    look-block (start .args .target) (now (start .args .out)) _ _ (start .pre) (cleared .clear .ensures) (looked .look .ensures) (c .before .before .before .before .packed .ensures) (c .before .before .write-u32 .ensures)))

@@ -1,6 +1,6 @@
 use native.Mathlib.Omega.{arith}
 use denote.Ref.{now}
-use Rattle.run.proofs.Blocks.{num8-is}
+use Rattle.run.proofs.Calls.{num8-is}
 use borrow.Author.Needs.{needs}
 use Rattle.run.proofs.read_u64.Statement.{statement}
 use Rattle.run.proofs.read_u64.Tie as tie

@@ -1,5 +1,6 @@
+-- Where the emptying is refused nothing changes; where it is granted the run begins on emptied memory.
 use denote.Ref.{now}
-use Rattle.run.proofs.Turns.{emptied-holds, run-refused, run-granted}
+use Rattle.run.proofs.RunLoop.{emptied-holds, run-refused, run-granted}
 use borrow.Author.Needs.{needs}
 use Rattle.run.proofs.run.Statement.{statement}
 use Rattle.run.proofs.run.Tie as tie

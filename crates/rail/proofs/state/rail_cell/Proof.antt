@@ -1,5 +1,5 @@
-use Rattle.session.specs.Calls.{cell}
-use Rattle.rail.proofs.States.{looked}
+-- The lookup's outcome on the target of these numbers, its reply packed.
+use Rattle.rail.proofs.States.{exported}
 use borrow.Author.Needs.{needs}
 use Rattle.rail.proofs.state.rail_cell.Statement.{statement}
 use Rattle.rail.proofs.state.rail_cell.Tie as tie
@@ -11,4 +11,4 @@ rail-cell-spec =
     (λ c κs. search needs)
     (λ c κs. search needs)
     (λ c. search needs)
-    (λ c. looked (cell (c .before .before .before .before .before .before .before .before .before .before .args .cache) (c .before .before .before .before .before .before .before .before .before .before .args .entry)) (c .before .before .before .cell .ensures) (c .packed .ensures)))  -- returns
+    (λ c. exported (c .before .before .before .look .ensures) (c .packed .ensures)))  -- returns

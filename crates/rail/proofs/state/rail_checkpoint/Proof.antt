@@ -1,5 +1,5 @@
-use Rattle.session.specs.Calls.{checkpoint}
-use Rattle.rail.proofs.States.{plain-same, called}
+-- The call's outcome, its reply packed.
+use Rattle.rail.proofs.States.{exported}
 use borrow.Author.Needs.{needs}
 use Rattle.rail.proofs.state.rail_checkpoint.Statement.{statement}
 use Rattle.rail.proofs.state.rail_checkpoint.Tie as tie
@@ -14,4 +14,4 @@ rail-checkpoint-spec =
     (λ c. search needs)
     (λ c. search needs)
     (λ c. search needs)
-    (λ c. let s = c .before .before .before .before .before .before .before .before .before .checkpoint .ensures in called checkpoint (plain-same (s .says)) s (c .packed .ensures)))  -- returns
+    (λ c. exported (c .before .before .before .before .before .before .before .before .before .checkpoint .ensures) (c .packed .ensures)))  -- returns

@@ -1,6 +1,5 @@
-use denote.Ref.{now}
-use Rattle.session.specs.Calls.{deliver}
-use Rattle.rail.proofs.States.{plain-same, called}
+-- The call's outcome, its reply packed.
+use Rattle.rail.proofs.States.{exported}
 use borrow.Author.Needs.{needs}
 use Rattle.rail.proofs.state.rail_deliver.Statement.{statement}
 use Rattle.rail.proofs.state.rail_deliver.Tie as tie
@@ -12,4 +11,4 @@ rail-deliver-spec =
     (λ c κs. search needs)
     (λ c κs. search needs)
     (λ c. search needs)
-    (λ c. let s = c .before .before .before .deliver .ensures in called (deliver (now (c .before .before .before .before .before .before .before .before .before .before .args .order))) (plain-same (s .says)) s (c .packed .ensures)))  -- returns
+    (λ c. exported (c .before .before .before .deliver .ensures) (c .packed .ensures)))  -- returns

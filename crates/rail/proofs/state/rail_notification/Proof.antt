@@ -1,21 +1,14 @@
-use Rattle.session.specs.Calls.{notification}
-use Rattle.rail.proofs.States.{looked}
+-- The lookup's outcome on the target of these numbers, its reply packed.
+use Rattle.rail.proofs.States.{exported}
 use borrow.Author.Needs.{needs}
 use Rattle.rail.proofs.state.rail_notification.Statement.{statement}
 use Rattle.rail.proofs.state.rail_notification.Tie as tie
 
-notification-requires : tie.Need-notification-requires
-notification-requires c κs = search needs
-
-packed-requires : tie.Need-packed-requires
-packed-requires c κs = search needs
-
-same-length : tie.Need-same-length
-same-length c = search needs
-
-returns : tie.Need-returns
-returns c = looked (notification (c .before .before .before .before .before .before .before .before .before .before .args .id) (c .before .before .before .before .before .before .before .before .before .before .args .icon)) (c .before .before .before .notification .ensures) (c .packed .ensures)
-
 pub rail-notification-spec : {M : Type 1} → statement M
 rail-notification-spec =
-    tie.close (tie.spec notification-requires packed-requires same-length returns)
+    tie.close
+    (tie.spec
+    (λ c κs. search needs)
+    (λ c κs. search needs)
+    (λ c. search needs)
+    (λ c. exported (c .before .before .before .look .ensures) (c .packed .ensures)))  -- returns

@@ -1,5 +1,5 @@
-use Rattle.session.specs.Calls.{reset}
-use Rattle.rail.proofs.States.{plain-same, called}
+-- The call's outcome, its reply packed.
+use Rattle.rail.proofs.States.{exported}
 use borrow.Author.Needs.{needs}
 use Rattle.rail.proofs.state.rail_reset.Statement.{statement}
 use Rattle.rail.proofs.state.rail_reset.Tie as tie
@@ -13,4 +13,4 @@ rail-reset-spec =
     (λ c. search needs)
     (λ c. search needs)
     (λ c. search needs)
-    (λ c. let s = c .before .before .before .before .before .before .before .reset .ensures in called reset (plain-same (s .says)) s (c .packed .ensures)))  -- returns
+    (λ c. exported (c .before .before .before .before .before .before .before .reset .ensures) (c .packed .ensures)))  -- returns

@@ -1,5 +1,5 @@
-use Rattle.session.specs.Calls.{undo}
-use Rattle.rail.proofs.States.{plain-same, called}
+-- The call's outcome, its reply packed.
+use Rattle.rail.proofs.States.{exported}
 use borrow.Author.Needs.{needs}
 use Rattle.rail.proofs.state.rail_undo.Statement.{statement}
 use Rattle.rail.proofs.state.rail_undo.Tie as tie
@@ -11,4 +11,4 @@ rail-undo-spec =
     (λ c κs. search needs)
     (λ c κs. search needs)
     (λ c. search needs)
-    (λ c. let s = c .before .before .before .undo .ensures in called (undo (c .before .before .before .before .before .before .before .before .before .args .k)) (plain-same (s .says)) s (c .packed .ensures)))  -- returns
+    (λ c. exported (c .before .before .before .undo .ensures) (c .packed .ensures)))  -- returns

@@ -1,5 +1,5 @@
-use Rattle.session.specs.Calls.{window}
-use Rattle.rail.proofs.States.{looked}
+-- The lookup's outcome on the target of these numbers, its reply packed.
+use Rattle.rail.proofs.States.{exported}
 use borrow.Author.Needs.{needs}
 use Rattle.rail.proofs.state.rail_window.Statement.{statement}
 use Rattle.rail.proofs.state.rail_window.Tie as tie
@@ -11,4 +11,4 @@ rail-window-spec =
     (λ c κs. search needs)
     (λ c κs. search needs)
     (λ c. search needs)
-    (λ c. looked (window (c .before .before .before .before .before .before .before .before .before .before .args .id)) (c .before .before .before .window .ensures) (c .packed .ensures)))  -- returns
+    (λ c. exported (c .before .before .before .look .ensures) (c .packed .ensures)))  -- returns

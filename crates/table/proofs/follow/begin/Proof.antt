@@ -33,6 +33,12 @@ returns-4 c =
     let a = c .before .before .before .before .before .before .before .before .before .before .args in
     c .before .before .copy-part .ensures ∙ ap (λ (w : Want). beginOf w (now (a .dir)) (now (a .bodies)) (now (a .cells)) (now (a .m))) (sym (c .before .before .before .before .enum-told .given .1))
 
+returns-5 : tie.Need-returns-5
+unfolding beginOf
+returns-5 c =
+    let a = c .before .before .before .before .before .before .args in
+    ap (λ (w : Want). beginOf w (now (a .dir)) (now (a .bodies)) (now (a .cells)) (now (a .m))) (sym (c .enum-told2 .given .1))
+
 pub begin-spec : {M : Type 1} → statement M
 begin-spec =
     tie.close
@@ -55,10 +61,12 @@ begin-spec =
     let l : length (now (b .args .m)) ≡ 916 = b .pre .0 ∙ ap roomFor (c .before .enum-told .given .1) in
     (omega arith, omega (arith, b .pre .1)))
     (λ c. search needs)
+    (λ c. search needs)
     returns
     (λ c. search needs)
     returns-2
     (λ c. search needs)
     returns-3
     (λ c. search needs)
-    returns-4)
+    returns-4
+    returns-5)

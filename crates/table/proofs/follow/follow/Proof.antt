@@ -30,6 +30,12 @@ returns-4 c =
     let a = c .before .before .before .before .before .before .before .before .args in
     c .before .before .follow-desktop .ensures ∙ ap (λ (w : Want). followedOf w (now (a .s)) (a .p) (now (a .m))) (sym (c .before .before .before .before .enum-told .given .1))
 
+returns-5 : tie.Need-returns-5
+unfolding followedOf
+returns-5 c =
+    let a = c .before .before .before .before .args in
+    ap (λ (w : Want). followedOf w (now (a .s)) (a .p) (now (a .m))) (sym (c .enum-told2 .given .1))
+
 pub follow-spec : {M : Type 1} → statement M
 follow-spec =
     tie.close
@@ -51,10 +57,12 @@ follow-spec =
     let b = c .before .before .before .before .before in
     (b .pre .0 ∙ ap roomFor (c .before .enum-told .given .1), b .pre .1))
     (λ c. search needs)
+    (λ c. search needs)
     returns
     (λ c. search needs)
     returns-2
     (λ c. search needs)
     returns-3
     (λ c. search needs)
-    returns-4)
+    returns-4
+    returns-5)

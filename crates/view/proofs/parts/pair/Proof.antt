@@ -1,9 +1,10 @@
 use denote.Ref.{now}
-use Rattle.view.proofs.Ways.{pair-is}
+use Rattle.view.proofs.ViewsRead.{pair-is}
 use borrow.Author.Needs.{needs}
 use Rattle.view.proofs.parts.pair.Statement.{statement}
 use Rattle.view.proofs.parts.pair.Tie as tie
 
+-- The two numbers are those of the field's 8 bytes.
 pub pair-spec : {M : Type 1} → statement M
 pair-spec =
     tie.close
@@ -13,4 +14,4 @@ pair-spec =
     (λ c κs. search needs)
     (λ c.  -- returns
     let a = c .before .before .before .args in
-    pair-is (now (a .slot)) (a .at) (c .before .read-u32 .ensures) (c .read-u322 .ensures)))
+    pair-is (now (a .s)) (a .at) (c .before .read-u32 .ensures) (c .read-u322 .ensures)))

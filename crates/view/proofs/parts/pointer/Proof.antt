@@ -1,8 +1,9 @@
-use Rattle.view.proofs.Ways.{pointer-none, pointer-some}
+use Rattle.view.proofs.ViewsRead.{pointer-none, pointer-some}
 use borrow.Author.Needs.{needs}
 use Rattle.view.proofs.parts.pointer.Statement.{statement}
 use Rattle.view.proofs.parts.pointer.Tie as tie
 
+-- By whether the mark is 0.
 pub pointer-spec : {M : Type 1} → statement M
 pointer-spec =
     tie.close

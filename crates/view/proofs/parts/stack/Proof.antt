@@ -1,30 +1,53 @@
 use denote.Ref.{now}
-use Rattle.view.proofs.Ways.{stack-is}
+use mathlib.Core.Path.{_≡_, ap, _∙_}
+use Prim.Native.Nat.{ℕ, _+_, _-_, _≤_}
+use native.Mathlib.Omega.{arith}
+use Rattle.wire.specs.Parts.{padded}
+use Rattle.view.specs.Views.{windowId, eachOf}
+use Rattle.view.proofs.ViewsRead.{least-is, fill-first, fill-next, stack-is}
 use borrow.Author.Needs.{needs}
 use Rattle.view.proofs.parts.stack.Statement.{statement}
 use Rattle.view.proofs.parts.stack.Tie as tie
 
-read-u8-requires : tie.Need-read-u8-requires
-read-u8-requires c κs = search needs
+-- After i turns the first i ids stand before ids of 0.
+abbrev Inv-loop : tie.InvT-loop
+Inv-loop s at count n ids₀ i₀ ids i = (i ≤ n) × (n ≤ 64) × (ids ≡ padded (windowId 0) 64 (eachOf windowId 4 i s (at + 1)))
 
-cast-n : tie.Need-cast-n
-cast-n c = search needs
-
-slice-aggregate-ids : tie.Need-slice-aggregate-ids
-slice-aggregate-ids c = search needs
-
-add-ids : tie.Need-add-ids
-add-ids c = search needs
-
-ids-requires : tie.Need-ids-requires
-ids-requires c κs = search needs
-
-returns : tie.Need-returns
-returns c =
-    let w = c .before .before .before in
-    let a = w .before .before .args in
-    stack-is (now (a .slot)) (a .at) (w .read-u8 .ensures) (w .before .before .pre .1) (c .before .ids .ensures)
+abbrev μ-loop : tie.MeasureT-loop
+μ-loop s at count n ids₀ i₀ ids i = n - i
 
 pub stack-spec : {M : Type 1} → statement M
 stack-spec =
-    tie.close (tie.spec read-u8-requires cast-n slice-aggregate-ids add-ids ids-requires returns)
+    tie.close
+    (tie.spec
+    Inv-loop
+    μ-loop
+    (λ c κs. search needs)
+    (λ c. search needs)
+    (λ c κs. search needs)
+    (λ c.  -- loop-holds
+    let b = c .before .before .before in
+    let l = least-is (c .before .read-u8 .result) 64 (c .least .ensures) in
+    (search needs, omega (arith, l .right), fill-first windowId 4 (windowId 0) 64 (now (b .args .s)) (b .args .at + 1)))
+    (λ c. search needs)
+    (λ c. search needs)
+    (λ c. search needs)
+    (λ c κs. search needs)
+    (λ c. search needs)
+    (λ c. search needs)
+    (λ c. search needs)
+    (λ c. search needs)
+    (λ c.  -- loop-again
+    let w = c .before .before in
+    let a = w .before .before .before .before .args in (
+      search needs,
+      w .loop .inv .1,
+      fill-next windowId 4 (windowId 0) 64 (now (a .s)) (a .at + 1) (w .loop .i) (omega arith) (w .loop .inv .2) (c .window-id .ensures),
+    ))
+    (λ c.  -- returns
+    let w = c .before in
+    let u = w .before in
+    let a = u .before .before .before .args in
+    let e : w .loop .i ≡ u .least .result = omega arith in
+    stack-is (now (a .s)) (a .at) (u .before .read-u8 .ensures) (u .least .ensures)
+    (w .loop .inv .2 ∙ ap (λ (k : ℕ). padded (windowId 0) 64 (eachOf windowId 4 k (now (a .s)) (a .at + 1))) e)))

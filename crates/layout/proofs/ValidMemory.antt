@@ -1,0 +1,74 @@
+-- Memory that meets the rule holds valid bodies. Assumes nothing.
+use mathlib.Core.Path.{_≡_, sym, ap, subst, _∙_}
+use mathlib.Core.Bool.{true}
+use mathlib.Core.List.{List, [], _∷_}
+use Prim.Native.Nat.{ℕ, _+_, _≤_}
+use native.Mathlib.Omega.{arith}
+use lib.Dec.{leb}
+use lib.ListN.{length}
+use lib.Seq.{take-all}
+use borrow.Author.Tests.{leb-true}
+use Rattle.wire.specs.Tests.{both}
+use Rattle.wire.specs.Numbers.{numAt, Bytes}
+use Rattle.wire.specs.Parts.{slice}
+use Rattle.wire.proofs.Tests.{both-left, both-right}
+use Rattle.wire.proofs.Parts.{length-slice}
+use Rattle.wire.proofs.Numbers.{bytes-slice}
+use Rattle.order.specs.declared.Row.{Row}
+use Rattle.order.specs.Rows.{rowsFrom, roomOf, lenOf, okOf}
+use Rattle.body.specs.Bodies.{fieldsOf, fieldsOk, bodyOf, bodyOk}
+use Rattle.body.specs.Stores.{roomAll}
+use Rattle.body.proofs.Placed.{Placed, All, placed, len-cong, ok-cong}
+use Rattle.layout.specs.Valid.{ValidField, ValidFields, ValidBody}
+use Rattle.layout.specs.Layouts.{fieldAt}
+use Rattle.layout.proofs.LayoutsWritten.{field-is}
+
+module _ (r : Row) (slot : List ℕ) (off : ℕ) (p : Placed r) (ok : okOf r slot off ≡ true) (inside : off + roomOf r ≤ length slot) where
+  abbrev n : ℕ
+  n = lenOf r slot off
+
+  room : n ≤ roomOf r
+  room = p .room slot off ok
+
+  long : length (fieldAt r slot off) ≡ n
+  long = ap (λ (x : List ℕ). length x) (field-is r slot off p ok) ∙ length-slice slot off n (omega (arith, room))
+
+  same : slice (fieldAt r slot off) 0 n ≡ slice slot off n
+  same = whole ∙ field-is r slot off p ok
+    where
+      whole : slice (fieldAt r slot off) 0 n ≡ fieldAt r slot off
+      whole = unfold slice in take-all n (fieldAt r slot off) (omega (arith, long))
+
+  head : r .head ≤ n
+  unfolding lenOf
+  head = omega (arith, p .head)
+
+  valid-field : Bytes slot → ValidField r (fieldAt r slot off)
+  valid-field b =
+      record {
+        bytes = subst Bytes (sym (field-is r slot off p ok)) (bytes-slice slot off n b);
+        long = long ∙ sym (len-cong r (fieldAt r slot off) slot 0 off n head same);
+        set = ok-cong r (fieldAt r slot off) slot 0 off n head same ∙ ok;
+      }
+
+valid-fields : (rows : List Row) (off : ℕ) (slot : List ℕ) → Bytes slot → All Placed rows → fieldsOk rows off slot ≡ true → off + roomAll rows ≤ length slot
+    → ValidFields rows (fieldsOf rows off slot)
+unfolding fieldsOf fieldsOk roomAll
+valid-fields [] off slot b a ok inside = tt
+valid-fields (r ∷ rs) off slot b a ok inside = (
+  valid-field r slot off (a .0) (both-left (okOf r slot off) (fieldsOk rs (off + roomOf r) slot) ok) (omega arith) b,
+  valid-fields rs (off + roomOf r) slot b (a .1) (both-right (okOf r slot off) (fieldsOk rs (off + roomOf r) slot) ok) (omega arith),
+)
+
+pub valid-body : (low high m n : ℕ) (slot : List ℕ) → Bytes slot → 2 + roomAll (rowsFrom low high) ≤ length slot → bodyOk (rowsFrom low high) m n slot ≡ true
+    → ValidBody (rowsFrom low high) m n (bodyOf (rowsFrom low high) slot)
+unfolding bodyOk bodyOf
+valid-body low high m n slot b inside ok =
+    let rows = rowsFrom low high in
+    let t = both (leb (numAt 1 slot 1) n) (fieldsOk rows 2 slot) in
+    let u = both-right (leb (numAt 1 slot 0) m) t ok in
+    record {
+      first = leb-true (numAt 1 slot 0) m (both-left (leb (numAt 1 slot 0) m) t ok);
+      second = leb-true (numAt 1 slot 1) n (both-left (leb (numAt 1 slot 1) n) (fieldsOk rows 2 slot) u);
+      fields = valid-fields rows 2 slot b (placed low high) (both-right (leb (numAt 1 slot 1) n) (fieldsOk rows 2 slot) u) inside;
+    }

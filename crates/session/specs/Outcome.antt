@@ -1,0 +1,100 @@
+-- What every entry point states: a call with the output memory lent to it, its reply, and both memories after it. Assumes nothing.
+use Prim.Native.Nat.{ℕ}
+use mathlib.Core.Path.{_≡_}
+use mathlib.Core.List.{List, []}
+use lib.Dec.{eqb, ltb}
+use lib.ListN.{length}
+use Rattle.wire.specs.Tests.{pick, both}
+use Rattle.wire.specs.Parts.{splice}
+use Rattle.body.specs.Bodies.{Body, windowFields, notificationFields, desktopFields}
+use Rattle.layout.specs.Layouts.{recordBytes, pictureBytes}
+use Rattle.journal.specs.View.{Memory, Past, viewOf}
+use Rattle.session.specs.declared.Reply.{Reply}
+use Rattle.session.specs.declared.LookupTarget.{LookupTarget}
+use Rattle.session.specs.declared.LookupTarget.the-variants.{Window, Notification, Cell, Desktop}
+use Rattle.session.specs.Calls.{Call, reset, deliver, checkpoint, undo, look, Payload, nothing, body, picture, Answer, refuse, answerView, nextView}
+
+-- a call and the output memory lent with it: none for a call that hands nothing out
+pub record Request : Type 0 where
+  pub call : Call
+  pub out : List ℕ
+
+abbrev pub plain : Call → Request
+plain c = record { call = c; out = [] }
+
+abbrev pub lookup : LookupTarget → List ℕ → Request
+lookup target out = record { call = look target; out = out }
+
+-- its reply, and what it leaves in that memory
+pub record Response : Type 0 where
+  pub reply : Reply
+  pub out : List ℕ
+
+abbrev pub replied : Reply → Response
+replied r = record { reply = r; out = [] }
+
+abbrev pub handed : Reply → List ℕ → Response
+handed r out = record { reply = r; out = out }
+
+-- ---- the fixed layout of what is handed out
+
+-- the bytes that a target takes
+abbrev pub layoutSize : LookupTarget → ℕ
+layoutSize (Window w) = 850
+layoutSize (Notification w n) = 916
+layoutSize (Cell cache entry) = 4235
+layoutSize Desktop = 263
+
+abbrev pub layoutOf : LookupTarget → Body → List ℕ
+layoutOf (Window w) b = recordBytes windowFields b
+layoutOf (Notification w n) b = recordBytes notificationFields b
+layoutOf (Cell cache entry) b = []
+layoutOf Desktop b = recordBytes desktopFields b
+
+unfoldable pub payloadBytes : LookupTarget → Payload → List ℕ
+payloadBytes target nothing = []
+payloadBytes target (body b) = layoutOf target b
+payloadBytes target (picture p) = pictureBytes p
+
+-- of any call
+abbrev pub neededFor : Call → ℕ
+neededFor reset = 0
+neededFor (deliver o) = 0
+neededFor checkpoint = 0
+neededFor (undo k) = 0
+neededFor (look target) = layoutSize target
+
+abbrev pub bytesFor : Call → Payload → List ℕ
+bytesFor reset p = []
+bytesFor (deliver o) p = []
+bytesFor checkpoint p = []
+bytesFor (undo k) p = []
+bytesFor (look target) p = payloadBytes target p
+
+-- ---- the outcome
+
+abbrev pub replyOf : Answer → Reply
+replyOf a = record { number = a .number; count = a .count; bytes = a .bytes }
+
+-- 14 comes after the lookup's own numbers
+unfoldable pub answerWithin : Call → Answer → ℕ → Answer
+answerWithin c a room = pick (both (eqb (a .number) 0) (ltb room (neededFor c))) (refuse 14) a
+
+-- what is handed out stands at the start of the output memory; a refusal leaves it
+unfoldable pub outAfter : Call → Answer → List ℕ → List ℕ
+outAfter c a out = pick (eqb (answerWithin c a (length out) .number) 0) (splice out 0 (bytesFor c (a .payload))) out
+
+unfoldable pub responseOf : Request → Answer → Response
+responseOf q a =
+    record {
+      reply = replyOf (answerWithin (q .call) a (length (q .out)));
+      out = outAfter (q .call) a (q .out);
+    }
+
+-- its response, what the state memory then describes, that a refusal leaves each of its bytes, and that the bytes past the needed
+-- lengths are as they were
+pub record CallOutcome (q : Request) (m : Memory) (r : Response) (m' : Memory) : Type 0 where
+  pub says : r ≡ responseOf q (answerView (q .call) (viewOf m))
+  pub holds : viewOf m' ≡ nextView (q .call) (viewOf m)
+  pub kept : (r .reply .number ≡ 0 → ⊥) → m' ≡ m
+  pub past : Past m m'
