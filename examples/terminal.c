@@ -224,12 +224,12 @@ static void send_message(const uint32_t words[RAIL_WORDS], const uint8_t *string
     static uint8_t out[RAIL_MESSAGE_MAX];
     const uint32_t answer = rail_pdu_write(words, strings, strings_size, out, sizeof out);
     uint32_t i;
-    if (rail_written_number(answer) != RAIL_DONE) {
-        printf("  not sent, %u: %s\n", rail_written_number(answer), rail_number_words(rail_written_number(answer)));
+    if (rail_number(answer) != RAIL_DONE) {
+        printf("  not sent, %u: %s\n", rail_number(answer), rail_number_words(rail_number(answer)));
         return;
     }
     printf("  send");
-    for (i = 0; i < rail_written_bytes(answer); i++)
+    for (i = 0; i < rail_bytes(answer); i++)
         printf(" %02X", out[i]);
     putchar('\n');
 }

@@ -84,15 +84,12 @@ enum rail_numbers {
     RAIL_OUTPUT_TOO_SMALL = 14 /* output memory too small */
 };
 
-/* ---- Answers. A state call: the number, and where it is 0 how many orders stand after the mark and their bytes in all. */
+/* ---- Answers, all in one packing: the number; where that is 0, a state call's count of orders that stand after the mark and their
+ * bytes in all, or the bytes that rail_pdu_write wrote. What a call does not answer is 0. */
 
 static inline uint32_t rail_number(uint32_t answer) { return answer & 255u; }
 static inline uint32_t rail_count(uint32_t answer) { return answer >> 8 & 255u; }
 static inline uint32_t rail_bytes(uint32_t answer) { return answer >> 16; }
-
-/* rail_pdu_tidy and rail_pdu_write: the number, and where it is 0 how many bytes were written. */
-static inline uint32_t rail_written_number(uint32_t answer) { return answer >> 16; }
-static inline uint32_t rail_written_bytes(uint32_t answer) { return answer & 65535u; }
 
 /* The condition of a number, in words. */
 static inline const char *rail_number_words(uint32_t number) {
@@ -194,15 +191,10 @@ static inline uint64_t rail_run_calls(uint64_t answer) { return answer >> 8; }
  * 2, 3, 4, 7 and 8, and then no word is written. */
 uint32_t rail_pdu_read(const uint8_t *message, size_t message_size, uint32_t words[12]);
 
-/* Reads one message and writes it again, with Padding 0 and a nonzero IsMoveSizeStart 1. Refuses as rail_pdu_read does and with
- * 14. A granted call writes exactly as many bytes of `out` as it answers. */
-uint32_t rail_pdu_tidy(const uint8_t *message, size_t message_size, uint8_t *out, size_t out_size);
-
 /* Writes the message of a record whose strings lie in `strings`. An Application ID of fewer than 520 bytes is filled with zeros.
  * Refuses with 8 words that are no record (unknown type, a number too great for its field or outside its set, a nonzero word after
- * the last, a string, also an empty one, that does not lie whole in `strings`), and then with 14. A granted call writes exactly as
- * many bytes of `out` as it answers. What was written reads back as the same record, with the strings at their places in the
- * message. */
+ * the last, a string, also an empty one, that does not lie whole in `strings`), and then with 14. A granted call writes rail_bytes()
+ * bytes of `out` and no other. What was written reads back as the same record, with the strings at their places in the message. */
 uint32_t rail_pdu_write(const uint32_t words[12], const uint8_t *strings, size_t strings_size, uint8_t *out, size_t out_size);
 
 #ifdef __cplusplus

@@ -9,43 +9,54 @@ use crate::plain;
 /// A record's fields as numbers.
 pub type Words = [u32; 12];
 
-/// Bytes of output memory that a `tidy` is lent, more than any message needs.
+/// Bytes of output memory that a write is lent, more than any message needs.
 pub const ROOM: usize = 17_408;
 
 type ReadFn = unsafe extern "C" fn(message: *const u8, length: usize, words: *mut u32) -> u32;
-type TidyFn =
-    unsafe extern "C" fn(message: *const u8, length: usize, out: *mut u8, out_length: usize) -> u32;
+type WriteFn = unsafe extern "C" fn(
+    words: *const u32,
+    strings: *const u8,
+    strings_length: usize,
+    out: *mut u8,
+    out_length: usize,
+) -> u32;
 
 // The proved library, from librail.a, which the crate `rail` links.
 extern "C" {
     fn rail_pdu_read(message: *const u8, length: usize, words: *mut u32) -> u32;
-    fn rail_pdu_tidy(message: *const u8, length: usize, out: *mut u8, out_length: usize) -> u32;
+    fn rail_pdu_write(
+        words: *const u32,
+        strings: *const u8,
+        strings_length: usize,
+        out: *mut u8,
+        out_length: usize,
+    ) -> u32;
 }
 
 /// One implementation of both jobs.
 pub struct Side {
     pub name: &'static str,
     read: ReadFn,
-    tidy: TidyFn,
+    write: WriteFn,
 }
 
 pub static PROVED: Side = Side {
     name: "proved",
     read: rail_pdu_read,
-    tidy: rail_pdu_tidy,
+    write: rail_pdu_write,
 };
 
 pub static PLAIN: Side = Side {
     name: "plain",
     read: plain::plain_pdu_read,
-    tidy: plain::plain_pdu_tidy,
+    write: plain::plain_pdu_write,
 };
 
 /// Does nothing, which measures the loop and the call.
 pub static EMPTY: Side = Side {
     name: "empty",
     read: empty_read,
-    tidy: empty_tidy,
+    write: empty_write,
 };
 
 /// Instructions of an empty entry point: set the answer, return.
@@ -57,7 +68,13 @@ unsafe extern "C" fn empty_read(_: *const u8, _: usize, _: *mut u32) -> u32 {
 }
 
 #[inline(never)]
-unsafe extern "C" fn empty_tidy(_: *const u8, _: usize, _: *mut u8, _: usize) -> u32 {
+unsafe extern "C" fn empty_write(
+    _: *const u32,
+    _: *const u8,
+    _: usize,
+    _: *mut u8,
+    _: usize,
+) -> u32 {
     0
 }
 
@@ -70,33 +87,30 @@ impl Side {
         unsafe { (self.read)(message.as_ptr(), message.len(), words.as_mut_ptr()) }
     }
 
-    /// Answers a number times 65,536 plus the bytes written.
+    /// Answers a number plus 65,536 times the bytes written.
     #[inline]
-    pub fn tidy(&self, message: &[u8], out: &mut [u8]) -> u32 {
-        // SAFETY: the entry point reads `length` bytes and writes at most
-        // `out_length`, and both references cover that.
-        unsafe { (self.tidy)(message.as_ptr(), message.len(), out.as_mut_ptr(), out.len()) }
+    pub fn write(&self, words: &Words, strings: &[u8], out: &mut [u8]) -> u32 {
+        // SAFETY: the entry point reads 12 words and `strings_length` bytes and
+        // writes at most `out_length`, and the references cover that.
+        unsafe {
+            (self.write)(
+                words.as_ptr(),
+                strings.as_ptr(),
+                strings.len(),
+                out.as_mut_ptr(),
+                out.len(),
+            )
+        }
     }
 }
 
 /// What is measured.
 #[derive(Clone, Copy)]
-pub enum Job {
-    /// Message to record to words.
-    Read,
-    /// Message to record to message.
-    Tidy,
-}
-
-impl Job {
-    pub const ALL: [Job; 2] = [Job::Read, Job::Tidy];
-
-    pub fn name(self) -> &'static str {
-        match self {
-            Job::Read => "read",
-            Job::Tidy => "tidy",
-        }
-    }
+pub enum Job<'a> {
+    /// Message to words.
+    Read(&'a [u8]),
+    /// Words, and strings, to a message in output memory of that many bytes.
+    Write(&'a Words, &'a [u8], usize),
 }
 
 /// The memory that calls write to. It is not cleared between calls.
@@ -114,11 +128,13 @@ impl Memory {
     }
 }
 
-/// Makes that many calls on one message.
-pub fn repeat(side: &Side, job: Job, message: &[u8], memory: &mut Memory, calls: u64) {
+/// Makes that many calls.
+pub fn repeat(side: &Side, job: Job, memory: &mut Memory, calls: u64) {
     match job {
-        Job::Read => repeat_read(side, message, &mut memory.words, calls),
-        Job::Tidy => repeat_tidy(side, message, &mut memory.out, calls),
+        Job::Read(message) => repeat_read(side, message, &mut memory.words, calls),
+        Job::Write(words, strings, room) => {
+            repeat_write(side, words, strings, &mut memory.out[..room], calls);
+        }
     }
 }
 
@@ -131,9 +147,9 @@ fn repeat_read(side: &Side, message: &[u8], words: &mut Words, calls: u64) {
 }
 
 #[inline(never)]
-fn repeat_tidy(side: &Side, message: &[u8], out: &mut [u8], calls: u64) {
+fn repeat_write(side: &Side, words: &Words, strings: &[u8], out: &mut [u8], calls: u64) {
     let side = black_box(side);
     for _ in 0..calls {
-        black_box(side.tidy(black_box(message), out));
+        black_box(side.write(black_box(words), black_box(strings), out));
     }
 }

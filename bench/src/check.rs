@@ -25,6 +25,16 @@ pub fn run() -> Result<(), String> {
             return Err(format!("{}: answer {answer}, not {expected}", input.name));
         }
     }
+    for output in &inputs::outputs() {
+        let answer = checker.compare_write(&output.words, &output.strings, output.room)?;
+        if answer != output.answer {
+            let expected = output.answer;
+            return Err(format!(
+                "{}: answer {answer:#x}, not {expected:#x}",
+                output.name
+            ));
+        }
+    }
     for seed in 0..SCRIPTS {
         checker.compare_script(&generate::pdu::script(seed, ITEMS))?;
     }
@@ -70,19 +80,30 @@ impl Checker {
     /// Both jobs on one message; what reading answers.
     fn compare(&mut self, message: &[u8]) -> Result<u32, String> {
         self.messages += 1;
-        let answer = self.compare_read(message)?;
-        self.granted += u64::from(answer == 0);
-        let written = self.compare_tidy(message, ROOM)? as usize;
+        let (answer, words) = self.compare_read(message)?;
         if answer == 0 {
-            // As much room as needed, too little by one, and none.
-            for room in [written, written - 1, 0] {
-                self.compare_tidy(message, room)?;
+            self.granted += 1;
+            let size = message.len();
+            let written = self.compare_write(&words, message, ROOM)?;
+            if written != (size as u32) << 16 {
+                return Err(format!("{message:02x?} is written with {written:#x}"));
             }
+            // As much room as needed, too little by one, and none.
+            for room in [size, size - 1, 0] {
+                self.compare_write(&words, message, room)?;
+            }
+            // One word more, another type, and strings that end too soon.
+            for (at, word) in words.iter().enumerate() {
+                let mut other = words;
+                other[at] = word.wrapping_add(1 << (7 * at % 32));
+                self.compare_write(&other, message, ROOM)?;
+            }
+            self.compare_write(&words, &message[..size - 1], ROOM)?;
         }
         Ok(answer)
     }
 
-    fn compare_read(&mut self, message: &[u8]) -> Result<u32, String> {
+    fn compare_read(&mut self, message: &[u8]) -> Result<(u32, Words), String> {
         self.calls += 1;
         let proved = read(&PROVED, message);
         let plain = read(&PLAIN, message);
@@ -91,25 +112,25 @@ impl Checker {
                 "read differs on {message:02x?}: proved {proved:?}, plain {plain:?}"
             ));
         }
-        Ok(plain.0)
+        Ok(plain)
     }
 
     /// Also compares the memory past the room that is lent.
-    fn compare_tidy(&mut self, message: &[u8], room: usize) -> Result<u32, String> {
+    fn compare_write(&mut self, words: &Words, strings: &[u8], room: usize) -> Result<u32, String> {
         self.calls += 1;
         let [by_proved, by_plain] = &mut self.memory;
         by_proved.fill(FILL);
         by_plain.fill(FILL);
-        let proved = PROVED.tidy(message, &mut by_proved[..room]);
-        let plain = PLAIN.tidy(message, &mut by_plain[..room]);
+        let proved = PROVED.write(words, strings, &mut by_proved[..room]);
+        let plain = PLAIN.write(words, strings, &mut by_plain[..room]);
         if proved != plain {
             return Err(format!(
-                "tidy with room {room} differs on {message:02x?}: proved {proved:#x}, plain {plain:#x}"
+                "write with room {room} differs on {words:x?}: proved {proved:#x}, plain {plain:#x}"
             ));
         }
         if by_proved != by_plain {
             return Err(format!(
-                "tidy with room {room} writes other bytes on {message:02x?}"
+                "write with room {room} writes other bytes on {words:x?}"
             ));
         }
         Ok(plain)

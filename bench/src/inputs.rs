@@ -2,6 +2,8 @@
 
 use second::hex;
 
+use crate::call::{Job, Words, PLAIN, ROOM};
+
 /// A message with what reading it answers.
 pub struct Input {
     /// For the command line.
@@ -85,9 +87,77 @@ pub fn all() -> Vec<Input> {
     inputs
 }
 
-/// The message of that name.
-pub fn named(name: &str) -> Option<Input> {
-    all().into_iter().find(|input| input.name == name)
+/// Words to be written, with the strings they tell of and the output memory lent.
+pub struct Output {
+    /// For the command line.
+    pub name: &'static str,
+    /// For the tables.
+    pub label: &'static str,
+    pub words: Words,
+    pub strings: Vec<u8>,
+    pub room: usize,
+    pub answer: u32,
+}
+
+impl Input {
+    pub fn job(&self) -> Job<'_> {
+        Job::Read(&self.message)
+    }
+}
+
+impl Output {
+    pub fn job(&self) -> Job<'_> {
+        Job::Write(&self.words, &self.strings, self.room)
+    }
+
+    /// Bytes of the message.
+    pub fn size(&self) -> usize {
+        (self.answer >> 16) as usize
+    }
+}
+
+/// The words of each message that reading grants, and some that writing refuses.
+pub fn outputs() -> Vec<Output> {
+    let mut outputs: Vec<Output> = all()
+        .into_iter()
+        .filter(|input| input.answer == 0)
+        .map(|input| {
+            let mut words = [0; 12];
+            assert_eq!(PLAIN.read(&input.message, &mut words), 0, "granted");
+            Output {
+                name: input.name,
+                label: input.label,
+                words,
+                answer: (input.message.len() as u32) << 16,
+                strings: input.message,
+                room: ROOM,
+            }
+        })
+        .collect();
+    let refused = |name, label, words, room, answer| Output {
+        name,
+        label,
+        words,
+        strings: Vec::new(),
+        room,
+        answer,
+    };
+    let activate = |enabled| [2, 0x1_0058, enabled, 0, 0, 0, 0, 0, 0, 0, 0, 0];
+    outputs.push(refused(
+        "refused-enabled",
+        "Refused: Enabled 2",
+        activate(2),
+        ROOM,
+        8,
+    ));
+    outputs.push(refused(
+        "refused-room",
+        "Refused: no room",
+        activate(1),
+        8,
+        14,
+    ));
+    outputs
 }
 
 fn executes() -> Vec<Input> {

@@ -26,7 +26,7 @@ bench: the proved code beside the plain Rust of `second`
                        itself under valgrind --tool=callgrind
   bench one MESSAGE SIDE JOB N
                        make N calls and print nothing, for callgrind.
-                       SIDE: proved, plain or empty; JOB: read or tidy
+                       SIDE: proved, plain or empty; JOB: read or write
   bench messages       list the benchmark messages
   bench orders [PROGRAM]
                        print instructions and nanoseconds per delivery of an order
@@ -39,9 +39,8 @@ bench: the proved code beside the plain Rust of `second`
                        ORDERS: in the journal; SIDE: proved or plain
   bench state-calls    list the state calls
 
-Jobs: `read` takes a message's bytes to a judged record and its fields to 12
-words; `tidy` takes a message's bytes to a record and the record to bytes in an
-output buffer. Writing alone (`rail_pdu_write`) is not measured.
+Jobs: `read` takes a message's bytes to the 12 words of its record, judged;
+`write` takes 12 words and strings to a message's bytes in an output buffer.
 
 Times depend on the machine and its load: run it on an idle one. Instruction
 counts are the same in every run of the same two builds on the same machine and
@@ -98,6 +97,9 @@ fn everything() -> Result<(), String> {
 fn list_messages() -> Result<(), String> {
     for input in inputs::all() {
         println!("{}: {}", input.name, input.label);
+    }
+    for output in inputs::outputs().iter().filter(|output| output.size() == 0) {
+        println!("{} (write): {}", output.name, output.label);
     }
     Ok(())
 }

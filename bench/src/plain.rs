@@ -3,7 +3,13 @@
 
 use std::slice;
 
+use second::ids::{NotifyIconId, WindowId};
+use second::number::OUTSIDE_SET;
 use second::pdu::{self, order_type, Record};
+use second::pdu::{
+    Activate, ApplicationIdResponse, ClientInformation, Execute, ExecuteResult, GetApplicationId,
+    Handshake, MinMaxInfo, MoveSize, NotifyEvent, SystemCommand, SystemMenu, WindowMove,
+};
 
 use crate::call::Words;
 
@@ -25,24 +31,153 @@ pub unsafe extern "C" fn plain_pdu_read(message: *const u8, length: usize, words
     }
 }
 
-/// As `rail_pdu_tidy`.
+/// As `rail_pdu_write`.
 ///
 /// # Safety
-/// `message` has `length` bytes, `out` has `out_length`, and they are apart.
+/// `words` has 12 words, `strings` has `strings_length` bytes, `out` has
+/// `out_length`, and it is apart from both.
 #[no_mangle]
 #[inline(never)]
-pub unsafe extern "C" fn plain_pdu_tidy(
-    message: *const u8,
-    length: usize,
+pub unsafe extern "C" fn plain_pdu_write(
+    words: *const u32,
+    strings: *const u8,
+    strings_length: usize,
     out: *mut u8,
     out_length: usize,
 ) -> u32 {
-    let message = slice::from_raw_parts(message, length);
+    let words = &*words.cast::<Words>();
+    let strings = slice::from_raw_parts(strings, strings_length);
     let out = slice::from_raw_parts_mut(out, out_length);
-    match pdu::read(message).and_then(|record| pdu::write(&record, out)) {
-        Ok(written) => written as u32,
-        Err(number) => u32::from(number) << 16,
+    let Some(record) = record_of(words, strings) else {
+        return OUTSIDE_SET.into();
+    };
+    match pdu::write(&record, out) {
+        Ok(written) => (written as u32) << 16,
+        Err(number) => number.into(),
     }
+}
+
+/// The record that words stand for: none where the type is unknown, a word does
+/// not fit its field or is not 0 after the last, or a string is not in `strings`.
+#[inline]
+fn record_of<'a>(words: &Words, strings: &'a [u8]) -> Option<Record<'a>> {
+    let half = |i: usize| u16::try_from(words[i]).ok();
+    let window_id = WindowId(words[1]);
+    let string = |i: usize| {
+        let from = strings.get(words[i] as usize..)?;
+        from.get(..words[i + 1] as usize)
+    };
+    let ends = |n: usize| words[n..].iter().all(|&word| word == 0).then_some(());
+    Some(match u16::try_from(words[0]).ok()? {
+        order_type::EXECUTE => {
+            ends(8)?;
+            Record::Execute(Execute {
+                flags: half(1)?,
+                exe_or_file: string(2)?,
+                working_dir: string(4)?,
+                arguments: string(6)?,
+            })
+        }
+        order_type::ACTIVATE => {
+            ends(3)?;
+            Record::Activate(Activate {
+                window_id,
+                enabled: u8::try_from(words[2]).ok()?,
+            })
+        }
+        order_type::SYSTEM_COMMAND => {
+            ends(3)?;
+            Record::SystemCommand(SystemCommand {
+                window_id,
+                command: half(2)?,
+            })
+        }
+        order_type::HANDSHAKE => {
+            ends(2)?;
+            Record::Handshake(Handshake {
+                build_number: words[1],
+            })
+        }
+        order_type::NOTIFY_EVENT => {
+            ends(4)?;
+            Record::NotifyEvent(NotifyEvent {
+                window_id,
+                notify_icon_id: NotifyIconId(words[2]),
+                message: words[3],
+            })
+        }
+        order_type::WINDOW_MOVE => {
+            ends(6)?;
+            Record::WindowMove(WindowMove {
+                window_id,
+                left: half(2)?,
+                top: half(3)?,
+                right: half(4)?,
+                bottom: half(5)?,
+            })
+        }
+        order_type::MOVE_SIZE => {
+            ends(6)?;
+            Record::MoveSize(MoveSize {
+                window_id,
+                is_move_size_start: match words[2] {
+                    0 => false,
+                    1 => true,
+                    _ => return None,
+                },
+                move_size_type: half(3)?,
+                pos_x: half(4)?,
+                pos_y: half(5)?,
+            })
+        }
+        order_type::MIN_MAX_INFO => {
+            ends(10)?;
+            Record::MinMaxInfo(MinMaxInfo {
+                window_id,
+                max_width: half(2)?,
+                max_height: half(3)?,
+                max_pos_x: half(4)?,
+                max_pos_y: half(5)?,
+                min_track_width: half(6)?,
+                min_track_height: half(7)?,
+                max_track_width: half(8)?,
+                max_track_height: half(9)?,
+            })
+        }
+        order_type::CLIENT_INFORMATION => {
+            ends(2)?;
+            Record::ClientInformation(ClientInformation { flags: words[1] })
+        }
+        order_type::SYSTEM_MENU => {
+            ends(4)?;
+            Record::SystemMenu(SystemMenu {
+                window_id,
+                left: half(2)?,
+                top: half(3)?,
+            })
+        }
+        order_type::GET_APPLICATION_ID => {
+            ends(2)?;
+            Record::GetApplicationId(GetApplicationId { window_id })
+        }
+        order_type::APPLICATION_ID_RESPONSE => {
+            ends(4)?;
+            Record::ApplicationIdResponse(ApplicationIdResponse {
+                window_id,
+                application_id: string(2)?,
+            })
+        }
+        order_type::EXECUTE_RESULT => {
+            ends(6)?;
+            Record::ExecuteResult(ExecuteResult {
+                flags: half(1)?,
+                exec_result: half(2)?,
+                raw_result: words[3],
+                exe_or_file: string(4)?,
+            })
+        }
+        _ => return None,
+    })
 }
 
 /// The type, then the fields in carried order, then zeros.

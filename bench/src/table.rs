@@ -1,7 +1,5 @@
 //! Markdown tables: both sides and their ratio, a row per message or order.
 
-use crate::call::Job;
-
 /// What one job costs on each side.
 #[derive(Clone, Copy)]
 pub struct Cost {
@@ -9,23 +7,15 @@ pub struct Cost {
     pub plain: f64,
 }
 
-/// Prints the header of a table whose numbers have this unit, for both jobs.
-pub fn print_header(unit: &str) {
-    let groups = Job::ALL.map(|job| {
-        let name = match job {
-            Job::Read => "Read",
-            Job::Tidy => "Read and write",
-        };
-        titles(name, unit)
-    });
-    println!("| Message | Bytes | {} |", groups.join(" | "));
-    println!("|---|{}", "---:|".repeat(1 + 3 * groups.len()));
+/// Prints the header of a table of a job on messages, whose numbers have this unit.
+pub fn print_header(job: &str, unit: &str) {
+    println!("| Message | Bytes | {} |", titles(job, unit));
+    println!("|---|{}", "---:|".repeat(4));
 }
 
 /// Prints a message's row, with that many digits after the point.
-pub fn print_row(label: &str, bytes: usize, costs: [Cost; 2], digits: usize) {
-    let groups = costs.map(|cost| columns(cost, digits));
-    println!("| {label} | {bytes} | {} |", groups.join(" | "));
+pub fn print_row(label: &str, bytes: usize, cost: Cost, digits: usize) {
+    println!("| {label} | {bytes} | {} |", columns(cost, digits));
 }
 
 /// The titles of the three columns of a cost.

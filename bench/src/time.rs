@@ -12,42 +12,47 @@ use crate::table::{print_header, print_row, Cost};
 const RUNS: usize = 51;
 const RUN_TIME: Duration = Duration::from_millis(1);
 
-/// Prints the table.
+/// Prints the tables.
 pub fn run() -> Result<(), String> {
     let mut memory = Memory::new();
-    print_header("ns");
-    for input in inputs::all() {
-        let costs = Job::ALL.map(|job| {
-            let [proved, plain] = medians([&PROVED, &PLAIN], job, &input.message, &mut memory);
-            Cost { proved, plain }
-        });
-        print_row(input.label, input.message.len(), costs, 1);
+    let (inputs, outputs) = (inputs::all(), inputs::outputs());
+    print_header("Read", "ns");
+    for input in &inputs {
+        let cost = cost(input.job(), &mut memory);
+        print_row(input.label, input.message.len(), cost, 1);
     }
-    let [read, tidy] = Job::ALL.map(|job| medians([&EMPTY], job, &[], &mut memory)[0]);
+    println!();
+    print_header("Write", "ns");
+    for output in &outputs {
+        let cost = cost(output.job(), &mut memory);
+        print_row(output.label, output.size(), cost, 1);
+    }
+    let [read] = medians([&EMPTY], inputs[0].job(), &mut memory);
+    let [write] = medians([&EMPTY], outputs[0].job(), &mut memory);
     println!();
     println!(
         "Nanoseconds per call, the median of {RUNS} runs of about {} ms or longer. Each number has in it \
          the loop and an indirect call, which with an empty function take {read:.1} (read) and \
-         {tidy:.1} (read and write). Output memory is not cleared between calls.",
+         {write:.1} (write). Output memory is not cleared between calls.",
         RUN_TIME.as_millis(),
     );
     Ok(())
 }
 
+fn cost(job: Job<'_>, memory: &mut Memory) -> Cost {
+    let [proved, plain] = medians([&PROVED, &PLAIN], job, memory);
+    Cost { proved, plain }
+}
+
 /// The median for each side. The sides take turns, so that a slower spell of the
 /// machine meets all of them.
-fn medians<const N: usize>(
-    sides: [&Side; N],
-    job: Job,
-    message: &[u8],
-    memory: &mut Memory,
-) -> [f64; N] {
-    let calls = sides.map(|side| enough_calls(side, job, message, memory));
+fn medians<const N: usize>(sides: [&Side; N], job: Job<'_>, memory: &mut Memory) -> [f64; N] {
+    let calls = sides.map(|side| enough_calls(side, job, memory));
     let mut runs: [Vec<f64>; N] = array::from_fn(|_| Vec::with_capacity(RUNS));
     for turn in 0..RUNS {
         for place in 0..N {
             let at = (place + turn) % N;
-            let taken = elapsed(sides[at], job, message, memory, calls[at]);
+            let taken = elapsed(sides[at], job, memory, calls[at]);
             runs[at].push(taken.as_secs_f64() * 1e9 / calls[at] as f64);
         }
     }
@@ -59,16 +64,16 @@ fn medians<const N: usize>(
 
 /// So many calls that even the quickest of a few runs lasts long enough; warms
 /// up as well.
-fn enough_calls(side: &Side, job: Job, message: &[u8], memory: &mut Memory) -> u64 {
+fn enough_calls(side: &Side, job: Job<'_>, memory: &mut Memory) -> u64 {
     let mut calls = 1_000;
-    while (0..3).any(|_| elapsed(side, job, message, memory, calls) < RUN_TIME) {
+    while (0..3).any(|_| elapsed(side, job, memory, calls) < RUN_TIME) {
         calls *= 2;
     }
     calls
 }
 
-fn elapsed(side: &Side, job: Job, message: &[u8], memory: &mut Memory, calls: u64) -> Duration {
+fn elapsed(side: &Side, job: Job<'_>, memory: &mut Memory, calls: u64) -> Duration {
     let start = Instant::now();
-    repeat(side, job, message, memory, calls);
+    repeat(side, job, memory, calls);
     start.elapsed()
 }

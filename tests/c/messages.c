@@ -130,40 +130,40 @@ static void build(int k, uint32_t w[RAIL_WORDS]) {
     finish();
 }
 
-/* The message in `order` meets the number, from both calls, and nothing is written. */
+/* The message in `order` meets the number, which is the whole answer, and no word is written. */
 static void refuse_read(size_t size, uint32_t number) {
     uint32_t words[RAIL_WORDS], i, same = 0;
-    uint8_t out[RAIL_MESSAGE_MAX];
     memset(words, 0xEE, sizeof words);
-    memset(out, 0xEE, sizeof out);
-    CHECK(rail_pdu_read(order.at, size, words) == number);
+    CHECK(rail_pdu_read(order.at, size, words) == number && rail_number(number) == number);
     for (i = 0; i < RAIL_WORDS; i++)
         same += words[i] == 0xEEEEEEEEu;
     CHECK(same == RAIL_WORDS);
-    CHECK(rail_pdu_tidy(order.at, size, out, sizeof out) == number * 65536);
-    CHECK(filled(out, sizeof out, 0xEE));
 }
 
-/* Out memory one byte too small, just enough, and more. */
-static void check_out(uint32_t (*write)(const uint32_t *w, uint8_t *out, size_t size), const uint32_t *w) {
-    const size_t n = order.size;
-    uint8_t *less = fenced(n - 1), *exact = fenced(n), *more = fenced(n + 99);
-    memset(less, 0xEE, n - 1);
-    memset(more, 0xEE, n + 99);
-    CHECK(write(w, less, n - 1) == RAIL_OUTPUT_TOO_SMALL * 65536);
-    CHECK(filled(less, n - 1, 0xEE));
-    CHECK(write(w, exact, n) == n && memcmp(exact, order.at, n) == 0);
-    CHECK(write(w, more, n + 99) == n && memcmp(more, order.at, n) == 0);
-    CHECK(filled(more + n, 99, 0xEE));
+/* A write that grants n bytes; one that meets a number, which is then the whole answer, and leaves `out` as it was. */
+static int granted(uint32_t answer, size_t n) {
+    return rail_number(answer) == RAIL_DONE && rail_bytes(answer) == n && answer == (uint32_t)n << 16;
 }
 
-static uint32_t tidy(const uint32_t *w, uint8_t *out, size_t size) {
-    (void)w;
-    return rail_pdu_tidy(order.at, order.size, out, size);
+static int refused(uint32_t answer, uint32_t number) {
+    return rail_number(answer) == number && rail_number(answer) != RAIL_DONE && rail_bytes(answer) == 0 && answer == number;
 }
 
 static uint32_t write_words(const uint32_t *w, uint8_t *out, size_t size) {
     return rail_pdu_write(w, order.at, order.size, out, size);
+}
+
+/* Out memory one byte too small, just enough, and more. */
+static void check_out(const uint32_t *w) {
+    const size_t n = order.size;
+    uint8_t *less = fenced(n - 1), *exact = fenced(n), *more = fenced(n + 99);
+    memset(less, 0xEE, n - 1);
+    memset(more, 0xEE, n + 99);
+    CHECK(refused(write_words(w, less, n - 1), RAIL_OUTPUT_TOO_SMALL));
+    CHECK(filled(less, n - 1, 0xEE));
+    CHECK(granted(write_words(w, exact, n), n) && memcmp(exact, order.at, n) == 0);
+    CHECK(granted(write_words(w, more, n + 99), n) && memcmp(more, order.at, n) == 0);
+    CHECK(filled(more + n, 99, 0xEE));
 }
 
 /* How many of the numbers 0 to 65,535 at `at` the reader grants; `sum` is the sum of those. */
@@ -234,7 +234,7 @@ static void longest(void) {
     CHECK(order.size == RAIL_MESSAGE_MAX);
     CHECK(rail_pdu_read(order.at, order.size, words) == RAIL_DONE);
     CHECK(words[RAIL_WORD_EXEC_ARGUMENTS_AT] + words[RAIL_WORD_EXEC_ARGUMENTS_LENGTH] == RAIL_MESSAGE_MAX);
-    check_out(tidy, words);
+    check_out(words);
     build_execute(RAIL_EXE_OR_FILE_MAX + 2, 0, 0);
     refuse_read(order.size, RAIL_BAD_VALUE);
     build_execute(2, RAIL_WORKING_DIR_MAX + 2, 0);
@@ -252,7 +252,7 @@ static void read_kind(int k) {
     memset(words, 0xEE, sizeof words);
     CHECK(rail_pdu_read(order.at, order.size, words) == RAIL_DONE);
     CHECK(memcmp(words, w, sizeof w) == 0);
-    check_out(tidy, w);
+    check_out(w);
     refuse_read(3, RAIL_TOO_SHORT);
     refuse_read(order.size - 1, RAIL_LENGTH_DIFFERS);
     order.size = 4;
@@ -289,8 +289,8 @@ void test_reading(void) {
 static void refuse_words(const uint32_t *w) {
     uint8_t out[RAIL_MESSAGE_MAX];
     memset(out, 0xEE, sizeof out);
-    CHECK(rail_pdu_write(w, order.at, order.size, out, sizeof out) == RAIL_BAD_VALUE * 65536);
-    CHECK(rail_pdu_write(w, order.at, order.size, out, 0) == RAIL_BAD_VALUE * 65536); /* before 14 */
+    CHECK(refused(rail_pdu_write(w, order.at, order.size, out, sizeof out), RAIL_BAD_VALUE));
+    CHECK(refused(rail_pdu_write(w, order.at, order.size, out, 0), RAIL_BAD_VALUE)); /* before 14 */
     CHECK(filled(out, sizeof out, 0xEE));
 }
 
@@ -301,18 +301,18 @@ static void write_strings(void) {
     uint32_t w[RAIL_WORDS] = {TS_RAIL_ORDER_EXEC, 0, 6, 6, 2, 4, 0, 2, 0, 0, 0, 0};
     uint8_t out[RAIL_MESSAGE_MAX];
     uint32_t id[RAIL_WORDS] = {TS_RAIL_ORDER_GET_APPID_RESP, 7, 2, 3, 0, 0, 0, 0, 0, 0, 0, 0};
-    CHECK(rail_pdu_write(w, strings, sizeof strings, out, sizeof out) == sizeof wanted);
+    CHECK(granted(rail_pdu_write(w, strings, sizeof strings, out, sizeof out), sizeof wanted));
     CHECK(memcmp(out, wanted, sizeof wanted) == 0);
     w[RAIL_WORD_EXEC_WORKING_DIR_AT] = 9; /* runs over the end */
-    CHECK(rail_pdu_write(w, strings, sizeof strings, out, sizeof out) == RAIL_BAD_VALUE * 65536);
+    CHECK(refused(rail_pdu_write(w, strings, sizeof strings, out, sizeof out), RAIL_BAD_VALUE));
     w[RAIL_WORD_EXEC_WORKING_DIR_AT] = UINT32_MAX;
-    CHECK(rail_pdu_write(w, strings, sizeof strings, out, sizeof out) == RAIL_BAD_VALUE * 65536);
+    CHECK(refused(rail_pdu_write(w, strings, sizeof strings, out, sizeof out), RAIL_BAD_VALUE));
     w[RAIL_WORD_EXEC_WORKING_DIR_LENGTH] = 0; /* empty, and past the end */
-    CHECK(rail_pdu_write(w, strings, sizeof strings, out, sizeof out) == RAIL_BAD_VALUE * 65536);
+    CHECK(refused(rail_pdu_write(w, strings, sizeof strings, out, sizeof out), RAIL_BAD_VALUE));
     w[RAIL_WORD_EXEC_WORKING_DIR_AT] = sizeof strings;
-    CHECK(rail_pdu_write(w, strings, sizeof strings, out, sizeof out) == sizeof wanted - 4);
+    CHECK(granted(rail_pdu_write(w, strings, sizeof strings, out, sizeof out), sizeof wanted - 4));
     memset(out, 0xEE, sizeof out);
-    CHECK(rail_pdu_write(id, strings, sizeof strings, out, sizeof out) == 528);
+    CHECK(granted(rail_pdu_write(id, strings, sizeof strings, out, sizeof out), 528));
     CHECK(out[8] == 'w' && out[9] == 0 && out[10] == 'w' && filled(out + 11, 517, 0) && out[528] == 0xEE);
 }
 
@@ -333,7 +333,7 @@ static void write_kind(int k) {
     uint32_t w[RAIL_WORDS];
     int i;
     build(k, w);
-    check_out(write_words, w);
+    check_out(w);
     for (i = 0; i < RAIL_WORDS; i++)
         refuse_word(k, i);
     build(k, w);

@@ -26,7 +26,6 @@ static void *call(void *argument) {
     case 7: rail_checkpoint(NOW); break;
     case 8: rail_reset(NOW); break;
     case 9: rail_pdu_read(order.at, order.size, words); break;
-    case 10: rail_pdu_tidy(order.at, order.size, out, RAIL_PICTURE_SIZE); break;
     default: rail_pdu_write(handshake, order.at, 0, out, RAIL_PICTURE_SIZE);
     }
     return NULL;

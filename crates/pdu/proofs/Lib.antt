@@ -1,4 +1,4 @@
-pub mod Numbers
+pub mod Answers
 pub mod Strings
 pub mod Writing
 pub mod ReadBack

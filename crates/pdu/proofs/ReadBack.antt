@@ -21,7 +21,7 @@ use Rattle.pdu.specs.declared.Read.the-variants.{Message, Refused}
 use Rattle.pdu.specs.Layout.{oneOf, known, widths}
 use Rattle.pdu.specs.Records.{span, isYes, yesNumber, recordOf, kindOf, numsOf, sizeOf, spansOf}
 use Rattle.pdu.specs.Rules.{textOk, executeFlagsOk, execResults, executeAllowed, executeResultAllowed, allowed}
-use Rattle.pdu.specs.Reading.{recordAs, readOf}
+use Rattle.pdu.specs.Reading.{recordAs, bodyNumber, readNumber, answerAs, readOf}
 use Rattle.pdu.specs.Writing.{partOf, zeros, filled, stringsOf, joined, row, line, encode, grants}
 use Rattle.pdu.specs.RoundTrip.{rebased, typed, ReadsBack}
 use Rattle.pdu.proofs.Strings.{spansFrom, parts, parts-back, filled-whole}
@@ -184,7 +184,7 @@ row-fits k n ws ns a b c = rw (a, b) c
 -- a message that no line of the ladder refuses
 pub granted : (s : List ℕ) (p : Pdu) → ltb (length s) 4 ≡ false → eqb (numAt 2 s 2) (length s) ≡ true → known (numAt 2 s 0) ≡ true → recordAs (numAt 2 s 0) s ≡ p
     → eqb (sizeOf p) (length s) ≡ true → allowed p ≡ true → readOf s ≡ Message p
-unfolding readOf
+unfolding readOf readNumber bodyNumber answerAs
 granted s p a b c r z w = rw (a, b, c, r, z, w)
 
 module _ (p : Pdu) (src : List ℕ) (g : grants p src ≡ true) (t : typed p ≡ true) where

@@ -8,18 +8,18 @@ use lib.Seq.{take-at}
 use borrow.Author.Tests.{le-leb}
 use Rattle.pdu.specs.declared.Pdu.{Pdu}
 use Rattle.pdu.specs.Records.{sizeOf}
-use Rattle.pdu.specs.Writing.{encode, grants, outAfter}
+use Rattle.pdu.specs.Writing.{encode, grants, writtenNumber, outAfter}
 use Rattle.pdu.specs.RoundTrip.{typed, ReadsBack, RoundTrip}
 use Rattle.pdu.proofs.Writing.{length-encode}
 use Rattle.pdu.proofs.ReadBack.{reads-back}
 use Rattle.pdu.proofs.WriteBack.{writes-back}
 
 pub round-trip : RoundTrip
-round-trip = record { written = reads-back; read = writes-back }
+round-trip = record { written = reads-back; read = λ b p ok e. writes-back b p (record { small = ok }) e }
 
 module _ (p : Pdu) (src out : List ℕ) (g : grants p src ≡ true) (fits : sizeOf p ≤ length out) where
   first : outAfter p src out ≡ encode p src ++ drop (sizeOf p) out
-  unfolding outAfter
+  unfolding outAfter writtenNumber
   first = rw (g, le-leb (sizeOf p) (length out) fits)
 
   -- the output memory after a granted call reads back

@@ -2,7 +2,7 @@
 use mathlib.Core.Path.{_≡_, refl, sym, ap, _∙_, subst}
 use mathlib.Core.Bool.{Bool, true, false, not}
 use mathlib.Core.List.{List, [], _∷_, _++_, append-nil, map}
-use Prim.Native.Nat.{ℕ, _+_, _-_, _/_, _%_, _≤_, _<_}
+use Prim.Native.Nat.{ℕ, suc, _+_, _≤_}
 use native.Mathlib.Nat.{add-zero}
 use native.Mathlib.Omega.{arith}
 use lib.ListN.{length, getD, take, drop, take-append-drop}
@@ -23,7 +23,7 @@ use Rattle.pdu.specs.declared.Read.the-variants.{Message, Refused}
 use Rattle.pdu.specs.Layout.{types, known, widths}
 use Rattle.pdu.specs.Records.{span, isYes, yesNumber, recordOf, kindOf, numsOf, sizeOf, spansOf}
 use Rattle.pdu.specs.Rules.{allowed}
-use Rattle.pdu.specs.Reading.{recordAs, readOf}
+use Rattle.pdu.specs.Reading.{recordAs, bodyNumber, readNumber, answerAs, readOf}
 use Rattle.pdu.specs.Writing.{partOf, lies, allLie, zeros, filled, stringsOf, joined, row, line, encode, grants}
 use Rattle.pdu.specs.RoundTrip.{tidyAs, tidy, WritesBack}
 use Rattle.pdu.proofs.Strings.{spansFrom, sum, parts, parts-join, all-lie, filled-whole}
@@ -38,9 +38,14 @@ message-inj : (p q : Pdu) → Message p ≡ Message q → p ≡ q
 message-inj p q e = ap (λ (r : Read). recordIn r p) e
 
 -- a line of the ladder that was passed
-passed : (t : Bool) (x : Read) (n : ℕ) (p : Pdu) → pick t (Refused n) x ≡ Message p → (t ≡ false) × (x ≡ Message p)
-passed false x n p e = (refl, e)
-passed true x n p e = let z : _≡_ {A = ℕ} 0 1 = cc in absurd (omega arith)
+passed : (t : Bool) (x n : ℕ) → pick t (suc n) x ≡ 0 → (t ≡ false) × (x ≡ 0)
+passed false x n e = (refl, e)
+passed true x n e = absurd (omega (arith, e))
+
+-- an answer with a record has the number 0
+zero-number : (n : ℕ) (r p : Pdu) (t : Bool) → eqb n 0 ≡ t → pick t (Message r) (Refused n) ≡ Message p → (n ≡ 0) × (r ≡ p)
+zero-number n r p true z e = (eqb-true n 0 z, message-inj r p e)
+zero-number n r p false z e = let y : _≡_ {A = ℕ} 0 1 = cc in absurd (omega arith)
 
 not-not : (b : Bool) → not b ≡ false → b ≡ true
 not-not true e = refl
@@ -54,24 +59,25 @@ pub record Granted (b : List ℕ) (p : Pdu) : Type 0 where
   pub same-record : recordAs (numAt 2 b 0) b ≡ p
 
 pub reading : (b : List ℕ) (p : Pdu) → readOf b ≡ Message p → Granted b p
-unfolding readOf
+unfolding readOf readNumber bodyNumber answerAs
 reading b p e =
     let r = recordAs (numAt 2 b 0) b in
-    let x8 = pick (not (allowed r)) (Refused 8) (Message r) in
-    let x7 = pick (not (eqb (sizeOf r) (length b))) (Refused 7) x8 in
-    let x4 = pick (not (known (numAt 2 b 0))) (Refused 4) x7 in
-    let x3 = pick (not (eqb (numAt 2 b 2) (length b))) (Refused 3) x4 in
-    let a = passed (ltb (length b) 4) x3 2 p e in
-    let c = passed (not (eqb (numAt 2 b 2) (length b))) x4 3 p (a .1) in
-    let d = passed (not (known (numAt 2 b 0))) x7 4 p (c .1) in
-    let f = passed (not (eqb (sizeOf r) (length b))) x8 7 p (d .1) in
-    let g = passed (not (allowed r)) (Message r) 8 p (f .1) in
+    let x8 : ℕ = pick (not (allowed r)) 8 0 in
+    let x7 : ℕ = pick (not (eqb (sizeOf r) (length b))) 7 x8 in
+    let x4 : ℕ = pick (not (known (numAt 2 b 0))) 4 x7 in
+    let x3 : ℕ = pick (not (eqb (numAt 2 b 2) (length b))) 3 x4 in
+    let n = zero-number (pick (ltb (length b) 4) 2 x3) r p (eqb (pick (ltb (length b) 4) 2 x3) 0) refl e in
+    let a = passed (ltb (length b) 4) x3 1 (n .0) in
+    let c = passed (not (eqb (numAt 2 b 2) (length b))) x4 2 (a .1) in
+    let d = passed (not (known (numAt 2 b 0))) x7 3 (c .1) in
+    let f = passed (not (eqb (sizeOf r) (length b))) x8 6 (d .1) in
+    let g = passed (not (allowed r)) 0 7 (f .1) in
     record {
       length-told = eqb-true (numAt 2 b 2) (length b) (not-not (eqb (numAt 2 b 2) (length b)) (c .0));
       kind-known = not-not (known (numAt 2 b 0)) (d .0);
       fills = eqb-true (sizeOf r) (length b) (not-not (eqb (sizeOf r) (length b)) (f .0));
       fine = not-not (allowed r) (g .0);
-      same-record = message-inj r p (g .1);
+      same-record = n .1;
     }
 
 -- a message that reading grants has the size of its record

@@ -22,7 +22,7 @@ use Rattle.pdu.specs.declared.Written.the-variants as W
 use Rattle.pdu.specs.Layout.{widths}
 use Rattle.pdu.specs.Records.{kindOf, numsOf, sizeOf, spansOf}
 use Rattle.pdu.specs.Rules.{allowed}
-use Rattle.pdu.specs.Writing.{partOf, lies, allLie, zeros, filled, stringsOf, joined, row, line, encode, grants, writtenOf, outAfter}
+use Rattle.pdu.specs.Writing.{partOf, lies, allLie, zeros, filled, stringsOf, joined, row, line, encode, grants, writtenNumber, writtenOf, outAfter}
 use Rattle.pdu.proofs.Strings.{lens, lens-lie, sum, parts, length-joined, length-filled}
 
 pub allowed-of : (p : Pdu) (src : List ℕ) → grants p src ≡ true → allowed p ≡ true
@@ -102,16 +102,16 @@ length-encode p src g =
 
 module _ (p : Pdu) (src out : List ℕ) where
   pub denied : grants p src ≡ false → (W.Refused 8 ≡ writtenOf p src (length out)) × (out ≡ outAfter p src out)
-  unfolding writtenOf outAfter
+  unfolding writtenNumber writtenOf outAfter
   denied g = (rw g, rw g)
 
   pub no-room : grants p src ≡ true → leb (sizeOf p) (length out) ≡ false → (W.Refused 14 ≡ writtenOf p src (length out)) × (out ≡ outAfter p src out)
-  unfolding writtenOf outAfter
+  unfolding writtenNumber writtenOf outAfter
   no-room g z = (rw (g, z), rw (g, z))
 
   pub done : (n : ℕ) (y : List ℕ) → grants p src ≡ true → sizeOf p ≤ length out → n ≡ sizeOf p → y ≡ splice out 0 (encode p src)
       → (W.Bytes n ≡ writtenOf p src (length out)) × (y ≡ outAfter p src out)
-  unfolding writtenOf outAfter
+  unfolding writtenNumber writtenOf outAfter
   done n y g fits en ey =
       let t = le-leb (sizeOf p) (length out) fits in
       let all : y ≡ encode p src ++ drop (sizeOf p) out =

@@ -1,6 +1,7 @@
 pub mod Layout
 pub mod Records
 pub mod Rules
+pub mod Answers
 pub mod Reading
 pub mod Writing
 pub mod RoundTrip

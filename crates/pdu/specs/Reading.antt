@@ -1,6 +1,6 @@
 -- Reading a message: the record, or the first refusal that applies. Assumes nothing.
 use Prim.Native.Nat.{ℕ}
-use mathlib.Core.Bool.{Bool, not}
+use mathlib.Core.Bool.{not}
 use mathlib.Core.List.{List}
 use lib.ListN.{length}
 use lib.Dec.{ltb, eqb}
@@ -24,33 +24,30 @@ lengthAt s = numAt 2 s 2
 unfoldable pub recordAs : ℕ → List ℕ → Pdu
 recordAs k s = recordOf k (numsAt (widths k) s 4)
 
-unfoldable pub readOf : List ℕ → Read
-readOf s =
-    pick (ltb (length s) 4) (Refused 2)
-    (pick (not (eqb (lengthAt s) (length s))) (Refused 3)
-    (pick (not (known (typeAt s))) (Refused 4)
-    (pick (not (eqb (sizeOf (recordAs (typeAt s) s)) (length s))) (Refused 7)
-    (pick (not (allowed (recordAs (typeAt s) s))) (Refused 8)
-    (Message (recordAs (typeAt s) s))))))
+-- ---- the first number that applies to a message, 0 for none
 
--- document 01's number of an answer; the record of one with number 0 stands in it
-unfoldable pub numberOf : Read → ℕ
-numberOf (Message p) = 0
-numberOf (Refused n) = n
+-- the last lines, where it is of type k
+unfoldable pub bodyNumber : ℕ → List ℕ → ℕ
+bodyNumber k s =
+    pick (not (eqb (sizeOf (recordAs k s)) (length s))) 7
+    (pick (not (allowed (recordAs k s))) 8 0)
 
--- the first number that applies to a message, 0 for none
 unfoldable pub readNumber : List ℕ → ℕ
 readNumber s =
     pick (ltb (length s) 4) 2
     (pick (not (eqb (lengthAt s) (length s))) 3
     (pick (not (known (typeAt s))) 4
-    (pick (not (eqb (sizeOf (recordAs (typeAt s) s)) (length s))) 7
-    (pick (not (allowed (recordAs (typeAt s) s))) 8 0))))
+    (bodyNumber (typeAt s) s)))
 
--- ---- the last three lines of the ladder for type k, which the code has in a function for each type
+-- ---- the answer
 
+-- the number n, and where it is 0 the record of type k
+unfoldable pub answerAs : ℕ → ℕ → List ℕ → Read
+answerAs n k s = pick (eqb n 0) (Message (recordAs k s)) (Refused n)
+
+unfoldable pub readOf : List ℕ → Read
+readOf s = answerAs (readNumber s) (typeAt s) s
+
+-- the same of the last lines, which the code has in a function for each type
 unfoldable pub bodyOf : ℕ → List ℕ → Read
-bodyOf k s =
-    pick (not (eqb (sizeOf (recordAs k s)) (length s))) (Refused 7)
-    (pick (not (allowed (recordAs k s))) (Refused 8)
-    (Message (recordAs k s)))
+bodyOf k s = answerAs (bodyNumber k s) k s

@@ -1,5 +1,5 @@
 -- The round trip: what is written reads back, and what is read is written back. Assumes nothing.
-use Prim.Native.Nat.{ℕ, _+_}
+use Prim.Native.Nat.{ℕ, _+_, _<_}
 use mathlib.Core.Bool.{Bool, true}
 use mathlib.Core.List.{List, [], _∷_}
 use mathlib.Core.Path.{_≡_}
@@ -8,7 +8,6 @@ use lib.ListN.{length, getD, take}
 use Rattle.wire.specs.Tests.{pick}
 use Rattle.wire.specs.Parts.{splice}
 use Rattle.wire.specs.Numbers.{numAt, allFit}
-use Rattle.wire.proofs.Numbers.{Bytes}
 use Rattle.pdu.specs.declared.Pdu.{Pdu}
 use Rattle.pdu.specs.declared.Pdu.the-variants.{Execute, Activate, SystemCommand, Handshake, NotifyEvent, WindowMove, MoveSize, MinMaxInfo, ClientInformation, SystemMenu, GetApplicationId, ApplicationIdResponse, ExecuteResult}
 use Rattle.pdu.specs.declared.Read.{Read}
@@ -16,10 +15,9 @@ use Rattle.pdu.specs.declared.Read.the-variants as R
 use Rattle.pdu.specs.declared.Written.{Written}
 use Rattle.pdu.specs.declared.Written.the-variants as W
 use Rattle.pdu.specs.Layout.{widths}
-use Rattle.pdu.specs.Records.{span, isYes, yesNumber, kindOf, numsOf}
-use Rattle.pdu.specs.Reading as Reading
-use Rattle.pdu.specs.Reading.{readOf, readNumber}
-use Rattle.pdu.specs.Writing as Writing
+use Rattle.pdu.specs.Records.{span, isYes, yesNumber, kindOf, numsOf, sizeOf}
+use Rattle.pdu.specs.Answers.{answers, readSays, writtenSays}
+use Rattle.pdu.specs.Reading.{typeAt, recordAs, readOf, readNumber}
 use Rattle.pdu.specs.Writing.{stringsOf, encode, grants, writtenOf, writtenNumber, outAfter}
 
 -- the same record with its strings where writing puts them; an application id has all 520 bytes there
@@ -68,10 +66,14 @@ pub record WritesBack (b : List ℕ) (p : Pdu) : Type 0 where
   pub granted : grants p b ≡ true
   pub bytes : encode p b ≡ tidy b
 
+-- each is a byte, as in every memory that is lent
+abbrev pub EachByte : List ℕ → Type 0
+EachByte s = (i : ℕ) → getD s i 0 < 256
+
 -- the one account over all kinds
 pub record RoundTrip : Type 0 where
   pub written : (p : Pdu) (src : List ℕ) → grants p src ≡ true → typed p ≡ true → ReadsBack (encode p src) p src
-  pub read : (b : List ℕ) (p : Pdu) → Bytes b → readOf b ≡ R.Message p → WritesBack b p
+  pub read : (b : List ℕ) (p : Pdu) → EachByte b → readOf b ≡ R.Message p → WritesBack b p
 
 -- ---- the same of an answer
 
@@ -85,12 +87,12 @@ ReadAgain (R.Refused n) b = Unit {0}
 
 -- the whole outcome of reading s, and of writing p from src to out, which is then out'
 pub record ReadOutcome (s : List ℕ) (r : Read) : Type 0 where
-  pub number : Reading.numberOf r ≡ readNumber s
+  pub says : readSays r ≡ answers (readNumber s) (recordAs (typeAt s) s)
   pub answer : r ≡ readOf s
   pub again : ReadAgain r s
 
 pub record WriteOutcome (p : Pdu) (src out : List ℕ) (r : Written) (out' : List ℕ) : Type 0 where
-  pub number : Writing.numberOf r ≡ writtenNumber p src (length out)
+  pub says : writtenSays r ≡ answers (writtenNumber p src (length out)) (sizeOf p)
   pub answer : r ≡ writtenOf p src (length out)
   pub memory : out' ≡ outAfter p src out
   pub back : WrittenBack r p src out'

@@ -57,19 +57,13 @@ encode p src = putAll (row p) (line p) ++ joined (stringsOf p src)
 unfoldable pub grants : Pdu → List ℕ → Bool
 grants p src = both (allowed p) (allLie (length src) (spansOf p))
 
--- the answer where the output memory lent has n bytes
+-- the first number that applies, 0 for none, where the output memory lent has n bytes
+unfoldable pub writtenNumber : Pdu → List ℕ → ℕ → ℕ
+writtenNumber p src n = pick (grants p src) (pick (leb (sizeOf p) n) 0 14) 8
+
 unfoldable pub writtenOf : Pdu → List ℕ → ℕ → Written
-writtenOf p src n = pick (grants p src) (pick (leb (sizeOf p) n) (Bytes (sizeOf p)) (Refused 14)) (Refused 8)
+writtenOf p src n = pick (eqb (writtenNumber p src n) 0) (Bytes (sizeOf p)) (Refused (writtenNumber p src n))
 
 -- the output memory after the call: only the first bytes change, and none on a refusal
 unfoldable pub outAfter : Pdu → List ℕ → List ℕ → List ℕ
-outAfter p src out = pick (grants p src) (pick (leb (sizeOf p) (length out)) (encode p src ++ drop (sizeOf p) out) out) out
-
--- document 01's number of an answer
-unfoldable pub numberOf : Written → ℕ
-numberOf (Bytes n) = 0
-numberOf (Refused n) = n
-
--- the first number that applies to a record, 0 for none, where the output memory lent has n bytes
-unfoldable pub writtenNumber : Pdu → List ℕ → ℕ → ℕ
-writtenNumber p src n = pick (grants p src) (pick (leb (sizeOf p) n) 0 14) 8
+outAfter p src out = pick (eqb (writtenNumber p src (length out)) 0) (encode p src ++ drop (sizeOf p) out) out

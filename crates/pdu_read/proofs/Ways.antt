@@ -1,5 +1,5 @@
 -- The record of each type from the numbers read, and the ways through reading. Assumes nothing.
-use mathlib.Core.Path.{_≡_, refl, sym, ap, _∙_}
+use mathlib.Core.Path.{_≡_, refl, sym, ap, _∙_, subst}
 use mathlib.Core.Bool.{Bool, true, false, not}
 use mathlib.Core.List.{List}
 use Prim.Native.Nat.{ℕ, _+_, _≤_, _<_}
@@ -15,9 +15,12 @@ use Rattle.pdu.specs.declared.Read.the-variants.{Message, Refused}
 use Rattle.pdu.specs.Layout.{known, widths}
 use Rattle.pdu.specs.Records.{span, isYes, recordOf, sizeOf}
 use Rattle.pdu.specs.Rules.{allowed}
-use Rattle.pdu.specs.Reading.{recordAs, readOf, numberOf, bodyOf}
+use Rattle.pdu.specs.Answers.{readSays}
+use Rattle.pdu.specs.Reading.{recordAs, bodyNumber, readNumber, answerAs, readOf, bodyOf}
 use Rattle.pdu.specs.RoundTrip.{ReadAgain, ReadOutcome}
-use Rattle.pdu.proofs.Numbers.{number-read}
+use Rattle.pdu_words.specs.Words.{wordsOf}
+use Rattle.pdu_words.specs.Told.{wordsAfter, Told}
+use Rattle.pdu.proofs.Answers.{read-says}
 use Rattle.pdu.proofs.WriteBack.{writes-back}
 
 -- ---- the record of each type
@@ -92,17 +95,30 @@ module _ (s : List ℕ) where
 
 module _ (k : ℕ) (s : List ℕ) where
   pub unfilled : (sizeOf (recordAs k s) ≡ length s → ⊥) → Refused 7 ≡ bodyOf k s
-  unfolding bodyOf
+  unfolding bodyOf bodyNumber answerAs
   unfilled h = rw (ne-eqb (sizeOf (recordAs k s)) (length s) h)
 
   module _ (p : Pdu) (r : recordAs k s ≡ p) (z : sizeOf p ≡ length s) where
     pub outside : allowed p ≡ false → Refused 8 ≡ bodyOf k s
-    unfolding bodyOf
+    unfolding bodyOf bodyNumber answerAs
     outside w = rw (r, eq-eqb (sizeOf p) (length s) z, w)
 
     pub fine : allowed p ≡ true → Message p ≡ bodyOf k s
-    unfolding bodyOf
+    unfolding bodyOf bodyNumber answerAs
     fine w = rw (r, eq-eqb (sizeOf p) (length s) z, w)
+
+-- ---- what is told of an answer in words
+
+pub told-refused : {a : Read} {n : ℕ} {words : List ℕ} → Refused n ≡ a → Told a words n words
+unfolding readSays wordsAfter
+told-refused {n = n} {words = words} e = subst (λ (a : Read). Told a words n words) e (record { answer = refl; memory = refl })
+
+pub told-message : {a : Read} {p : Pdu} {words ws : List ℕ} → Message p ≡ a → ws ≡ wordsOf p → Told a words 0 ws
+unfolding readSays wordsAfter
+told-message {words = words} {ws = ws} e w = subst (λ (a : Read). Told a words 0 ws) e (record { answer = refl; memory = w })
+
+pub told-as : {a b : Read} {n : ℕ} {words ws : List ℕ} → a ≡ b → Told a words n ws → Told b words n ws
+told-as {n = n} {words = words} {ws = ws} e w = subst (λ (r : Read). Told r words n ws) e w
 
 -- ---- the ways through reading
 
@@ -111,22 +127,22 @@ again s (Message p) ok e = writes-back s p ok (sym e)
 again s (Refused n) ok e = tt
 
 pub outcome : (s : List ℕ) (r : Read) → Bytes s → r ≡ readOf s → ReadOutcome s r
-outcome s r ok e = record { number = ap numberOf e ∙ number-read s; answer = e; again = again s r ok e }
+outcome s r ok e = record { says = ap readSays e ∙ read-says s; answer = e; again = again s r ok e }
 
 module _ (s : List ℕ) where
   pub short : length s < 4 → Refused 2 ≡ readOf s
-  unfolding readOf
+  unfolding readOf readNumber answerAs
   short h = rw (lt-ltb (length s) 4 h)
 
   pub other-length : (n : ℕ) → n ≡ numAt 2 s 2 → 4 ≤ length s → (n ≡ length s → ⊥) → Refused 3 ≡ readOf s
-  unfolding readOf
+  unfolding readOf readNumber answerAs
   other-length n e t h = rw (le-ltb (length s) 4 t, ← e, ne-eqb n (length s) h)
 
   module _ (n m : ℕ) (e : n ≡ numAt 2 s 2) (t : 4 ≤ length s) (w : n ≡ length s) (q : m ≡ numAt 2 s 0) where
     pub unknown : known m ≡ false → Refused 4 ≡ readOf s
-    unfolding readOf
+    unfolding readOf readNumber answerAs
     unknown u = rw (le-ltb (length s) 4 t, ← e, eq-eqb n (length s) w, ← q, u)
 
-    pub body : (k : ℕ) (r : Read) → m ≡ k → known k ≡ true → r ≡ bodyOf k s → r ≡ readOf s
-    unfolding readOf bodyOf
-    body k r i u x = x ∙ rw (le-ltb (length s) 4 t, ← e, eq-eqb n (length s) w, ← q, i, u)
+    pub body : (k : ℕ) → m ≡ k → known k ≡ true → bodyOf k s ≡ readOf s
+    unfolding readOf readNumber bodyOf
+    body k i u = rw (le-ltb (length s) 4 t, ← e, eq-eqb n (length s) w, ← q, i, u)

@@ -1,4 +1,4 @@
-// Control messages read from lent bytes.
+// Control messages read from lent bytes: to words, and through them to a record.
 use ids::NotifyIconId;
 use ids::WindowId;
 use pdu::Activate;
@@ -11,27 +11,30 @@ use pdu::Handshake;
 use pdu::MinMaxInfo;
 use pdu::MoveSize;
 use pdu::NotifyEvent;
-use pdu::Pdu;
 use pdu::Read;
 use pdu::Span;
 use pdu::SystemCommand;
 use pdu::SystemMenu;
 use pdu::WindowMove;
 ghost use mathlib.Core.Path.{_≡_};
-ghost use Rattle.pdu.specs.Reading.{bodyOf};
+ghost use Rattle.pdu.specs.Reading.{bodyOf, readOf};
 ghost use Rattle.pdu.specs.RoundTrip.{ReadOutcome};
+ghost use Rattle.pdu_words.specs.Told.{Told};
+ghost use Rattle.pdu_read.specs.Answers.{Answerable, answerOf};
 
-fn read_execute(s: &[u8]) -> Read
-    ensures { λ r. ⌜ r ≡ bodyOf 0x01 (now (s .entry)) ⌝ }
+// ---- the words of a message of each type, whose declared length is right
+
+fn read_execute(s: &[u8], words: &mut [u32; 12]) -> u32
+    ensures { λ r. ⌜ Told (bodyOf 0x01 (now (s .entry))) (now (words .entry)) r (now (words .exit)) ⌝ }
 {
     if s.len() < 12 {
-        return Read::Refused(7);
+        return 7;
     }
     let a = wire::read_u16(s, 6) as u32;
     let b = wire::read_u16(s, 8) as u32;
     let c = wire::read_u16(s, 10) as u32;
     if (12 + a + b + c) as usize != s.len() {
-        return Read::Refused(7);
+        return 7;
     }
     let e = Execute {
         flags: wire::read_u16(s, 4),
@@ -43,16 +46,17 @@ fn read_execute(s: &[u8]) -> Read
         },
     };
     if !pdu::execute_allowed(e) {
-        return Read::Refused(8);
+        return 8;
     }
-    Read::Message(Pdu::Execute(e))
+    pdu_words::execute_words(words, e);
+    0
 }
 
-fn read_activate(s: &[u8]) -> Read
-    ensures { λ r. ⌜ r ≡ bodyOf 0x02 (now (s .entry)) ⌝ }
+fn read_activate(s: &[u8], words: &mut [u32; 12]) -> u32
+    ensures { λ r. ⌜ Told (bodyOf 0x02 (now (s .entry))) (now (words .entry)) r (now (words .exit)) ⌝ }
 {
     if s.len() != 9 {
-        return Read::Refused(7);
+        return 7;
     }
     let e = Activate {
         window_id: WindowId {
@@ -61,16 +65,17 @@ fn read_activate(s: &[u8]) -> Read
         enabled: wire::read_u8(s, 8),
     };
     if !pdu::activate_allowed(e) {
-        return Read::Refused(8);
+        return 8;
     }
-    Read::Message(Pdu::Activate(e))
+    pdu_words::activate_words(words, e);
+    0
 }
 
-fn read_system_command(s: &[u8]) -> Read
-    ensures { λ r. ⌜ r ≡ bodyOf 0x04 (now (s .entry)) ⌝ }
+fn read_system_command(s: &[u8], words: &mut [u32; 12]) -> u32
+    ensures { λ r. ⌜ Told (bodyOf 0x04 (now (s .entry))) (now (words .entry)) r (now (words .exit)) ⌝ }
 {
     if s.len() != 10 {
-        return Read::Refused(7);
+        return 7;
     }
     let e = SystemCommand {
         window_id: WindowId {
@@ -79,28 +84,30 @@ fn read_system_command(s: &[u8]) -> Read
         command: wire::read_u16(s, 8),
     };
     if !pdu::system_command_allowed(e) {
-        return Read::Refused(8);
+        return 8;
     }
-    Read::Message(Pdu::SystemCommand(e))
+    pdu_words::system_command_words(words, e);
+    0
 }
 
-fn read_handshake(s: &[u8]) -> Read
-    ensures { λ r. ⌜ r ≡ bodyOf 0x05 (now (s .entry)) ⌝ }
+fn read_handshake(s: &[u8], words: &mut [u32; 12]) -> u32
+    ensures { λ r. ⌜ Told (bodyOf 0x05 (now (s .entry))) (now (words .entry)) r (now (words .exit)) ⌝ }
 {
     if s.len() != 8 {
-        return Read::Refused(7);
+        return 7;
     }
     let e = Handshake {
         build_number: wire::read_u32(s, 4),
     };
-    Read::Message(Pdu::Handshake(e))
+    pdu_words::handshake_words(words, e);
+    0
 }
 
-fn read_notify_event(s: &[u8]) -> Read
-    ensures { λ r. ⌜ r ≡ bodyOf 0x06 (now (s .entry)) ⌝ }
+fn read_notify_event(s: &[u8], words: &mut [u32; 12]) -> u32
+    ensures { λ r. ⌜ Told (bodyOf 0x06 (now (s .entry))) (now (words .entry)) r (now (words .exit)) ⌝ }
 {
     if s.len() != 16 {
-        return Read::Refused(7);
+        return 7;
     }
     let e = NotifyEvent {
         window_id: WindowId {
@@ -111,14 +118,15 @@ fn read_notify_event(s: &[u8]) -> Read
         },
         message: wire::read_u32(s, 12),
     };
-    Read::Message(Pdu::NotifyEvent(e))
+    pdu_words::notify_event_words(words, e);
+    0
 }
 
-fn read_window_move(s: &[u8]) -> Read
-    ensures { λ r. ⌜ r ≡ bodyOf 0x08 (now (s .entry)) ⌝ }
+fn read_window_move(s: &[u8], words: &mut [u32; 12]) -> u32
+    ensures { λ r. ⌜ Told (bodyOf 0x08 (now (s .entry))) (now (words .entry)) r (now (words .exit)) ⌝ }
 {
     if s.len() != 16 {
-        return Read::Refused(7);
+        return 7;
     }
     let e = WindowMove {
         window_id: WindowId {
@@ -129,14 +137,15 @@ fn read_window_move(s: &[u8]) -> Read
         right: wire::read_u16(s, 12),
         bottom: wire::read_u16(s, 14),
     };
-    Read::Message(Pdu::WindowMove(e))
+    pdu_words::window_move_words(words, e);
+    0
 }
 
-fn read_move_size(s: &[u8]) -> Read
-    ensures { λ r. ⌜ r ≡ bodyOf 0x09 (now (s .entry)) ⌝ }
+fn read_move_size(s: &[u8], words: &mut [u32; 12]) -> u32
+    ensures { λ r. ⌜ Told (bodyOf 0x09 (now (s .entry))) (now (words .entry)) r (now (words .exit)) ⌝ }
 {
     if s.len() != 16 {
-        return Read::Refused(7);
+        return 7;
     }
     let e = MoveSize {
         window_id: WindowId {
@@ -148,16 +157,17 @@ fn read_move_size(s: &[u8]) -> Read
         pos_y: wire::read_u16(s, 14),
     };
     if !pdu::move_size_allowed(e) {
-        return Read::Refused(8);
+        return 8;
     }
-    Read::Message(Pdu::MoveSize(e))
+    pdu_words::move_size_words(words, e);
+    0
 }
 
-fn read_min_max_info(s: &[u8]) -> Read
-    ensures { λ r. ⌜ r ≡ bodyOf 0x0A (now (s .entry)) ⌝ }
+fn read_min_max_info(s: &[u8], words: &mut [u32; 12]) -> u32
+    ensures { λ r. ⌜ Told (bodyOf 0x0A (now (s .entry))) (now (words .entry)) r (now (words .exit)) ⌝ }
 {
     if s.len() != 24 {
-        return Read::Refused(7);
+        return 7;
     }
     let e = MinMaxInfo {
         window_id: WindowId {
@@ -172,26 +182,28 @@ fn read_min_max_info(s: &[u8]) -> Read
         max_track_width: wire::read_u16(s, 20),
         max_track_height: wire::read_u16(s, 22),
     };
-    Read::Message(Pdu::MinMaxInfo(e))
+    pdu_words::min_max_info_words(words, e);
+    0
 }
 
-fn read_client_information(s: &[u8]) -> Read
-    ensures { λ r. ⌜ r ≡ bodyOf 0x0B (now (s .entry)) ⌝ }
+fn read_client_information(s: &[u8], words: &mut [u32; 12]) -> u32
+    ensures { λ r. ⌜ Told (bodyOf 0x0B (now (s .entry))) (now (words .entry)) r (now (words .exit)) ⌝ }
 {
     if s.len() != 8 {
-        return Read::Refused(7);
+        return 7;
     }
     let e = ClientInformation {
         flags: wire::read_u32(s, 4),
     };
-    Read::Message(Pdu::ClientInformation(e))
+    pdu_words::client_information_words(words, e);
+    0
 }
 
-fn read_system_menu(s: &[u8]) -> Read
-    ensures { λ r. ⌜ r ≡ bodyOf 0x0C (now (s .entry)) ⌝ }
+fn read_system_menu(s: &[u8], words: &mut [u32; 12]) -> u32
+    ensures { λ r. ⌜ Told (bodyOf 0x0C (now (s .entry))) (now (words .entry)) r (now (words .exit)) ⌝ }
 {
     if s.len() != 12 {
-        return Read::Refused(7);
+        return 7;
     }
     let e = SystemMenu {
         window_id: WindowId {
@@ -200,28 +212,30 @@ fn read_system_menu(s: &[u8]) -> Read
         left: wire::read_u16(s, 8),
         top: wire::read_u16(s, 10),
     };
-    Read::Message(Pdu::SystemMenu(e))
+    pdu_words::system_menu_words(words, e);
+    0
 }
 
-fn read_get_application_id(s: &[u8]) -> Read
-    ensures { λ r. ⌜ r ≡ bodyOf 0x0E (now (s .entry)) ⌝ }
+fn read_get_application_id(s: &[u8], words: &mut [u32; 12]) -> u32
+    ensures { λ r. ⌜ Told (bodyOf 0x0E (now (s .entry))) (now (words .entry)) r (now (words .exit)) ⌝ }
 {
     if s.len() != 8 {
-        return Read::Refused(7);
+        return 7;
     }
     let e = GetApplicationId {
         window_id: WindowId {
             id: wire::read_u32(s, 4),
         },
     };
-    Read::Message(Pdu::GetApplicationId(e))
+    pdu_words::get_application_id_words(words, e);
+    0
 }
 
-fn read_application_id_response(s: &[u8]) -> Read
-    ensures { λ r. ⌜ r ≡ bodyOf 0x0F (now (s .entry)) ⌝ }
+fn read_application_id_response(s: &[u8], words: &mut [u32; 12]) -> u32
+    ensures { λ r. ⌜ Told (bodyOf 0x0F (now (s .entry))) (now (words .entry)) r (now (words .exit)) ⌝ }
 {
     if s.len() != 528 {
-        return Read::Refused(7);
+        return 7;
     }
     let e = ApplicationIdResponse {
         window_id: WindowId {
@@ -229,18 +243,19 @@ fn read_application_id_response(s: &[u8]) -> Read
         },
         application_id: Span { at: 8, len: 520 },
     };
-    Read::Message(Pdu::ApplicationIdResponse(e))
+    pdu_words::application_id_response_words(words, e);
+    0
 }
 
-fn read_execute_result(s: &[u8]) -> Read
-    ensures { λ r. ⌜ r ≡ bodyOf 0x80 (now (s .entry)) ⌝ }
+fn read_execute_result(s: &[u8], words: &mut [u32; 12]) -> u32
+    ensures { λ r. ⌜ Told (bodyOf 0x80 (now (s .entry))) (now (words .entry)) r (now (words .exit)) ⌝ }
 {
     if s.len() < 16 {
-        return Read::Refused(7);
+        return 7;
     }
     let a = wire::read_u16(s, 14) as u32;
     if (16 + a) as usize != s.len() {
-        return Read::Refused(7);
+        return 7;
     }
     let e = ExecuteResult {
         flags: wire::read_u16(s, 4),
@@ -249,36 +264,59 @@ fn read_execute_result(s: &[u8]) -> Read
         exe_or_file: Span { at: 16, len: a },
     };
     if !pdu::execute_result_allowed(e) {
-        return Read::Refused(8);
+        return 8;
     }
-    Read::Message(Pdu::ExecuteResult(e))
+    pdu_words::execute_result_words(words, e);
+    0
+}
+
+// ---- any message
+
+// The number of a message, and the words of its record where that is 0; its strings are where they stand in it.
+pub fn read_words(message: &[u8], words: &mut [u32; 12]) -> u32
+    ensures { λ r. ⌜ Told (readOf (now (message .entry))) (now (words .entry)) r (now (words .exit)) ⌝ }
+{
+    if message.len() < 4 {
+        return 2;
+    }
+    if wire::read_u16(message, 2) as usize != message.len() {
+        return 3;
+    }
+    let kind = wire::read_u16(message, 0);
+    match kind {
+        0x01 => read_execute(message, words),
+        0x02 => read_activate(message, words),
+        0x04 => read_system_command(message, words),
+        0x05 => read_handshake(message, words),
+        0x06 => read_notify_event(message, words),
+        0x08 => read_window_move(message, words),
+        0x09 => read_move_size(message, words),
+        0x0A => read_min_max_info(message, words),
+        0x0B => read_client_information(message, words),
+        0x0C => read_system_menu(message, words),
+        0x0E => read_get_application_id(message, words),
+        0x0F => read_application_id_response(message, words),
+        0x80 => read_execute_result(message, words),
+        _ => 4,
+    }
+}
+
+// What a number answers, 0 with the record of words.
+fn answer(number: u32, words: [u32; 12]) -> Read
+    requires { ⌜ Answerable number words ⌝ }
+    ensures { λ r. ⌜ r ≡ answerOf number words ⌝ }
+{
+    if number != 0 {
+        return Read::Refused(number as u8);
+    }
+    Read::Message(pdu_words::record_from(words))
 }
 
 // The record of a message, its strings where they stand in s, or the first refusal.
 pub fn read_pdu(s: &[u8]) -> Read
     ensures { λ r. ⌜ ReadOutcome (now (s .entry)) r ⌝ }
 {
-    if s.len() < 4 {
-        return Read::Refused(2);
-    }
-    if wire::read_u16(s, 2) as usize != s.len() {
-        return Read::Refused(3);
-    }
-    let kind = wire::read_u16(s, 0);
-    match kind {
-        0x01 => read_execute(s),
-        0x02 => read_activate(s),
-        0x04 => read_system_command(s),
-        0x05 => read_handshake(s),
-        0x06 => read_notify_event(s),
-        0x08 => read_window_move(s),
-        0x09 => read_move_size(s),
-        0x0A => read_min_max_info(s),
-        0x0B => read_client_information(s),
-        0x0C => read_system_menu(s),
-        0x0E => read_get_application_id(s),
-        0x0F => read_application_id_response(s),
-        0x80 => read_execute_result(s),
-        _ => Read::Refused(4),
-    }
+    let mut words = [0u32; 12];
+    let number = read_words(s, &mut words);
+    answer(number, words)
 }

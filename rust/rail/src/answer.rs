@@ -157,12 +157,12 @@ pub(crate) fn state_answer(answer: u32) -> Result<Standing, Refusal> {
     })
 }
 
-/// The answer of a call that writes a message: 65,536 * number + bytes written.
+/// The answer of a call that writes a message: number + 65,536 * bytes written.
 ///
 /// # Panics
 /// As [`state_answer`].
 pub(crate) fn written_answer(answer: u32) -> Result<usize, Refusal> {
-    let [low, high, number, _] = answer.to_le_bytes();
+    let [number, _, low, high] = answer.to_le_bytes();
     refused(number)?;
     Ok(u16::from_le_bytes([low, high]).into())
 }
@@ -223,9 +223,9 @@ mod tests {
 
     #[test]
     fn answers_of_writing() {
-        assert_eq!(written_answer(17_052), Ok(17_052));
-        assert_eq!(written_answer(14 * 65_536), Err(Refusal::OutputTooSmall));
-        assert_eq!(written_answer(8 * 65_536), Err(Refusal::OutsideSet));
+        assert_eq!(written_answer(17_052 * 65_536), Ok(17_052));
+        assert_eq!(written_answer(14), Err(Refusal::OutputTooSmall));
+        assert_eq!(written_answer(8), Err(Refusal::OutsideSet));
     }
 
     #[test]

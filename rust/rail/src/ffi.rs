@@ -110,7 +110,6 @@ extern "C" {
         out_length: usize,
     ) -> u32;
     fn rail_pdu_read(message: *const u8, length: usize, words: *mut u32) -> u32;
-    fn rail_pdu_tidy(message: *const u8, length: usize, out: *mut u8, out_length: usize) -> u32;
     fn rail_pdu_write(
         words: *const u32,
         strings: *const u8,
@@ -283,12 +282,6 @@ pub(crate) fn pdu_read(message: &[u8], words: &mut Words) -> u32 {
     // SAFETY: the message is read with its length, and the 12 words are written,
     // which are borrowed mutably and so apart from it.
     unsafe { rail_pdu_read(message.as_ptr(), message.len(), words.as_mut_ptr()) }
-}
-
-pub(crate) fn pdu_tidy(message: &[u8], out: &mut [u8]) -> u32 {
-    // SAFETY: the message is read with its length, and `out` is written with its own,
-    // which is borrowed mutably and so apart from the message.
-    unsafe { rail_pdu_tidy(message.as_ptr(), message.len(), out.as_mut_ptr(), out.len()) }
 }
 
 pub(crate) fn pdu_write(words: &Words, strings: &[u8], out: &mut [u8]) -> u32 {

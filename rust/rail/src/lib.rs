@@ -50,7 +50,7 @@ pub use ids::{NotifyIconId, WindowId};
 pub use memory::{
     LentSession, Memory, View, BODIES_SIZE, CELLS_SIZE, DIRECTORY_SIZE, JOURNAL_SIZE,
 };
-pub use message::{tidy, Message, MESSAGE_LIMIT};
+pub use message::{Message, MESSAGE_LIMIT};
 pub use record::{
     CacheCell, Desktop, NotificationIcon, Picture, Point, Rectangle, ShowState, Size, Window,
 };

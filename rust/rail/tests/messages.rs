@@ -1,6 +1,6 @@
 //! Control messages are read and written as the second program does it.
 
-use rail::{tidy, Message, NotifyIconId, Refusal, WindowId};
+use rail::{Message, NotifyIconId, Refusal, WindowId};
 use second::generate::pdu::script;
 use second::pdu::{self, Record};
 use second::script::pdu::{run, run_with};
@@ -115,18 +115,20 @@ fn read_alike(bytes: &[u8], read: &mut [u64; 15]) -> Result<(), String> {
         Err(_) if message_read == expected.map(|_| unreachable!("refused")) => return Ok(()),
         Err(_) => return Err(format!("reads {message_read:?}, not {expected:?}")),
     };
-    if message_read.ok() != message(&record) {
-        return Err(format!("reads {message_read:?}, not {record:?}"));
+    let granted = message_read.ok();
+    if granted != message(&record) {
+        return Err(format!("reads {granted:?}, not {record:?}"));
     }
     let mut expected = vec![0xEE; bytes.len()];
     let written = pdu::write(&record, &mut expected);
     assert_eq!(written, Ok(bytes.len()), "a record that was read");
-    let mut tidied = vec![0xEE; bytes.len() + 3];
-    if tidy(bytes, &mut tidied) != Ok(bytes.len()) || !tidied.starts_with(&expected) {
-        return Err(format!("tidies to {tidied:02x?}"));
+    let mut again = vec![0xEE; bytes.len() + 3];
+    let length = granted.map(|message| message.write(&mut again));
+    if length != Some(Ok(bytes.len())) || !again.starts_with(&expected) {
+        return Err(format!("writes {again:02x?}"));
     }
-    if !tidied.ends_with(&[0xEE; 3]) {
-        return Err("tidies past the end".into());
+    if !again.ends_with(&[0xEE; 3]) {
+        return Err("writes past the end".into());
     }
     Ok(())
 }

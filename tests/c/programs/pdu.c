@@ -111,13 +111,13 @@ static int write_record(const struct item *item) {
     words[RAIL_WORD_TYPE] = kind->type;
     memset(memory, 0xEE, sizeof memory);
     answer = rail_pdu_write(words, item->payload, item->size, memory, size);
-    n = rail_written_number(answer) == RAIL_DONE ? rail_written_bytes(answer) : 0;
+    n = rail_number(answer) == RAIL_DONE ? rail_bytes(answer) : 0;
     if (n > size || !untouched(memory, n)) {
         puts("output memory changed");
         return 0;
     }
-    printf("P %u", rail_written_number(answer));
-    if (rail_written_number(answer) == RAIL_DONE)
+    printf("P %u", rail_number(answer));
+    if (rail_number(answer) == RAIL_DONE)
         print_hex(" ", memory, n);
     putchar('\n');
     return 1;

@@ -1,70 +1,32 @@
-use Rattle.pdu_read.proofs.Ways.{move-size-is, unfilled, outside, fine}
-use Rattle.pdu.specs.Reading.{recordAs}
-use Rattle.pdu.specs.Rules.{allowed}
-use Rattle.wire.specs.Numbers.{numsAt}
-use Rattle.pdu.specs.Layout.{widths}
-use Rattle.pdu.specs.Records.{recordOf, sizeOf}
+-- 7 where the length is another, 8 where the rule fails, else the words of the record that the numbers make.
+use mathlib.Core.Path.{sym, _∙_}
 use borrow.Author.Tests.{not-true, not-false}
 use denote.Ref.{now}
-use mathlib.Core.Path.{_≡_, refl, sym, _∙_}
 use borrow.Author.Needs.{needs}
+use Rattle.pdu.specs.Records.{recordOf, sizeOf}
+use Rattle.pdu.specs.Rules.{allowed}
+use Rattle.pdu.specs.Reading.{recordAs}
+use Rattle.pdu_words.specs.Words.{wordsOf}
+use Rattle.pdu_read.proofs.Ways.{move-size-is, unfilled, outside, fine, told-refused, told-message}
 use Rattle.pdu_read.proofs.read_move_size.Statement.{statement}
 use Rattle.pdu_read.proofs.read_move_size.Tie as tie
-use Rattle.pdu_read.proofs.read_move_size.Reads as reads
-use Rattle.pdu_read.proofs.read_move_size.Lts as lts
-use Rattle.pdu.proofs.move_size_allowed.Reads as move-size-allowed-reads
-use Rattle.wire.proofs.read_u16.Reads as read-u16-reads
-use Rattle.wire.proofs.read_u32.Reads as read-u32-reads
-
--- src/lib.rt:139:9
-returns : tie.Need-returns
-unfolding recordAs recordOf sizeOf
-returns c = unfilled 0x09 (now (c .before .before .args .s)) (λ q. c .if1 .taken (sym q))
-
--- src/lib.rt:143:17
-read-u32-requires : tie.Need-read-u32-requires
-read-u32-requires c κs = search needs
-
--- src/lib.rt:145:19
-read-u16-requires : tie.Need-read-u16-requires
-read-u16-requires c κs = search needs
-
--- src/lib.rt:146:25
-read-u16-requires-2 : tie.Need-read-u16-requires-2
-read-u16-requires-2 c κs = search needs
-
--- src/lib.rt:147:16
-read-u16-requires-3 : tie.Need-read-u16-requires-3
-read-u16-requires-3 c κs = search needs
-
--- src/lib.rt:148:16
-read-u16-requires-4 : tie.Need-read-u16-requires-4
-read-u16-requires-4 c κs = search needs
-
--- src/lib.rt:150:9
-move-size-allowed-requires : tie.Need-move-size-allowed-requires
-move-size-allowed-requires c κs = search needs
-
--- src/lib.rt:151:9
-returns-2 : tie.Need-returns-2
-unfolding sizeOf allowed
-returns-2 c = outside 0x09 (now (c .before .before .before .before .before .before .before .before .before .args .s)) _ (move-size-is (now (c .before .before .before .before .before .before .before .before .before .args .s)) (c .before .before .before .before .before .before .read-u32 .ensures) (c .before .before .before .before .before .read-u16 .ensures) (c .before .before .before .before .read-u162 .ensures) (c .before .before .before .read-u163 .ensures) (c .before .before .read-u164 .ensures)) (sym (c .before .before .before .before .before .before .before .if1 .left)) (sym (c .before .move-size-allowed .ensures) ∙ not-true (c .before .move-size-allowed .result) (c .if2 .taken))
-
--- src/lib.rt:135:1
-returns-3 : tie.Need-returns-3
-unfolding sizeOf allowed
-returns-3 c = fine 0x09 (now (c .before .before .before .before .before .before .before .before .before .args .s)) _ (move-size-is (now (c .before .before .before .before .before .before .before .before .before .args .s)) (c .before .before .before .before .before .before .read-u32 .ensures) (c .before .before .before .before .before .read-u16 .ensures) (c .before .before .before .before .read-u162 .ensures) (c .before .before .before .read-u163 .ensures) (c .before .before .read-u164 .ensures)) (sym (c .before .before .before .before .before .before .before .if1 .left)) (sym (c .before .move-size-allowed .ensures) ∙ not-false (c .before .move-size-allowed .result) (c .if2 .left))
 
 pub read-move-size-spec : {M : Type 1} → statement M
+unfolding recordAs recordOf sizeOf allowed wordsOf
 read-move-size-spec =
     tie.close
     (tie.spec
-    returns
-    read-u32-requires
-    read-u16-requires
-    read-u16-requires-2
-    read-u16-requires-3
-    read-u16-requires-4
-    move-size-allowed-requires
-    returns-2
-    returns-3)
+    (λ c. told-refused (unfilled 0x09 (now (c .before .before .args .s)) (λ q. c .if1 .taken (sym q))))
+    (λ c κs. search needs)
+    (λ c κs. search needs)
+    (λ c κs. search needs)
+    (λ c κs. search needs)
+    (λ c κs. search needs)
+    (λ c κs. search needs)
+    (λ c.
+    let a = c .before in let r5 = a .before in let r4 = r5 .before in let r3 = r4 .before in let r2 = r3 .before in let r1 = r2 .before in let t = r1 .before in let b = t .before .before in
+    told-refused (outside 0x09 (now (b .args .s)) _ (move-size-is (now (b .args .s)) (r1 .read-u32 .ensures) (r2 .read-u16 .ensures) (r3 .read-u162 .ensures) (r4 .read-u163 .ensures) (r5 .read-u164 .ensures)) (sym (t .if1 .left)) (sym (a .move-size-allowed .ensures) ∙ not-true (a .move-size-allowed .result) (c .if2 .taken))))
+    (λ c κs. search needs)
+    (λ c.
+    let v = c .before .before in let a = v .before in let r5 = a .before in let r4 = r5 .before in let r3 = r4 .before in let r2 = r3 .before in let r1 = r2 .before in let t = r1 .before in let b = t .before .before in
+    told-message (fine 0x09 (now (b .args .s)) _ (move-size-is (now (b .args .s)) (r1 .read-u32 .ensures) (r2 .read-u16 .ensures) (r3 .read-u162 .ensures) (r4 .read-u163 .ensures) (r5 .read-u164 .ensures)) (sym (t .if1 .left)) (sym (a .move-size-allowed .ensures) ∙ not-false (a .move-size-allowed .result) (v .if2 .left))) (c .move-size-words .ensures)))

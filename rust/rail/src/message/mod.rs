@@ -206,23 +206,3 @@ impl<'a> Message<'a> {
         Ok(bytes)
     }
 }
-
-/// Reads a message and writes it into the first bytes of `out`, as it would be written:
-/// the same bytes, with Padding 0 and a nonzero start 1. Answers how many they are.
-///
-/// ```
-/// use rail::{tidy, Refusal};
-///
-/// let moved = [9, 0, 16, 0, 0x58, 0, 1, 0, 7, 0, 9, 0, 100, 0, 50, 0];
-/// let mut out = [0; 16];
-/// assert_eq!(tidy(&moved, &mut out)?, 16);
-/// assert_eq!((moved[8], out[8]), (7, 1));
-/// assert_eq!(tidy(&moved, &mut out[..15]), Err(Refusal::OutputTooSmall));
-/// # Ok::<(), Refusal>(())
-/// ```
-///
-/// # Errors
-/// As [`Message::read`], then [`Refusal::OutputTooSmall`].
-pub fn tidy(message: &[u8], out: &mut [u8]) -> Result<usize, Refusal> {
-    written_answer(ffi::pdu_tidy(message, out))
-}

@@ -66,7 +66,7 @@ fn reads_back(words: &Words, strings: &[u8], written: &[u8]) -> bool {
 fn write(words: &Words, strings: &[u8], out: &mut [u8]) -> Result<u32, String> {
     out.fill(FILL);
     let answer = pdu_write(words, strings, out);
-    let (number, length) = (answer >> 16, (answer & 0xFFFF) as usize);
+    let (number, length) = (answer & 0xFFFF, (answer >> 16) as usize);
     let right = match number {
         0 => reads_back(words, strings, &out[..length]),
         8 | 14 => length == 0,

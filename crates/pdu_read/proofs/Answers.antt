@@ -1,0 +1,127 @@
+-- The words that reading leaves stand for the record, so that they and the number make the answer. Assumes nothing.
+use mathlib.Core.Path.{_≡_, refl, sym, ap, _∙_, subst}
+use mathlib.Core.Bool.{Bool, true, false, not}
+use mathlib.Core.List.{List}
+use Prim.Native.Nat.{ℕ, zero, suc, _+_, _^_, _≤_, _<_}
+use native.Mathlib.Omega.{arith}
+use lib.ListN.{length}
+use lib.Dec.{leb, ltb, eqb}
+use borrow.Author.Tests.{le-leb, eqb-true}
+use Rattle.wire.specs.Tests.{pick}
+use Rattle.wire.specs.Numbers.{numAt, numsAt}
+use Rattle.wire.proofs.Tests.{Each, one-of}
+use Rattle.wire.proofs.Numbers.{Bytes}
+use Rattle.pdu.specs.declared.Pdu.{Pdu}
+use Rattle.pdu.specs.declared.Read.{Read}
+use Rattle.pdu.specs.declared.Read.the-variants.{Message, Refused}
+use Rattle.pdu.specs.Layout.{types, known, widths}
+use Rattle.pdu.specs.Records.{isYes, yesNumber, recordOf, kindOf, sizeOf}
+use Rattle.pdu.specs.Rules.{allowed}
+use Rattle.pdu.specs.Answers.{Answer}
+use Rattle.pdu.specs.Reading.{typeAt, recordAs, bodyNumber, readNumber, answerAs, readOf}
+use Rattle.pdu.proofs.Answers.{read-says}
+use Rattle.pdu.proofs.WriteBack.{reading}
+use Rattle.pdu_words.specs.Words.{wordsOf}
+use Rattle.pdu_words.specs.Told.{wordsAfter, Told}
+use Rattle.pdu_words.specs.FromWords.{u8, u16, u32, Stands, pduOf, fits}
+use Rattle.pdu_words.proofs.FromWords.{words-stand, words-back}
+use Rattle.pdu_read.specs.Answers.{Answerable, answerOf}
+
+-- ---- the numbers of a record that was read fit their fields
+
+-- a number of w bytes is less than 256 to the w
+num-under : (w : ℕ) (s : List ℕ) (at : ℕ) → Bytes s → numAt w s at < 256 ^ w
+unfolding numAt
+num-under zero s at ok = omega arith
+num-under (suc w) s at ok = omega (arith, ok .small at, num-under w s (at + 1) ok)
+
+start-most : (b : Bool) → leb (yesNumber b) 1 ≡ true
+start-most true = refl
+start-most false = refl
+
+module _ (s : List ℕ) (ok : Bytes s) where
+  most-of : (w m at : ℕ) → 256 ^ w ≤ suc m → leb (numAt w s at) m ≡ true
+  most-of w m at h = le-leb (numAt w s at) m (omega (arith, num-under w s at ok))
+
+  byte : (at : ℕ) → leb (numAt 1 s at) u8 ≡ true
+  byte at = most-of 1 u8 at (omega arith)
+
+  half : (at : ℕ) → leb (numAt 2 s at) u16 ≡ true
+  half at = most-of 2 u16 at (omega arith)
+
+  long : (at : ℕ) → leb (numAt 2 s at) u32 ≡ true
+  long at = most-of 2 u32 at (omega arith)
+
+  full : (at : ℕ) → leb (numAt 4 s at) u32 ≡ true
+  full at = most-of 4 u32 at (omega arith)
+
+  -- where the second and the third string of an Execute message stand
+  second : leb (12 + numAt 2 s 6) u32 ≡ true
+  second = le-leb (12 + numAt 2 s 6) u32 (omega (arith, num-under 2 s 6 ok))
+
+  third : leb (12 + numAt 2 s 6 + numAt 2 s 8) u32 ≡ true
+  third = le-leb (12 + numAt 2 s 6 + numAt 2 s 8) u32 (omega (arith, num-under 2 s 6 ok, num-under 2 s 8 ok))
+
+  each-fits : Each (λ (k : ℕ). fits (recordAs k s) ≡ true) types
+  unfolding widths numsAt recordOf recordAs wordsOf kindOf fits
+  each-fits =
+      (rw (half 4, long 6, second, long 8, third, long 10), (rw (full 4, byte 8), (rw (full 4, half 8), (rw (full 4), (rw (full 4, full 8, full 12), (rw (full 4, half 8, half 10, half 12, half 14), (rw (full 4, start-most (isYes (numAt 2 s 8)), half 10, half 12, half 14), (rw (full 4, half 8, half 10, half 12, half 14, half 16, half 18, half 20, half 22), (rw (full 4), (rw (full 4, half 8, half 10), (rw (full 4), (rw (full 4), (rw (half 4, half 6, full 8, long 14), tt)))))))))))))
+
+  -- the record of each message that reading grants has numbers that fit their fields
+  read-fits : (p : Pdu) → readOf s ≡ Message p → fits p ≡ true
+  unfolding known
+  read-fits p e =
+      let g = reading s p e in
+      subst (λ (q : Pdu). fits q ≡ true) (g .same-record) (one-of (λ (k : ℕ). fits (recordAs k s) ≡ true) types (numAt 2 s 0) (g .kind-known) each-fits)
+
+-- the ladder's numbers
+number-small : (s : List ℕ) → readNumber s < 256
+unfolding readNumber bodyNumber
+number-small s =
+    let p = recordAs (typeAt s) s in
+    go (ltb (length s) 4) (not (eqb (numAt 2 s 2) (length s))) (not (known (typeAt s))) (not (eqb (sizeOf p) (length s))) (not (allowed p))
+  where
+    go : (a b d e f : Bool) → pick a 2 (pick b 3 (pick d 4 (pick e 7 (pick f 8 0)))) < 256
+    go true b d e f = omega arith
+    go false true d e f = omega arith
+    go false false true e f = omega arith
+    go false false false true f = omega arith
+    go false false false false true = omega arith
+    go false false false false false = omega arith
+
+-- ---- the answer
+
+module _ {s lent words : List ℕ} {n : ℕ} (ok : Bytes s) (t : Told (readOf s) lent n words) where
+  is-number : n ≡ readNumber s
+  is-number = t .answer ∙ ap (λ (a : Answer Pdu). a .number) (read-says s)
+
+  module _ (z : n ≡ 0) where
+    is-message : readOf s ≡ Message (recordAs (typeAt s) s)
+    unfolding readOf answerAs
+    is-message = rw (sym is-number ∙ z)
+
+    are-words : words ≡ wordsOf (recordAs (typeAt s) s)
+    unfolding wordsAfter
+    are-words = t .memory ∙ ap (λ (a : Read). wordsAfter a lent) is-message
+
+  pub answerable : Answerable n words
+  answerable =
+      let p = recordAs (typeAt s) s in
+      record {
+        small = subst (λ (k : ℕ). k < 256) (sym is-number) (number-small s);
+        stands = λ z. subst Stands (sym (are-words z)) (words-stand p (read-fits s ok p (is-message z)));
+      }
+
+  refused : eqb n 0 ≡ false → Refused n ≡ readOf s
+  unfolding readOf answerAs
+  refused e = rw (← is-number, e)
+
+  pub answered : answerOf n words ≡ readOf s
+  unfolding answerOf
+  answered = go (eqb n 0) refl
+    where
+      go : (b : Bool) → eqb n 0 ≡ b → pick (eqb n 0) (Message (pduOf words)) (Refused n) ≡ readOf s
+      go true e =
+          let z = eqb-true n 0 e in
+          rw e (ap Message (ap pduOf (are-words z) ∙ words-back (recordAs (typeAt s) s)) ∙ sym (is-message z))
+      go false e = rw e (refused e)

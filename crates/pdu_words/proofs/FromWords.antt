@@ -1,0 +1,257 @@
+-- Words as a record: the limits of words, and that words and record determine each other. Assumes nothing.
+use mathlib.Core.Path.{_≡_, refl, sym, ap, _∙_, subst}
+use mathlib.Core.Bool.{Bool, true, false}
+use mathlib.Core.List.{List, [], _∷_, map}
+use Prim.Native.Nat.{ℕ, zero, suc, _+_, _-_, _≤_, _<_}
+use native.Mathlib.Nat.{add-zero}
+use native.Mathlib.Omega.{arith}
+use lib.ListN.{length, getD, drop, replicate}
+use lib.Seq.{drop-cons, drop-length}
+use lib.Dec.{leb, eqb}
+use borrow.Author.Tests.{leb-true, le-leb, eqb-true, ne-eqb}
+use mir.Val.{Val}
+use denote.Laws.{Is}
+use denote.Enum.Declared.{row, variants}
+use denote.Enum.Laws.{Fields, spellss, owed}
+use Rattle.wire.specs.Tests.{both, allAfter}
+use Rattle.wire.proofs.Tests.{both-left, both-right, Each, one-of}
+use Rattle.pdu.proofs.Pdu.{the-type}
+use Rattle.pdu.proofs.Pdu.Laws.{the-laws}
+use Rattle.pdu.specs.declared.Pdu.{Pdu}
+use Rattle.pdu.specs.declared.Pdu.the-variants.{Execute, Activate, SystemCommand, Handshake, NotifyEvent, WindowMove, MoveSize, MinMaxInfo, ClientInformation, SystemMenu, GetApplicationId, ApplicationIdResponse, ExecuteResult}
+use Rattle.pdu.specs.Layout.{types, known}
+use Rattle.pdu.specs.Records.{isYes, yesNumber, kindOf}
+use Rattle.pdu_words.specs.Words.{wordsOf}
+use Rattle.pdu_words.specs.FromWords.{u8, u16, u32, most, within, Within, stand, Stands, recordFrom, pduOf, fits}
+
+-- ---- limits
+
+first-of : (a : Bool) (bs : List Bool) → allAfter a bs ≡ true → a ≡ true
+first-of a [] e = e
+first-of a (b ∷ bs) e = both-left a b (first-of (both a b) bs e)
+
+-- n numbers from i on
+abbrev run : ℕ → ℕ → List ℕ
+run zero i = []
+run (suc n) i = i ∷ run n (suc i)
+
+-- of tests that all hold, each holds
+each-of : (test : ℕ → Bool) (a : Bool) (n i j : ℕ) → allAfter a (map test (run n i)) ≡ true → j < n → test (i + j) ≡ true
+each-of test a zero i j e h = absurd (omega arith)
+each-of test a (suc n) i zero e h = rw (add-zero i) (both-right a (test i) (first-of (both a (test i)) (map test (run n (suc i))) e))
+each-of test a (suc n) i (suc j) e h =
+    let k : i + suc j ≡ suc i + j = omega arith in
+    rw k (each-of test (both a (test i)) n (suc i) j e (omega arith))
+
+module _ (w m : List ℕ) (h : within w m ≡ true) where
+  abbrev test : ℕ → Bool
+  test i = leb (getD w i 0) (getD m i 0)
+
+  pub below : (j : ℕ) → j < 11 → getD w (suc j) 0 ≤ getD m (suc j) 0
+  below j l =
+      let k : 1 + j ≡ suc j = omega arith in
+      leb-true (getD w (suc j) 0) (getD m (suc j) 0) (subst (λ (i : ℕ). test i ≡ true) k (each-of test (test 0) 11 1 j h l))
+
+  pub all-within : Within w m
+  all-within =
+      record {
+        at1 = below 0 (omega arith);
+        at2 = below 1 (omega arith);
+        at3 = below 2 (omega arith);
+        at4 = below 3 (omega arith);
+        at5 = below 4 (omega arith);
+        at6 = below 5 (omega arith);
+        at7 = below 6 (omega arith);
+        at8 = below 7 (omega arith);
+        at9 = below 8 (omega arith);
+        at10 = below 9 (omega arith);
+        at11 = below 10 (omega arith);
+      }
+
+-- ---- the type
+
+-- a number is none of a list
+abbrev pub NoneOf : ℕ → List ℕ → Type 0
+NoneOf k [] = Unit {0}
+NoneOf k (x ∷ xs) = NoneOf k xs × (k ≡ x → ⊥)
+
+-- the types but the last, in the order in which a match leaves them behind
+abbrev pub Others : ℕ → Type 0
+Others k = NoneOf k (0x0F ∷ 0x0E ∷ 0x0C ∷ 0x0B ∷ 0x0A ∷ 0x09 ∷ 0x08 ∷ 0x06 ∷ 0x05 ∷ 0x04 ∷ 0x02 ∷ 0x01 ∷ [])
+
+-- then the type is known where it is the last
+others : (k : ℕ) → Others k → known k ≡ eqb k 0x80
+unfolding known
+others k h =
+    rw (
+      ne-eqb k 0x01 (h .0 .0 .0 .0 .0 .0 .0 .0 .0 .0 .0 .1),
+      ne-eqb k 0x02 (h .0 .0 .0 .0 .0 .0 .0 .0 .0 .0 .1),
+      ne-eqb k 0x04 (h .0 .0 .0 .0 .0 .0 .0 .0 .0 .1),
+      ne-eqb k 0x05 (h .0 .0 .0 .0 .0 .0 .0 .0 .1),
+      ne-eqb k 0x06 (h .0 .0 .0 .0 .0 .0 .0 .1),
+      ne-eqb k 0x08 (h .0 .0 .0 .0 .0 .0 .1),
+      ne-eqb k 0x09 (h .0 .0 .0 .0 .0 .1),
+      ne-eqb k 0x0A (h .0 .0 .0 .0 .1),
+      ne-eqb k 0x0B (h .0 .0 .0 .1),
+      ne-eqb k 0x0C (h .0 .0 .1),
+      ne-eqb k 0x0E (h .0 .1),
+      ne-eqb k 0x0F (h .1),
+    )
+
+pub no-type : (k : ℕ) → Others k × (k ≡ 0x80 → ⊥) → known k ≡ false
+no-type k h = others k (h .0) ∙ ne-eqb k 0x80 (h .1)
+
+module _ (w : List ℕ) where
+  -- the words of a known type stand where each is within its field
+  pub standing : {k : ℕ} {r : Bool} → getD w 0 0 ≡ k → known k ≡ true → r ≡ within w (most k) → r ≡ stand w
+  unfolding stand
+  standing q u e = e ∙ rw (q, u)
+
+  pub not-standing : known (getD w 0 0) ≡ false → false ≡ stand w
+  unfolding stand
+  not-standing u = rw u
+
+  known-type : stand w ≡ true → known (getD w 0 0) ≡ true
+  unfolding stand
+  known-type h = both-left (known (getD w 0 0)) (within w (most (getD w 0 0))) h
+
+  within-type : stand w ≡ true → within w (most (getD w 0 0)) ≡ true
+  unfolding stand
+  within-type h = both-right (known (getD w 0 0)) (within w (most (getD w 0 0))) h
+
+-- words that stand and have none of the other types have the last
+pub last-type : {w : List ℕ} → Stands w → Others (getD w 0 0) → getD w 0 0 ≡ 0x80
+last-type {w} h o = eqb-true (getD w 0 0) 0x80 (sym (others (getD w 0 0) o) ∙ known-type w (h .holds))
+
+pub inside : (k : ℕ) {w : List ℕ} → Stands w → getD w 0 0 ≡ k → Within w (most k)
+inside k {w} h q = all-within w (most k) (ap (λ (i : ℕ). within w (most i)) (sym q) ∙ within-type w (h .holds))
+
+of-type : (w : List ℕ) (k : ℕ) {p : Pdu} → getD w 0 0 ≡ k → p ≡ recordFrom k w → pduOf w ≡ p
+unfolding pduOf
+of-type w k q e = ap (λ (i : ℕ). recordFrom i w) q ∙ sym e
+
+-- the record of words of type k
+pub is-type : (k : ℕ) {w : List ℕ} {p : Pdu} → Stands w → getD w 0 0 ≡ k → p ≡ recordFrom k w → pduOf w ≡ p
+is-type k {w} h q e = of-type w k q e
+
+-- ---- a record's words make it again
+
+is-yes : (b : Bool) → isYes (yesNumber b) ≡ b
+is-yes true = refl
+is-yes false = refl
+
+record-again : (p : Pdu) → recordFrom (kindOf p) (wordsOf p) ≡ p
+unfolding kindOf wordsOf recordFrom
+record-again (Execute e) = refl
+record-again (Activate e) = refl
+record-again (SystemCommand e) = refl
+record-again (Handshake e) = refl
+record-again (NotifyEvent e) = refl
+record-again (WindowMove e) = refl
+record-again (MoveSize e) = rw (is-yes (e .«is_start»))
+record-again (MinMaxInfo e) = refl
+record-again (ClientInformation e) = refl
+record-again (SystemMenu e) = refl
+record-again (GetApplicationId e) = refl
+record-again (ApplicationIdResponse e) = refl
+record-again (ExecuteResult e) = refl
+
+-- the first word is the type, which is known
+kind-word : (p : Pdu) → (getD (wordsOf p) 0 0 ≡ kindOf p) × (known (kindOf p) ≡ true)
+unfolding kindOf wordsOf known
+kind-word (Execute e) = (refl, refl)
+kind-word (Activate e) = (refl, refl)
+kind-word (SystemCommand e) = (refl, refl)
+kind-word (Handshake e) = (refl, refl)
+kind-word (NotifyEvent e) = (refl, refl)
+kind-word (WindowMove e) = (refl, refl)
+kind-word (MoveSize e) = (refl, refl)
+kind-word (MinMaxInfo e) = (refl, refl)
+kind-word (ClientInformation e) = (refl, refl)
+kind-word (SystemMenu e) = (refl, refl)
+kind-word (GetApplicationId e) = (refl, refl)
+kind-word (ApplicationIdResponse e) = (refl, refl)
+kind-word (ExecuteResult e) = (refl, refl)
+
+-- a record's words stand for it
+pub words-stand : (p : Pdu) → fits p ≡ true → Stands (wordsOf p)
+unfolding fits
+words-stand p f = record { holds = sym (standing (wordsOf p) (kind-word p .0) (kind-word p .1) (sym f)) }
+
+pub words-back : (p : Pdu) → pduOf (wordsOf p) ≡ p
+words-back p = of-type (wordsOf p) (kindOf p) (kind-word p .0) (sym (record-again p))
+
+-- ---- words that stand for a record are its words
+
+-- the words at these numbers
+abbrev listed : List ℕ → List ℕ → List ℕ
+listed w is = map (λ (i : ℕ). getD w i 0) is
+
+list-whole : (n i : ℕ) (w : List ℕ) → length w ≡ i + n → listed w (run n i) ≡ drop i w
+list-whole zero i w e =
+    let l : i ≡ length w = omega arith in
+    sym (ap (λ (j : ℕ). drop j w) l ∙ drop-length w)
+list-whole (suc n) i w e = rw (list-whole n (suc i) w (omega arith)) (sym (drop-cons w i 0 (omega arith)))
+
+start-back : (n : ℕ) → n ≤ 1 → yesNumber (isYes n) ≡ n
+start-back zero h = refl
+start-back (suc zero) h = refl
+start-back (suc (suc n)) h = absurd (omega arith)
+
+module _ (w : List ℕ) where
+  -- the last n words are 0 where the limits are
+  pad : (m : List ℕ) → within w m ≡ true → (n j : ℕ) → j + n ≡ 11 → listed m (run n (suc j)) ≡ replicate n 0 → listed w (run n (suc j)) ≡ replicate n 0
+  pad m h zero j l e = refl
+  pad m h (suc n) j l e =
+      let z : getD m (suc j) 0 ≡ 0 = ap (λ (x : List ℕ). getD x 0 0) e in
+      let y : getD w (suc j) 0 ≡ 0 = omega (arith, below w m h j (omega arith)) in
+      rw (y, pad m h n (suc j) (omega arith) (ap (drop 1) e))
+
+  -- the words after the first j fields of type k, its last
+  after : (k j : ℕ) → within w (most k) ≡ true → (j + (11 - j) ≡ 11) × (listed (most k) (run (11 - j) (suc j)) ≡ replicate (11 - j) 0) → listed w (run (11 - j) (suc j)) ≡ replicate (11 - j) 0
+  after k j h e = pad (most k) h (11 - j) j (e .0) (e .1)
+
+  abbrev Same : ℕ → Type 0
+  Same k = within w (most k) ≡ true → getD w 0 0 ≡ k → wordsOf (recordFrom k w) ≡ listed w (run 12 0)
+
+  each-kind : Each Same types
+  unfolding wordsOf recordFrom
+  each-kind =
+      (λ h q. rw (q, after 0x01 7 h (refl, refl)), (λ h q. rw (q, after 0x02 2 h (refl, refl)), (λ h q. rw (q, after 0x04 2 h (refl, refl)), (λ h q. rw (q, after 0x05 1 h (refl, refl)), (λ h q. rw (q, after 0x06 3 h (refl, refl)), (λ h q. rw (q, after 0x08 5 h (refl, refl)), (λ h q. rw (q, start-back (getD w 2 0) (below w (most 0x09) h 1 (omega arith)), after 0x09 5 h (refl, refl)), (λ h q. rw (q, after 0x0A 9 h (refl, refl)), (λ h q. rw (q, after 0x0B 1 h (refl, refl)), (λ h q. rw (q, after 0x0C 3 h (refl, refl)), (λ h q. rw (q, after 0x0E 1 h (refl, refl)), (λ h q. rw (q, after 0x0F 3 h (refl, refl)), (λ h q. rw (q, after 0x80 5 h (refl, refl)), tt)))))))))))))
+
+  pub words-forth : length w ≡ 12 → Stands w → (wordsOf (pduOf w) ≡ w) × (fits (pduOf w) ≡ true)
+  unfolding known pduOf fits
+  words-forth l h =
+      let k = getD w 0 0 in
+      let p = recordFrom k w in
+      let x : wordsOf p ≡ w = one-of Same types k (known-type w (h .holds)) each-kind (within-type w (h .holds)) refl ∙ list-whole 12 0 w l in
+      let y : kindOf p ≡ k = sym (kind-word p .0) ∙ ap (λ (v : List ℕ). getD v 0 0) x in
+      (x, ap (within (wordsOf p)) (ap most y) ∙ ap (λ (v : List ℕ). within v (most k)) x ∙ within-type w (h .holds))
+
+-- ---- the fields of a record in memory fit
+
+abbrev Held : Pdu → Type 0
+Held p = Fields (variants the-type) (spellss (the-type .parts) the-laws) (the-type .to p)
+
+start-most : (b : Bool) → leb (yesNumber b) 1 ≡ true
+start-most true = refl
+start-most false = refl
+
+held-fits : (p : Pdu) → Held p → fits p ≡ true
+unfolding fits wordsOf kindOf
+held-fits (Execute e) g = rw (le-leb (e .flags) u16 (omega (arith, g)), le-leb (e .«exe_or_file» .at) u32 (omega (arith, g)), le-leb (e .«exe_or_file» .len) u32 (omega (arith, g)), le-leb (e .«working_dir» .at) u32 (omega (arith, g)), le-leb (e .«working_dir» .len) u32 (omega (arith, g)), le-leb (e .arguments .at) u32 (omega (arith, g)), le-leb (e .arguments .len) u32 (omega (arith, g)))
+held-fits (Activate e) g = rw (le-leb (e .«window_id» .id) u32 (omega (arith, g)), le-leb (e .enabled) u8 (omega (arith, g)))
+held-fits (SystemCommand e) g = rw (le-leb (e .«window_id» .id) u32 (omega (arith, g)), le-leb (e .command) u16 (omega (arith, g)))
+held-fits (Handshake e) g = rw (le-leb (e .«build_number») u32 (omega (arith, g)))
+held-fits (NotifyEvent e) g = rw (le-leb (e .«window_id» .id) u32 (omega (arith, g)), le-leb (e .«notify_icon_id» .id) u32 (omega (arith, g)), le-leb (e .message) u32 (omega (arith, g)))
+held-fits (WindowMove e) g = rw (le-leb (e .«window_id» .id) u32 (omega (arith, g)), le-leb (e .left) u16 (omega (arith, g)), le-leb (e .top) u16 (omega (arith, g)), le-leb (e .right) u16 (omega (arith, g)), le-leb (e .bottom) u16 (omega (arith, g)))
+held-fits (MoveSize e) g = rw (le-leb (e .«window_id» .id) u32 (omega (arith, g)), start-most (e .«is_start»), le-leb (e .«move_size_type») u16 (omega (arith, g)), le-leb (e .«pos_x») u16 (omega (arith, g)), le-leb (e .«pos_y») u16 (omega (arith, g)))
+held-fits (MinMaxInfo e) g = rw (le-leb (e .«window_id» .id) u32 (omega (arith, g)), le-leb (e .«max_width») u16 (omega (arith, g)), le-leb (e .«max_height») u16 (omega (arith, g)), le-leb (e .«max_pos_x») u16 (omega (arith, g)), le-leb (e .«max_pos_y») u16 (omega (arith, g)), le-leb (e .«min_track_width») u16 (omega (arith, g)), le-leb (e .«min_track_height») u16 (omega (arith, g)), le-leb (e .«max_track_width») u16 (omega (arith, g)), le-leb (e .«max_track_height») u16 (omega (arith, g)))
+held-fits (ClientInformation e) g = rw (le-leb (e .flags) u32 (omega (arith, g)))
+held-fits (SystemMenu e) g = rw (le-leb (e .«window_id» .id) u32 (omega (arith, g)), le-leb (e .left) u16 (omega (arith, g)), le-leb (e .top) u16 (omega (arith, g)))
+held-fits (GetApplicationId e) g = rw (le-leb (e .«window_id» .id) u32 (omega (arith, g)))
+held-fits (ApplicationIdResponse e) g = rw (le-leb (e .«window_id» .id) u32 (omega (arith, g)), le-leb (e .«application_id» .at) u32 (omega (arith, g)), le-leb (e .«application_id» .len) u32 (omega (arith, g)))
+held-fits (ExecuteResult e) g = rw (le-leb (e .flags) u16 (omega (arith, g)), le-leb (e .«exec_result») u16 (omega (arith, g)), le-leb (e .«raw_result») u32 (omega (arith, g)), le-leb (e .«exe_or_file» .at) u32 (omega (arith, g)), le-leb (e .«exe_or_file» .len) u32 (omega (arith, g)))
+
+pub memory-fits : (p : Pdu) (vs : List Val) → Is (row the-type) p vs → fits p ≡ true
+memory-fits p vs h = held-fits p (owed the-type the-laws p vs h)
