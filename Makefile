@@ -11,7 +11,7 @@ LIB_DIR = target/staticlib
 INSTALL = install
 
 to = $(DESTDIR)$(PREFIX)
-parts = messages.h protocol.h records.h state.h
+parts = $(notdir $(wildcard include/rail/*.h))
 
 .PHONY: all check install uninstall
 

@@ -207,6 +207,7 @@ uint32_t rail_pdu_write(const uint32_t words[12], const uint8_t *strings, size_t
 
 #include "rail/messages.h"
 #include "rail/records.h"
+#include "rail/orders.h"
 #include "rail/state.h"
 
 /* The names of MS-RDPERP. Define this before the include where another header has them too. */
