@@ -11,9 +11,11 @@
  *   Threads    The library has no state of its own and allocates nothing. Calls on different memory may run in parallel, and so
  *              may lookups on the same memory. A call that writes has its memory for itself: serialize those.
  *   Stack      A call takes less than 16 KB of stack.
- *   State      Its bytes may be stored and copied, but only rail_ calls should write them. Whatever they hold, every call
- *              ends with a number of its list: memory that describes no state meets RAIL_BAD_STATE, and rail_reset mends it.
- *              Damage that happens to describe another state is not seen.
+ *   State      Its bytes may be stored and copied, but only rail_ calls should write them. Zeros are a state, the emptied one.
+ *              Whatever the bytes are, every call ends with a number of its list: memory that describes no state meets
+ *              RAIL_BAD_STATE, and rail_reset mends it. Damage that happens to describe another state is not seen.
+ *   Secrets    No call erases: after rail_reset, rail_undo and a delete the bytes of titles and icons still stand in the
+ *              parts. rail_wipe erases.
  *
  * What is proved of each call (docs/STATEMENTS.md) speaks of the library's source. These are not proved: this header with its
  * macros and inline functions (tests/c tries them), the compiler's back end, the linker, and that the rules above are kept.
@@ -127,8 +129,8 @@ extern "C" {
 /* The measure `what` (enum rail_measure) in bytes, and 0 for any other number. */
 uint32_t rail_size(uint32_t what);
 
-/* Empties: no window, no icon, no filled cell, not hooked, not syncing, nothing after the mark. Takes memory with any contents.
- * Refuses with 1, and only where a part is too short. */
+/* Empties: no window, no icon, no filled cell, not hooked, not syncing, nothing after the mark. Takes memory with any contents, and
+ * erases none of it (rail_wipe does). Refuses with 1, and only where a part is too short. */
 uint32_t rail_reset(uint8_t *directory, size_t directory_size, uint8_t *bodies, size_t bodies_size,
                     const uint8_t *cells, size_t cells_size, uint8_t *journal, size_t journal_size);
 

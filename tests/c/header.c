@@ -174,6 +174,7 @@ int main(void) {
     test_pictures();
     test_lookups();
     test_orders();
+    test_memory();
     test_state_refusals();
     test_order_refusals();
     test_table_refusals();
