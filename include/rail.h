@@ -1,4 +1,5 @@
-/* The terminal's end of RDP Remote Programs (RAIL): the library librail.a for C11 and C++17.
+/* The terminal's end of RDP Remote Programs (RAIL): the library librail.a for C11 and C++17, on x86-64 Linux.
+ * docs/GUIDE.md leads through it; `make install` puts the documents named here into share/doc/rail.
  *
  * The library keeps the table that a server's windowing orders describe (32 windows, 16 notification icons, an icon cache of
  * 2 x 6 cells and the desktop state) with a history that can be stepped back, and reads and writes the control messages of
@@ -25,6 +26,8 @@
 
 #include <stddef.h>
 #include <stdint.h>
+
+#include "rail/version.h"
 
 /* ---- Measures, in bytes. A longer part is fine; what lies past the measure is never changed. rail_size tells them too. */
 
@@ -212,7 +215,8 @@ uint32_t rail_pdu_write(const uint32_t words[12], const uint8_t *strings, size_t
 #include "rail/orders.h"
 #include "rail/state.h"
 
-/* The names of MS-RDPERP. Define this before the include where another header has them too. */
+/* The names of MS-RDPERP, also beside FreeRDP's headers: rail/protocol.h tells how. Where another header has them otherwise, define
+ * this before the include to do without. */
 #ifndef RAIL_NO_PROTOCOL_NAMES
 #include "rail/protocol.h"
 #endif

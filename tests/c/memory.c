@@ -1,7 +1,12 @@
-/* What the header promises of bytes: zeros are the emptied state, emptying erases nothing, and rail_wipe erases. */
+/* What the header promises of bytes: zeros are the emptied state, emptying erases nothing, and rail_wipe erases. And its version. */
 #include "check.h"
 
+#include <stdio.h>
 #include <stdlib.h>
+
+#if RAIL_VERSION_NUMBER < RAIL_VERSION_OF(0, 1, 0) || RAIL_VERSION_NUMBER >= RAIL_VERSION_OF(RAIL_VERSION_MAJOR + 1, 0, 0)
+#error "versions do not compare"
+#endif
 
 static struct rail_state zeroed; /* never emptied by a call */
 
@@ -64,7 +69,14 @@ static void erasing(void) {
     free(s);
 }
 
+static void version(void) {
+    char text[40];
+    snprintf(text, sizeof text, "%d.%d.%d", RAIL_VERSION_MAJOR, RAIL_VERSION_MINOR, RAIL_VERSION_PATCH);
+    CHECK(strcmp(text, rail_version()) == 0 && strcmp(text, RAIL_VERSION) == 0);
+}
+
 void test_memory(void) {
+    version();
     zeros_are_emptied();
     erasing();
 }
