@@ -1,6 +1,6 @@
 //! The lines that a run of state calls printed, told in words beside its script.
 
-use super::order::told;
+use super::order::{outside, told};
 use super::words::{condition, quoted};
 use crate::hex;
 use crate::script::parts::Parts;
@@ -43,7 +43,7 @@ pub fn explain(script: &[u8], output: &str) -> Result<String, String> {
             .and_then(|(_, line)| line.strip_prefix(char::from(kind))?.strip_prefix(' '))
             .and_then(answered);
         match answer {
-            Some(answer) => text += &format!("    {answer}\n"),
+            Some(answer) => text += &format!("    {answer}{}\n", why(&call, &answer)),
             None => return Err(parted(number, line)),
         }
     }
@@ -51,6 +51,18 @@ pub fn explain(script: &[u8], output: &str) -> Result<String, String> {
         None => Ok(text),
         extra => Err(parted(number + 1, extra)),
     }
+}
+
+/// Which fields were outside their sets, where that was the refusal.
+fn why(call: &Call<'_>, answer: &str) -> String {
+    let fields = match call {
+        Call::Deliver(order) if answer.starts_with("refused, 8:") => outside(order),
+        _ => Vec::new(),
+    };
+    if fields.is_empty() {
+        return String::new();
+    }
+    format!(" ({})", fields.join("; "))
 }
 
 fn parted(item: usize, line: Option<(usize, &str)>) -> String {

@@ -1,6 +1,7 @@
 //! An order in words: what it is about, and the fields that it carries.
 
 use super::words::quoted;
+use crate::order::rules::{self, ID_SIZE, NO_CACHE, RECT_SIZE};
 use crate::order::{
     decode, DesktopFields, DesktopOrder, Icon, NotificationChange, NotificationFields, Order,
     Picture, WindowChange, WindowFields,
@@ -137,5 +138,96 @@ fn picture(picture: &Picture<'_>) -> String {
             place.cache, place.entry
         ),
         Picture::Cached(place) => format!("icon of cell {}/{}", place.cache, place.entry),
+    }
+}
+
+/// The fields of an order whose numbers are outside their sets, each with the set.
+pub fn outside(order: &[u8]) -> Vec<String> {
+    let mut found = Vec::new();
+    match decode(order) {
+        Ok(Order::Window(order)) => match order.change {
+            WindowChange::New(fields) | WindowChange::Update(fields) => {
+                outside_window(&fields, &mut found);
+            }
+            WindowChange::Delete => {}
+            WindowChange::Picture { picture, .. } => outside_picture(&picture, &mut found),
+        },
+        Ok(Order::Notification(order)) => match order.change {
+            NotificationChange::New(fields) | NotificationChange::Update(fields) => {
+                outside_notification(&fields, &mut found);
+            }
+            NotificationChange::Delete => {}
+        },
+        Ok(Order::Desktop(DesktopOrder::Monitored(fields))) => {
+            let count = fields.stack.map_or(0, |ids| ids.len() / ID_SIZE);
+            if !rules::stack(count) {
+                found.push(format!("stack of {count} ids, over {}", rules::STACK_LIMIT));
+            }
+        }
+        Ok(Order::Desktop(DesktopOrder::None)) | Err(_) => {}
+    }
+    found
+}
+
+fn outside_string(name: &str, bytes: Option<&[u8]>, limit: usize, found: &mut Vec<String>) {
+    let length = bytes.map_or(0, <[u8]>::len);
+    if !rules::string(length, limit) {
+        found.push(format!(
+            "{name} of {length} bytes, not an even number up to {limit}"
+        ));
+    }
+}
+
+fn outside_window(f: &WindowFields<'_>, found: &mut Vec<String>) {
+    if let Some(show) = f.show_state.filter(|&show| !rules::show_state(show)) {
+        found.push(format!("show={show}, not 0, 2, 3 or 5"));
+    }
+    outside_string("title", f.title, rules::TITLE_LIMIT, found);
+    if let Some(rp) = f.rp_content.filter(|&rp| !rules::rp_content(rp)) {
+        found.push(format!("rp={rp}, not 0 or 1"));
+    }
+    for (name, list) in [("rects", f.window_rects), ("vis_rects", f.visibility_rects)] {
+        let count = list.map_or(0, |list| list.len() / RECT_SIZE);
+        if !rules::rects(count) {
+            found.push(format!("{name} of {count}, over {}", rules::RECTS_LIMIT));
+        }
+    }
+}
+
+fn outside_notification(f: &NotificationFields<'_>, found: &mut Vec<String>) {
+    outside_string("tip", f.tip, rules::TIP_LIMIT, found);
+    let balloon = f.balloon.as_ref();
+    let (text, title) = (balloon.map(|b| b.text), balloon.map(|b| b.title));
+    outside_string("text", text, rules::BALLOON_TEXT_LIMIT, found);
+    outside_string("title", title, rules::BALLOON_TITLE_LIMIT, found);
+    if let Some(picture) = &f.picture {
+        outside_picture(picture, found);
+    }
+}
+
+fn outside_picture(picture: &Picture<'_>, found: &mut Vec<String>) {
+    let (place, icon) = match picture {
+        Picture::Icon(icon) => (icon.place, Some(icon)),
+        Picture::Cached(place) => (*place, None),
+    };
+    if !(rules::cell(place) || icon.is_some() && place.cache == NO_CACHE) {
+        found.push(format!(
+            "cell {}/{}, not 0/0 to 1/5",
+            place.cache, place.entry
+        ));
+    }
+    let Some(icon) = icon else { return };
+    if !rules::bits_per_pixel(icon.bits_per_pixel) {
+        let bits = icon.bits_per_pixel;
+        found.push(format!("{bits} bits per pixel, not 1, 4, 8, 16, 24 or 32"));
+    }
+    for (name, side) in [("width", icon.width), ("height", icon.height)] {
+        if !rules::side(side) {
+            found.push(format!("{name} {side}, not 1 to 32"));
+        }
+    }
+    if !rules::picture_size(icon.size()) {
+        let (size, limit) = (icon.size(), rules::PICTURE_LIMIT);
+        found.push(format!("picture of {size} bytes, over {limit}"));
     }
 }

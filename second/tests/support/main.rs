@@ -104,7 +104,8 @@ fn answers_in_words() {
     assert!(lines[5].starts_with("    id=65624 owner=0 "));
     assert!(lines[5].contains(" title=\"A\" "));
     assert_eq!(lines[6], "4: deliver 12 bytes: window 65624 show=4");
-    let refused = "    refused, 8: a field's number is outside its allowed set";
+    let refused =
+        "    refused, 8: a field's number is outside its allowed set (show=4, not 0, 2, 3 or 5)";
     assert_eq!(lines[7], refused);
     assert_eq!(lines[8], "5: deliver 7 bytes: desktop hooked=1");
     let cut = "8: deliver 9 bytes: first byte 2E, OrderSize 11, FieldsPresentFlags 11000000";
@@ -153,6 +154,26 @@ fn all_kinds_in_words() {
     let notification = "notification icon 7/9 new version=4 tip=\"\u{FFFD}A\" timeout=1 flags=2 \
         text=\"B\" title=\"\u{FFFD}\" state=3 picture=icon of cell 1/2";
     assert!(text.contains(notification), "{text}");
+}
+
+/// Every refusal 8 of a delivery names a field, and of granted orders none is named.
+#[test]
+fn fields_outside_their_sets_are_named() {
+    let mut named = 0;
+    for seed in 0..40 {
+        let script = second(&["gen-session", &seed.to_string(), "300"], b"").stdout;
+        let told = explained(&script).expect("an explanation");
+        let lines: Vec<&str> = told.lines().collect();
+        for pair in lines.windows(2) {
+            if pair[0].contains(": deliver ") && pair[1].starts_with("    refused, 8: ") {
+                assert!(pair[1].ends_with(')'), "{pair:?}");
+                named += 1;
+            } else {
+                assert!(!pair[1].starts_with("    refused") || !pair[1].contains(", not "));
+            }
+        }
+    }
+    assert!(named > 100, "{named}");
 }
 
 /// Generated scripts, which have every kind of order and refusal, are all told.
