@@ -274,3 +274,25 @@ fn imported_orders_stand() {
         .count();
     assert_eq!(granted, 2);
 }
+
+/// What docs/FORMATS.md shows of an explanation is what is told.
+#[test]
+fn the_documents_lines_are_told() {
+    let document = include_str!("../../../docs/FORMATS.md");
+    let update = include_bytes!("../../../tests/guide/update.txt");
+    let script = second(&["update-to-script", "--hex"], update).stdout;
+    let told = explained(&script).expect("an explanation");
+    let shown: Vec<&str> = document
+        .split("`explain` says among others:")
+        .nth(1)
+        .expect("the document shows some lines")
+        .lines()
+        .skip(2)
+        .take_while(|line| !line.is_empty())
+        .map(|line| &line[4..])
+        .collect();
+    assert_eq!(shown.len(), 4);
+    for line in shown {
+        assert!(told.lines().any(|told| told == line), "{line}");
+    }
+}
