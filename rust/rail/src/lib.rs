@@ -48,6 +48,7 @@ mod ffi;
 mod ids;
 mod memory;
 mod message;
+mod names;
 mod order;
 pub mod protocol;
 mod record;

@@ -1,12 +1,13 @@
 //! A session that owns its memory.
 
-use alloc::collections::{btree_map, BTreeMap, BTreeSet};
+use alloc::collections::{btree_map, BTreeSet};
 use alloc::vec;
 use alloc::vec::Vec;
 
 use crate::answer::{Refusal, Standing};
 use crate::ids::{NotifyIconId, WindowId};
 use crate::memory::Memory;
+use crate::names::Names;
 use crate::order::{Change, Changed};
 use crate::record::{CacheCell, Desktop, NotificationIcon, Picture, Window};
 
@@ -41,43 +42,9 @@ pub struct Session {
     names: Names,
 }
 
-/// The ids that granted orders named as new, with how many orders stood after the
-/// checkpoint then, or 0 for those listed at the checkpoint. All that are listed are
-/// among them, and all that an undo can bring back.
-#[derive(Clone, Debug, Default)]
-struct Names {
-    windows: BTreeMap<WindowId, usize>,
-    icons: BTreeMap<(WindowId, NotifyIconId), usize>,
-}
-
 /// Orders of our own: desktop none, and desktop hooked.
 const DESKTOP_NONE: [u8; 7] = [0x2E, 7, 0, 1, 0, 0, 4];
 const DESKTOP_HOOKED: [u8; 7] = [0x2E, 7, 0, 2, 0, 0, 4];
-
-impl Names {
-    /// Learns what a granted order names as new; with it so many orders stand.
-    fn learn(&mut self, order: &[u8], standing: Standing) {
-        match Changed::of(order).map(|changed| changed.what) {
-            Some(Change::WindowNew(id)) => {
-                self.windows.entry(id).or_insert(standing.orders);
-            }
-            Some(Change::NotificationIconNew(window, icon)) => {
-                self.icons.entry((window, icon)).or_insert(standing.orders);
-            }
-            _ => {}
-        }
-    }
-
-    /// What was new after the orders that still stand is gone.
-    fn forget_undone(&mut self, standing: Standing) {
-        self.windows.retain(|_, since| *since <= standing.orders);
-        self.icons.retain(|_, since| *since <= standing.orders);
-    }
-
-    fn is_empty(&self) -> bool {
-        self.windows.is_empty() && self.icons.is_empty()
-    }
-}
 
 /// What a call on a session's own memory gives, which is well formed.
 ///
@@ -182,20 +149,7 @@ impl Session {
     /// orders is free again.
     pub fn checkpoint(&mut self) {
         self.standing = granted(self.memory.lend().checkpoint());
-        self.forget_at_checkpoint();
-    }
-
-    /// Right after a checkpoint what is not listed cannot come back.
-    fn forget_at_checkpoint(&mut self) {
-        let view = self.memory.view();
-        self.names.windows.retain(|&id, since| {
-            *since = 0;
-            view.window(id).is_ok()
-        });
-        self.names.icons.retain(|&(window, icon), since| {
-            *since = 0;
-            view.notification_icon(window, icon).is_ok()
-        });
+        self.names.forget_at_checkpoint(self.memory.view());
     }
 
     /// Takes the last `steps` orders back.
@@ -509,19 +463,6 @@ mod tests {
         session.deliver(&desktop).unwrap();
         let stacked: Vec<u32> = session.windows_in_z_order().map(|(id, _)| id.0).collect();
         assert_eq!(stacked, [3, 1, 2, 4]);
-    }
-
-    /// On a window's icon the new bit names nothing as new.
-    #[test]
-    fn an_icon_names_no_new_window() {
-        let mut names = Names::default();
-        let mut learn = |order: &[u8]| names.learn(order, Standing::default());
-        learn(&order(NEW | 0x4000_0000 | WINDOW_TYPE, &[7]));
-        learn(&order(WINDOW_TYPE, &[8]));
-        assert!(names.is_empty());
-        let mut learn = |order: &[u8]| names.learn(order, Standing::default());
-        learn(&order(NEW | 0x4000_0000 | NOTIFICATION_TYPE, &[7, 8]));
-        assert_eq!(names.icons.len(), 1);
     }
 
     #[test]
