@@ -3,8 +3,9 @@
  *
  *     cc terminal.c $(pkg-config --cflags --libs rail) -o terminal && ./terminal session.hex
  *
- * The session is a text of hexadecimal bytes; # begins a comment. An update (a run of windowing orders) begins with the letter U, a
- * control message of the virtual channel with M, and an empty line ends both. */
+ * The session is a text of hexadecimal bytes; # begins a comment. An item begins with its letter, and an empty line ends it: U an
+ * update (windowing orders back to back), R a control message of the virtual channel, M a mark, B so many steps back (4 bytes),
+ * E a new connection. docs/FORMATS.md has this beside the other formats. */
 #include <ctype.h>
 #include <stdio.h>
 #include <stdlib.h>
@@ -12,15 +13,58 @@
 
 #include <rail.h>
 
-/* ---- What the terminal keeps: the state, and the ids of notification icons, which only their orders tell. */
+static struct rail_state state;
 
-struct icon_ids {
+/* ---- The ids that may be listed. No call lists them: they are known from the orders that made them new. What is deleted stays known
+ * until the next mark, since a step back may bring it back. At a mark at most 32 windows and 16 notification icons are listed, and at
+ * most 128 orders stand after it. */
+
+struct known {
+    int is_icon;
     uint32_t window_id, notify_icon_id;
+    uint32_t since; /* as many orders stood after the mark once it was new; 0: it was listed at the mark */
 };
 
-static struct rail_state state;
-static struct icon_ids icons[RAIL_NOTIFICATIONS_MAX];
-static size_t icon_count;
+static struct known known[RAIL_WINDOWS_MAX + RAIL_NOTIFICATIONS_MAX + RAIL_HISTORY_ORDERS_MAX];
+static size_t known_count;
+
+static int is_listed(struct known k) {
+    static uint8_t record[RAIL_NOTIFICATION_SIZE]; /* the greater of the two */
+    return rail_number(k.is_icon ? rail_state_notification(&state, k.window_id, k.notify_icon_id, record)
+                                 : rail_state_window(&state, k.window_id, record)) == RAIL_DONE;
+}
+
+/* Learns the id that a granted order made new; `standing` orders stand after the mark with it. */
+static void learn(struct rail_change change, uint32_t standing) {
+    const struct known k = {change.kind == RAIL_CHANGE_NOTIFICATION_NEW, change.window_id, change.notify_icon_id, standing};
+    size_t i;
+    if (change.kind != RAIL_CHANGE_WINDOW_NEW && change.kind != RAIL_CHANGE_NOTIFICATION_NEW)
+        return;
+    for (i = 0; i < known_count; i++)
+        if (known[i].is_icon == k.is_icon && known[i].window_id == k.window_id && known[i].notify_icon_id == k.notify_icon_id)
+            return;
+    known[known_count++] = k;
+}
+
+/* After a mark: what is not listed cannot come back. */
+static void forget_at_mark(void) {
+    size_t i, left = 0;
+    for (i = 0; i < known_count; i++)
+        if (is_listed(known[i])) {
+            known[left] = known[i];
+            known[left++].since = 0;
+        }
+    known_count = left;
+}
+
+/* After a step back: what was new after the `standing` orders that still stand is gone. */
+static void forget_undone(uint32_t standing) {
+    size_t i, left = 0;
+    for (i = 0; i < known_count; i++)
+        if (known[i].since <= standing)
+            known[left++] = known[i];
+    known_count = left;
+}
 
 /* ---- Printing */
 
@@ -96,7 +140,7 @@ static void print_window(uint32_t id) {
     putchar('\n');
 }
 
-static void print_notification(struct icon_ids ids) {
+static void print_notification(struct known ids) {
     static uint8_t record[RAIL_NOTIFICATION_SIZE];
     struct rail_notification n;
     if (rail_number(rail_state_notification(&state, ids.window_id, ids.notify_icon_id, record)) != RAIL_DONE)
@@ -112,58 +156,50 @@ static void print_notification(struct icon_ids ids) {
     putchar('\n');
 }
 
-/* The windows from the top down, then the notification icons. */
+static int names(const struct rail_desktop *d, uint32_t count, uint32_t window_id) {
+    uint32_t i;
+    for (i = 0; i < count; i++)
+        if (d->window_ids[i] == window_id)
+            return 1;
+    return 0;
+}
+
+/* The windows that the z-order names, each once and from the top down; those that it does not name; the notification icons. */
 static void print_desktop(void) {
     static uint8_t record[RAIL_DESKTOP_SIZE];
     struct rail_desktop d;
     uint32_t i;
+    size_t k;
     if (rail_number(rail_state_desktop(&state, record)) != RAIL_DONE)
         return;
     rail_desktop_decode(&d, record);
     printf("  desktop %s%s, active %08X\n", d.hooked ? "hooked" : "not hooked", d.syncing ? ", syncing" : "", d.active_window_id);
     for (i = 0; i < d.num_window_ids; i++)
-        print_window(d.window_ids[i]);
-    for (i = 0; i < icon_count; i++)
-        print_notification(icons[i]);
+        if (!names(&d, i, d.window_ids[i]))
+            print_window(d.window_ids[i]);
+    for (k = 0; k < known_count; k++)
+        if (!known[k].is_icon && !names(&d, d.num_window_ids, known[k].window_id) && is_listed(known[k]))
+            print_window(known[k].window_id);
+    for (k = 0; k < known_count; k++)
+        if (known[k].is_icon)
+            print_notification(known[k]);
 }
 
 /* ---- Updates */
 
-/* The bytes of the order at `p`, by its OrderSize; where this cannot be, all the rest, which will be refused. */
-static size_t order_size(const uint8_t *p, size_t left) {
-    const size_t size = left < 3 ? 0 : rail_get16(p + 1);
-    return size < 7 || size > left ? left : size;
+/* Nothing before a mark can be taken back, and all room for history is free. */
+static uint32_t mark(void) {
+    const uint32_t answer = rail_state_checkpoint(&state);
+    if (rail_number(answer) == RAIL_DONE)
+        forget_at_mark();
+    return answer;
 }
 
-static int icon_listed(struct icon_ids ids) {
-    static uint8_t record[RAIL_NOTIFICATION_SIZE];
-    return rail_number(rail_state_notification(&state, ids.window_id, ids.notify_icon_id, record)) == RAIL_DONE;
-}
-
-/* Forgets the ids of icons that are gone, so that as many are kept as the table can hold. */
-static void forget_icon_ids(void) {
-    size_t i, left = 0;
-    for (i = 0; i < icon_count; i++)
-        if (icon_listed(icons[i]))
-            icons[left++] = icons[i];
-    icon_count = left;
-}
-
-/* Keeps the ids of a notification icon that a granted order has made. */
-static void keep_icon_ids(const uint8_t *order) {
-    const uint32_t wanted = WINDOW_ORDER_TYPE_NOTIFY | WINDOW_ORDER_STATE_NEW;
-    struct icon_ids ids;
-    size_t i;
-    if ((rail_get32(order + 3) & wanted) != wanted)
-        return;
-    ids.window_id = rail_get32(order + 7);
-    ids.notify_icon_id = rail_get32(order + 11);
-    for (i = 0; i < icon_count; i++)
-        if (icons[i].window_id == ids.window_id && icons[i].notify_icon_id == ids.notify_icon_id)
-            return;
-    if (icon_count == RAIL_NOTIFICATIONS_MAX)
-        forget_icon_ids(); /* the new one is listed and not kept, so at least one of those kept is gone */
-    icons[icon_count++] = ids;
+static uint32_t step_back(uint64_t steps) {
+    const uint32_t answer = rail_state_undo(&state, steps);
+    if (rail_number(answer) == RAIL_DONE)
+        forget_undone(rail_count(answer));
+    return answer;
 }
 
 /* Delivers one order. A full history is no fault of the order: the mark moves on, and the order is delivered again. */
@@ -171,49 +207,74 @@ static uint32_t deliver(const uint8_t *order, size_t size) {
     uint32_t answer = rail_state_deliver(&state, order, size);
     if (rail_number(answer) == RAIL_HISTORY_FULL) {
         printf("  history full: mark\n");
-        answer = rail_state_checkpoint(&state);
+        answer = mark();
         if (rail_number(answer) == RAIL_DONE)
             answer = rail_state_deliver(&state, order, size);
     }
     if (rail_number(answer) == RAIL_DONE)
-        keep_icon_ids(order); /* a granted order has its whole header */
+        learn(rail_change_of(order, size), rail_count(answer));
     return answer;
 }
 
-/* Takes the orders since the mark back. Those before it stay, where a full history moved it. */
-static void take_back(void) {
-    const uint32_t standing = rail_count(rail_state_history(&state));
-    if (rail_number(rail_state_undo(&state, standing)) == RAIL_DONE)
-        printf("  %u orders of this update taken back\n", standing);
+/* The server tells all its windows again, as new. Those still listed have to go first, or they would meet 9: the order, which was
+ * granted, is taken back, all are emptied by a desktop order of our own, and it is delivered again. */
+static uint32_t begin_sync(const uint8_t *order, size_t size) {
+    static const uint8_t none[] = RAIL_ORDER_DESKTOP_NONE, hooked[] = RAIL_ORDER_DESKTOP_HOOKED;
+    static uint8_t record[RAIL_DESKTOP_SIZE];
+    uint32_t answer = step_back(1);
+    if (rail_number(answer) == RAIL_DONE)
+        answer = rail_state_desktop(&state, record);
+    if (rail_number(answer) == RAIL_DONE)
+        answer = deliver(none, sizeof none);
+    if (rail_number(answer) == RAIL_DONE && record[RAIL_DESKTOP_AT_HOOKED] != 0)
+        answer = deliver(hooked, sizeof hooked);
+    return rail_number(answer) == RAIL_DONE ? deliver(order, size) : answer;
 }
 
-/* The state memory describes no state: something else wrote into it. Start afresh; the server has to be asked for all windows. */
+/* Takes one order. */
+static uint32_t take(const uint8_t *order, size_t size) {
+    const uint32_t answer = deliver(order, size);
+    if (rail_number(answer) != RAIL_DONE || !rail_begins_sync(order, size) || known_count == 0)
+        return answer;
+    puts("  the server tells all windows again: emptied");
+    return begin_sync(order, size);
+}
+
+/* First of all, for each new connection, and where the state memory describes no state since something else wrote into it. The server
+ * then tells all its windows. */
 static void start_afresh(void) {
     rail_state_reset(&state);
-    icon_count = 0;
-    puts("  state memory damaged: emptied");
+    known_count = 0;
 }
 
-/* Takes an update whole or, where one of its orders is refused, not at all: the mark stands where it begins. */
+/* Takes the orders of an update one by one. One that is refused is one order lost: those granted stand, and the next is judged by
+ * itself. The mark stays where it is, so that they can be stepped back, until the history is full. */
 static void take_update(const uint8_t *update, size_t size) {
-    uint32_t answer = rail_state_checkpoint(&state);
-    size_t at = 0, orders = 0;
-    while (rail_number(answer) == RAIL_DONE && at < size) {
-        const size_t length = order_size(update + at, size - at);
-        answer = deliver(update + at, length);
-        if (rail_number(answer) == RAIL_DONE) {
-            at += length;
-            orders++;
+    size_t at, length, taken = 0;
+    for (at = 0; at < size; at += length) {
+        length = rail_order_size(update + at, size - at);
+        const uint32_t number = rail_number(take(update + at, length));
+        if (number == RAIL_BAD_STATE) {
+            puts("  state memory damaged: emptied");
+            start_afresh();
+            break;
         }
+        if (number == RAIL_DONE)
+            taken++;
+        else
+            printf("  order at byte %zu refused, %u: %s\n", at, number, rail_number_words(number));
     }
-    if (rail_number(answer) == RAIL_BAD_STATE) {
-        start_afresh();
-    } else if (rail_number(answer) != RAIL_DONE) {
-        printf("  order at byte %zu refused, %u: %s\n", at, rail_number(answer), rail_number_words(rail_number(answer)));
-        take_back();
-    } else {
-        printf("  %zu orders, %u bytes stand after the mark\n", orders, rail_bytes(answer));
-    }
+    const uint32_t history = rail_state_history(&state);
+    printf("  %zu orders taken; %u with %u bytes stand after the mark\n", taken, rail_count(history), rail_bytes(history));
+    print_desktop();
+}
+
+static void take_steps(uint64_t steps) {
+    const uint32_t answer = step_back(steps), number = rail_number(answer);
+    if (number == RAIL_DONE)
+        printf("  %u orders stand after the mark\n", rail_count(answer));
+    else
+        printf("  refused, %u: %s\n", number, rail_number_words(number));
     print_desktop();
 }
 
@@ -288,7 +349,7 @@ static void take_message(const uint8_t *message, size_t size) {
 
 #define ITEM_MAX 65536
 
-/* Reads the next item of the text. Its letter, 0 at the end, or ? where the text is none of a session. */
+/* Reads the next item of the text. Its letter, 0 at the end, or ? where there are no bytes of two digits each, or too many. */
 static int next_item(FILE *text, uint8_t item[ITEM_MAX], size_t *size) {
     char line[1024];
     int letter = 0;
@@ -310,26 +371,57 @@ static int next_item(FILE *text, uint8_t item[ITEM_MAX], size_t *size) {
     return letter;
 }
 
+/* Does what an item asks for; 0 where it is no item of a session. */
+static int take_item(int letter, const uint8_t *item, size_t size) {
+    if (letter == 'U') {
+        take_update(item, size);
+    } else if (letter == 'R') {
+        take_message(item, size);
+    } else if (letter == 'B' && size == 4) {
+        take_steps(rail_get32(item));
+    } else if (letter == 'M' && size == 0) {
+        mark();
+    } else if (letter == 'E' && size == 0) {
+        start_afresh();
+    } else {
+        return 0;
+    }
+    return 1;
+}
+
+static const char *item_name(int letter) {
+    switch (letter) {
+    case 'U': return "update";
+    case 'R': return "message";
+    case 'B': return "steps back";
+    case 'M': return "mark";
+    case 'E': return "new connection";
+    default: return "no item";
+    }
+}
+
 int main(int argc, char **argv) {
     static uint8_t item[ITEM_MAX];
     size_t size, number = 0;
     int letter;
-    FILE *text = argc == 2 ? fopen(argv[1], "r") : NULL;
-    if (text == NULL) {
+    FILE *text;
+    if (argc != 2) {
         fprintf(stderr, "usage: terminal SESSION\n");
         return 2;
     }
-    if (rail_number(rail_state_reset(&state)) != RAIL_DONE)
-        return 1;
-    while ((letter = next_item(text, item, &size)) == 'U' || letter == 'M') {
-        printf("%zu: %s, %zu bytes\n", ++number, letter == 'U' ? "update" : "message", size);
-        if (letter == 'U')
-            take_update(item, size);
-        else
-            take_message(item, size);
+    text = fopen(argv[1], "r");
+    if (text == NULL) {
+        perror(argv[1]);
+        return 2;
+    }
+    start_afresh();
+    while ((letter = next_item(text, item, &size)) != 0) {
+        printf("%zu: %s, %zu bytes\n", ++number, item_name(letter), size);
+        if (!take_item(letter, item, size)) {
+            fprintf(stderr, "terminal: item %zu is none of a session: U or R with bytes, B with 4, M or E with none\n", number);
+            return 1;
+        }
     }
     fclose(text);
-    if (letter != 0)
-        fprintf(stderr, "terminal: item %zu is neither an update nor a message\n", number + 1);
-    return letter == 0 ? 0 : 1;
+    return 0;
 }

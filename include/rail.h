@@ -1,4 +1,5 @@
-/* The terminal's end of RDP Remote Programs (RAIL): the library librail.a for C11 and C++17.
+/* The terminal's end of RDP Remote Programs (RAIL): the library librail.a for C11 and C++17, on x86-64 Linux.
+ * docs/GUIDE.md leads through it; `make install` puts the documents named here into share/doc/rail.
  *
  * The library keeps the table that a server's windowing orders describe (32 windows, 16 notification icons, an icon cache of
  * 2 x 6 cells and the desktop state) with a history that can be stepped back, and reads and writes the control messages of
@@ -11,9 +12,11 @@
  *   Threads    The library has no state of its own and allocates nothing. Calls on different memory may run in parallel, and so
  *              may lookups on the same memory. A call that writes has its memory for itself: serialize those.
  *   Stack      A call takes less than 16 KB of stack.
- *   State      Its bytes may be stored and copied, but only rail_ calls should write them. Whatever they hold, every call
- *              ends with a number of its list: memory that describes no state meets RAIL_BAD_STATE, and rail_reset mends it.
- *              Damage that happens to describe another state is not seen.
+ *   State      Its bytes may be stored and copied, but only rail_ calls should write them. Zeros are a state, the emptied one.
+ *              Whatever the bytes are, every call ends with a number of its list: memory that describes no state meets
+ *              RAIL_BAD_STATE, and rail_reset mends it. Damage that happens to describe another state is not seen.
+ *   Secrets    No call erases: after rail_reset, rail_undo and a delete the bytes of titles and icons still stand in the
+ *              parts. rail_wipe erases.
  *
  * What is proved of each call (docs/STATEMENTS.md) speaks of the library's source. These are not proved: this header with its
  * macros and inline functions (tests/c tries them), the compiler's back end, the linker, and that the rules above are kept.
@@ -23,6 +26,8 @@
 
 #include <stddef.h>
 #include <stdint.h>
+
+#include "rail/version.h"
 
 /* ---- Measures, in bytes. A longer part is fine; what lies past the measure is never changed. rail_size tells them too. */
 
@@ -124,8 +129,8 @@ extern "C" {
 /* The measure `what` (enum rail_measure) in bytes, and 0 for any other number. */
 uint32_t rail_size(uint32_t what);
 
-/* Empties: no window, no icon, no filled cell, not hooked, not syncing, nothing after the mark. Takes memory with any contents.
- * Refuses with 1, and only where a part is too short. */
+/* Empties: no window, no icon, no filled cell, not hooked, not syncing, nothing after the mark. Takes memory with any contents, and
+ * erases none of it (rail_wipe does). Refuses with 1, and only where a part is too short. */
 uint32_t rail_reset(uint8_t *directory, size_t directory_size, uint8_t *bodies, size_t bodies_size,
                     const uint8_t *cells, size_t cells_size, uint8_t *journal, size_t journal_size);
 
@@ -203,9 +208,11 @@ uint32_t rail_pdu_write(const uint32_t words[12], const uint8_t *strings, size_t
 
 #include "rail/messages.h"
 #include "rail/records.h"
+#include "rail/orders.h"
 #include "rail/state.h"
 
-/* The names of MS-RDPERP. Define this before the include where another header has them too. */
+/* The names of MS-RDPERP, also beside FreeRDP's headers: rail/protocol.h tells how. Where another header has them otherwise, define
+ * this before the include to do without. */
 #ifndef RAIL_NO_PROTOCOL_NAMES
 #include "rail/protocol.h"
 #endif

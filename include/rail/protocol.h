@@ -1,7 +1,21 @@
 /* Names and values of MS-RDPERP (v20130722), and of its later edition for Client Execute. Included by rail.h unless
- * RAIL_NO_PROTOCOL_NAMES is defined. */
+ * RAIL_NO_PROTOCOL_NAMES is defined.
+ *
+ * Beside FreeRDP's headers, before them or after: what both have as macros is spelled alike to the letter. TS_RAIL_ORDER_... and
+ * TS_RAIL_CLIENTSTATUS_... are enumerators there, so they are left to <freerdp/rail.h>, with the same values, where that header was
+ * included or can be. Define RAIL_PROTOCOL_NAMES before the include to have them from here all the same. */
 #ifndef RAIL_PROTOCOL_H
 #define RAIL_PROTOCOL_H
+
+#ifndef RAIL_PROTOCOL_NAMES
+#ifdef FREERDP_RAIL_GLOBAL_H /* the guard of <freerdp/rail.h> */
+#define RAIL_LEFT_TO_FREERDP
+#elif defined(__has_include)
+#if __has_include(<freerdp/rail.h>)
+#define RAIL_LEFT_TO_FREERDP
+#endif
+#endif
+#endif
 
 /* Capability sets (2.2.1.1) */
 #define CAPSETTYPE_RAIL 0x0017
@@ -25,20 +39,29 @@
 #define WINDOW_ORDER_CACHEDICON 0x80000000
 #define WINDOW_ORDER_CACHED_ICON 0x80000000 /* the document has both spellings */
 
-/* FieldsPresentFlags of a window (2.2.1.3.1.2), in carried order */
+/* FieldsPresentFlags of a window (2.2.1.3.1.2), in carried order; some also in FreeRDP's spelling */
 #define WINDOW_ORDER_FIELD_OWNER 0x00000002
 #define WINDOW_ORDER_FIELD_STYLE 0x00000008
 #define WINDOW_ORDER_FIELD_SHOW 0x00000010
 #define WINDOW_ORDER_FIELD_TITLE 0x00000004
 #define WINDOW_ORDER_FIELD_CLIENTAREAOFFSET 0x00004000
+#define WINDOW_ORDER_FIELD_CLIENT_AREA_OFFSET 0x00004000 /* FreeRDP */
 #define WINDOW_ORDER_FIELD_CLIENTAREASIZE 0x00010000
+#define WINDOW_ORDER_FIELD_CLIENT_AREA_SIZE 0x00010000 /* FreeRDP */
 #define WINDOW_ORDER_FIELD_RPCONTENT 0x00020000
+#define WINDOW_ORDER_FIELD_RP_CONTENT 0x00020000 /* FreeRDP */
 #define WINDOW_ORDER_FIELD_ROOTPARENT 0x00040000
+#define WINDOW_ORDER_FIELD_ROOT_PARENT 0x00040000 /* FreeRDP */
 #define WINDOW_ORDER_FIELD_WNDOFFSET 0x00000800
+#define WINDOW_ORDER_FIELD_WND_OFFSET 0x00000800 /* FreeRDP */
 #define WINDOW_ORDER_FIELD_WNDCLIENTDELTA 0x00008000
+#define WINDOW_ORDER_FIELD_WND_CLIENT_DELTA 0x00008000 /* FreeRDP */
 #define WINDOW_ORDER_FIELD_WNDSIZE 0x00000400
+#define WINDOW_ORDER_FIELD_WND_SIZE 0x00000400 /* FreeRDP */
 #define WINDOW_ORDER_FIELD_WNDRECTS 0x00000100
+#define WINDOW_ORDER_FIELD_WND_RECTS 0x00000100 /* FreeRDP */
 #define WINDOW_ORDER_FIELD_VISOFFSET 0x00001000
+#define WINDOW_ORDER_FIELD_VIS_OFFSET 0x00001000 /* FreeRDP */
 #define WINDOW_ORDER_FIELD_VISIBILITY 0x00000200
 #define WINDOW_ORDER_FIELD_ICON_BIG 0x00002000 /* beside an icon or cached icon: the big one */
 
@@ -69,7 +92,9 @@
 #define WINDOW_ORDER_FIELD_DESKTOP_ARC_BEGAN 0x00000008
 #define WINDOW_ORDER_FIELD_DESKTOP_ZORDER 0x00000010
 #define WINDOW_ORDER_FIELD_DESKTOP_ACTIVEWND 0x00000020
+#define WINDOW_ORDER_FIELD_DESKTOP_ACTIVE_WND 0x00000020 /* FreeRDP */
 
+#ifndef RAIL_LEFT_TO_FREERDP
 /* orderType of a control message (2.2.2.1): the kinds that the library reads and writes */
 #define TS_RAIL_ORDER_EXEC 0x0001
 #define TS_RAIL_ORDER_ACTIVATE 0x0002
@@ -93,6 +118,7 @@
 /* Client Information (2.2.2.2.2) */
 #define TS_RAIL_CLIENTSTATUS_ALLOWLOCALMOVESIZE 0x00000001
 #define TS_RAIL_CLIENTSTATUS_AUTORECONNECT 0x00000002
+#endif
 
 /* Client Execute (2.2.2.3.1) */
 #define TS_RAIL_EXEC_FLAG_EXPAND_WORKINGDIRECTORY 0x0001
@@ -121,13 +147,13 @@
 #define SC_DEFAULT 0xF160
 
 /* Message of Notify Event (2.2.2.6.4) */
-#define WM_CONTEXTMENU 0x0000007B
-#define WM_LBUTTONDOWN 0x00000201
-#define WM_LBUTTONUP 0x00000202
-#define WM_LBUTTONDBLCLK 0x00000203
-#define WM_RBUTTONDOWN 0x00000204
-#define WM_RBUTTONUP 0x00000205
-#define WM_RBUTTONDBLCLK 0x00000206
+#define WM_CONTEXTMENU 0x007B
+#define WM_LBUTTONDOWN 0x0201
+#define WM_LBUTTONUP 0x0202
+#define WM_LBUTTONDBLCLK 0x0203
+#define WM_RBUTTONDOWN 0x0204
+#define WM_RBUTTONUP 0x0205
+#define WM_RBUTTONDBLCLK 0x0206
 #define NIN_SELECT 0x00000400
 #define NIN_KEYSELECT 0x00000401
 #define NIN_BALLOONSHOW 0x00000402

@@ -1,5 +1,6 @@
 /* State memory of exactly the measure, and the state calls on it. 128,978 bytes: better static or from the heap than on a stack.
- * Empty it with rail_state_reset before any other call. Included by rail.h. */
+ * Zeroed memory (static, or from calloc) is an emptied state; memory with other contents needs rail_state_reset first.
+ * Included by rail.h. */
 #ifndef RAIL_STATE_H
 #define RAIL_STATE_H
 
@@ -19,6 +20,21 @@ struct rail_state {
 
 static inline uint32_t rail_state_reset(struct rail_state *s) {
     return rail_reset(RAIL_STATE_PARTS(s));
+}
+
+/* Makes every byte zero, also where the compiler sees that none is read again. A state part of zeros is that of an emptied state. */
+static inline void rail_wipe(uint8_t *part, size_t size) {
+    volatile uint8_t *p = part;
+    while (size-- != 0)
+        *p++ = 0;
+}
+
+/* Empties the state and erases what it held: nothing of the session before can be read from it. */
+static inline void rail_state_wipe(struct rail_state *s) {
+    rail_wipe(s->directory, sizeof s->directory);
+    rail_wipe(s->bodies, sizeof s->bodies);
+    rail_wipe(s->cells, sizeof s->cells);
+    rail_wipe(s->journal, sizeof s->journal);
 }
 
 /* `order` may be NULL where `order_size` is 0. */

@@ -5,8 +5,8 @@
 //! [`table`] is what they change, and [`book`] keeps a list of them with a mark.
 //! The other modules drive these: [`script`] runs call scripts, [`generate`] makes
 //! them, [`coverage`] tells what they reach, [`compare`] runs another program on
-//! them, [`fault`] has it meet faults in its memory, and [`hex`] turns hand-written
-//! text into them.
+//! them, [`fault`] has it meet faults in its memory, [`hex`] turns hand-written text
+//! into them, and [`support`] makes them of a raw update and tells answers in words.
 
 #![forbid(unsafe_code)]
 #![warn(missing_docs)]
@@ -23,4 +23,5 @@ pub mod order;
 pub mod pdu;
 mod program;
 pub mod script;
+pub mod support;
 pub mod table;

@@ -12,7 +12,7 @@ use second::fault::fault_run;
 use second::script::parts::Parts;
 use second::script::session::End;
 use second::table::Table;
-use second::{generate, hex, script};
+use second::{generate, hex, script, support};
 
 const HELP: &str = "\
 The independent second program for RDP Remote Programs (RAIL).
@@ -51,8 +51,19 @@ usage:
   second hex-session < text > script
       Makes a script of lines that have the letter of a kind and hex, such as
       `R hex`. Spaces in the hex, empty lines and comments from # on are passed over.
+  second update-to-script [--hex] < update > script
+      Makes a script of a raw update (orders back to back, as a server sends them;
+      with --hex a text of hex with comments): each order is delivered, and after each
+      that changes the table all windows, notification icons and the desktop state are
+      looked up.
+  second explain SCRIPT < output
+      Tells what a session script asked and what was answered, in words: refusals by
+      document 01's conditions, orders by their fields, titles as text. `output` is
+      what rail_session or `second session` printed for it.
   second --help
 
+A script that ends a run with `bad item` is told on standard error: which item, at
+which byte, and why.
 --parts gives the lengths of the parts of state memory that PROGRAM lends, by
 default 444,44884,50880,32770. It only tells which items T and X name a part.
 ";
@@ -111,6 +122,9 @@ fn dispatch(arguments: &[&str]) -> Result<ExitCode, String> {
         }
         ["hex-pdu"] => print_script(script::pdu::KINDS),
         ["hex-session"] => print_script(script::session::KINDS),
+        ["update-to-script"] => print(&support::import::script(&input()?)),
+        ["update-to-script", "--hex"] => print(&support::import::script(&hex_input()?)),
+        ["explain", script] => explain(script),
         ["--help"] | ["-h"] => print(HELP.as_bytes()),
         _ => Err("unknown arguments, see --help".into()),
     }
@@ -135,13 +149,44 @@ fn parts(options: &[&str]) -> Result<Parts, String> {
 fn run_pdu() -> Result<ExitCode, String> {
     let script = input()?;
     to_output(|out| script::pdu::run(&script, out))?;
+    tell_unfit("pdu", support::unfit_pdu(&script));
     Ok(ExitCode::SUCCESS)
+}
+
+/// Says on standard error why an input is no script.
+fn tell_unfit(kind: &str, fault: Option<String>) {
+    if let Some(fault) = fault {
+        eprintln!("second: {fault}");
+        eprintln!("usage: second {kind} < script (second --help)");
+    }
+}
+
+/// The bytes of a text of hex with comments from # on.
+fn hex_input() -> Result<Vec<u8>, String> {
+    let text = String::from_utf8(input()?).map_err(|_| "input: not a text")?;
+    let mut bytes = Vec::new();
+    for (index, line) in text.lines().enumerate() {
+        let digits = line.split('#').next().unwrap_or_default();
+        let line = hex::bytes(digits.as_bytes());
+        bytes.extend(line.map_err(|fault| format!("input: line {}: {fault}", index + 1))?);
+    }
+    Ok(bytes)
+}
+
+fn explain(script: &str) -> Result<ExitCode, String> {
+    let bytes = std::fs::read(script).map_err(|fault| format!("{script}: {fault}"))?;
+    let output = String::from_utf8(input()?).map_err(|_| "input: not a text")?;
+    let text = support::explain::explain(&bytes, &output)?;
+    print(text.as_bytes())
 }
 
 fn run_session(parts: &Parts) -> Result<ExitCode, String> {
     let script = input()?;
     match to_output(|out| script::session::run(&script, parts, out))? {
-        End::Done => Ok(ExitCode::SUCCESS),
+        End::Done => {
+            tell_unfit("session", support::unfit_session(&script, parts));
+            Ok(ExitCode::SUCCESS)
+        }
         End::Fault => {
             eprintln!("fault");
             Ok(ExitCode::from(3))

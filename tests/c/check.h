@@ -57,6 +57,8 @@ void test_notification(void);
 void test_desktop(void);
 void test_pictures(void);
 void test_lookups(void);
+void test_orders(void);
+void test_memory(void);
 void test_state_refusals(void);
 void test_order_refusals(void);
 void test_table_refusals(void);

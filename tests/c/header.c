@@ -173,6 +173,8 @@ int main(void) {
     test_desktop();
     test_pictures();
     test_lookups();
+    test_orders();
+    test_memory();
     test_state_refusals();
     test_order_refusals();
     test_table_refusals();

@@ -1,11 +1,20 @@
 //! What a call answers: refusals by document 01's numbers, and how much stands.
 
-use std::error::Error;
-use std::fmt;
+use core::error::Error;
+use core::fmt;
 
 /// Why a call was refused. A refused call changes nothing.
+///
+/// Printed, it is its number and document 01's words for it, as the C header has them:
+///
+/// ```
+/// let refusal = rail::Refusal::TableFull;
+/// assert_eq!(refusal.words(), "a new record is asked for and its table is full");
+/// assert_eq!(refusal.to_string(), format!("10: {}", refusal.words()));
+/// ```
 #[derive(Clone, Copy, Debug, PartialEq, Eq, Hash, PartialOrd, Ord)]
 #[repr(u8)]
+#[non_exhaustive]
 pub enum Refusal {
     /// 1: the lent state memory is shorter than needed, or not well formed.
     UnfitMemory = 1,
@@ -39,7 +48,7 @@ pub enum Refusal {
 
 impl Refusal {
     /// All refusals, by their numbers.
-    pub const ALL: [Refusal; 14] = [
+    pub const ALL: &'static [Refusal] = &[
         Refusal::UnfitMemory,
         Refusal::TooShort,
         Refusal::LengthDiffers,
@@ -61,33 +70,53 @@ impl Refusal {
         self as u8
     }
 
-    fn text(self) -> &'static str {
+    /// Its condition, in document 01's words.
+    pub fn words(self) -> &'static str {
         match self {
-            Refusal::UnfitMemory => "the state memory is too short or not well formed",
-            Refusal::TooShort => "fewer bytes than a header has",
-            Refusal::LengthDiffers => "the declared length differs from the bytes given",
-            Refusal::UnknownType => "the type is not a known one",
-            Refusal::UnknownFlag => "a flag bit is outside the closed list",
-            Refusal::FlagsClash => "the flags clash",
-            Refusal::NotFilled => "the fields do not fill the declared length exactly",
-            Refusal::OutsideSet => "the number of a field is outside its allowed set",
-            Refusal::WrongId => "the id must be in the table and is not, or must not be and is",
-            Refusal::TableFull => "the table is full",
-            Refusal::NoCell => "the icon has no cell of the cache",
-            Refusal::HistoryFull => "the room for orders after the checkpoint would be passed",
-            Refusal::TooManySteps => "more steps back than orders stand after the checkpoint",
-            Refusal::OutputTooSmall => "the output memory is too small",
+            Refusal::UnfitMemory => "lent state memory is shorter than needed, or not well formed",
+            Refusal::TooShort => "fewer than 4 bytes (PDU) or 7 bytes (order)",
+            Refusal::LengthDiffers => "declared length differs from the bytes given",
+            Refusal::UnknownType => {
+                "unknown PDU type; or first order byte isn't 2E; \
+                 or not the case that exactly one of the three type bits is set"
+            }
+            Refusal::UnknownFlag => "order has a flag bit outside its kind's closed list",
+            Refusal::FlagsClash => "order flags clash",
+            Refusal::NotFilled => "the fields don't fill the declared length exactly",
+            Refusal::OutsideSet => "a field's number is outside its allowed set",
+            Refusal::WrongId => "the id must be in the table and isn't, or must not be and is",
+            Refusal::TableFull => "a new record is asked for and its table is full",
+            Refusal::NoCell => "icon with cache id FF, or cached icon naming an empty cell",
+            Refusal::HistoryFull => "history room would be passed",
+            Refusal::TooManySteps => "more steps back than stand after the mark",
+            Refusal::OutputTooSmall => "output memory too small",
         }
     }
 }
 
 impl fmt::Display for Refusal {
     fn fmt(&self, f: &mut fmt::Formatter<'_>) -> fmt::Result {
-        write!(f, "refused with {}: {}", self.number(), self.text())
+        write!(f, "{}: {}", self.number(), self.words())
     }
 }
 
 impl Error for Refusal {}
+
+/// Bytes that are refused are invalid data.
+#[cfg(feature = "std")]
+impl From<Refusal> for std::io::Error {
+    fn from(refusal: Refusal) -> Self {
+        use std::io::ErrorKind;
+        let kind = match refusal {
+            Refusal::UnfitMemory
+            | Refusal::HistoryFull
+            | Refusal::TooManySteps
+            | Refusal::OutputTooSmall => ErrorKind::InvalidInput,
+            _ => ErrorKind::InvalidData,
+        };
+        Self::new(kind, refusal)
+    }
+}
 
 /// A number that no refusal has.
 #[derive(Clone, Copy, Debug, PartialEq, Eq)]
@@ -108,8 +137,8 @@ impl TryFrom<u8> for Refusal {
     type Error = UnknownNumber;
 
     fn try_from(number: u8) -> Result<Self, UnknownNumber> {
-        let known = Self::ALL.into_iter().find(|known| known.number() == number);
-        known.ok_or(UnknownNumber(number))
+        let known = Self::ALL.iter().find(|known| known.number() == number);
+        known.copied().ok_or(UnknownNumber(number))
     }
 }
 
@@ -181,9 +210,9 @@ mod tests {
 
     #[test]
     fn numbers_of_refusals() {
-        let numbers: Vec<u8> = Refusal::ALL.map(Refusal::number).into();
-        assert_eq!(numbers, (1..=14).collect::<Vec<u8>>());
-        for refusal in Refusal::ALL {
+        let numbers = Refusal::ALL.iter().map(|refusal| refusal.number());
+        assert!(numbers.eq(1..=14));
+        for &refusal in Refusal::ALL {
             assert_eq!(Refusal::try_from(refusal.number()), Ok(refusal));
             assert_eq!(u8::from(refusal), refusal.number());
         }
@@ -192,23 +221,42 @@ mod tests {
         }
     }
 
+    /// The words are those of the C header, and so of document 01.
     #[test]
-    fn texts_of_refusals() {
-        let texts = Refusal::ALL.map(|refusal| refusal.to_string());
-        for (text, refusal) in texts.iter().zip(Refusal::ALL) {
-            assert!(text.starts_with(&format!("refused with {}: ", refusal.number())));
+    fn words_of_refusals() {
+        let header = include_str!("../../../include/rail.h");
+        let words = header
+            .split("static const char *const words[] = {")
+            .nth(1)
+            .and_then(|rest| rest.split("};").next())
+            .expect("the header has the words");
+        let mut words = words
+            .lines()
+            .filter_map(|line| line.trim().strip_suffix("\",")?.strip_prefix('"'));
+        assert_eq!(words.next(), Some("done"));
+        assert!(words.eq(Refusal::ALL.iter().map(|refusal| refusal.words())));
+    }
+
+    #[test]
+    fn refusals_print_their_number_and_words_once() {
+        for refusal in Refusal::ALL {
+            let text = format!("{}: {}", refusal.number(), refusal.words());
+            assert_eq!(refusal.to_string(), text);
         }
-        for (at, refusal) in Refusal::ALL.iter().enumerate() {
-            assert!(Refusal::ALL[..at]
-                .iter()
-                .all(|r| r.text() != refusal.text()));
-        }
-        let error: Box<dyn Error + Send + Sync> = Refusal::TableFull.into();
-        assert_eq!(error.to_string(), "refused with 10: the table is full");
+        let error: Box<dyn Error + Send + Sync> = Refusal::FlagsClash.into();
+        assert_eq!(error.to_string(), "6: order flags clash");
         assert_eq!(
             UnknownNumber(15).to_string(),
             "no refusal has the number 15"
         );
+    }
+
+    #[cfg(feature = "std")]
+    #[test]
+    fn refusals_as_errors_of_reading() {
+        let error = std::io::Error::from(Refusal::OutsideSet);
+        assert_eq!(error.kind(), std::io::ErrorKind::InvalidData);
+        assert_eq!(error.to_string(), Refusal::OutsideSet.to_string());
     }
 
     #[test]

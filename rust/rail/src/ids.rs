@@ -1,6 +1,6 @@
 //! Window ids and notify-icon ids: two separate counts, so two types.
 
-use std::fmt;
+use core::fmt;
 
 /// A window's id, given by the server.
 #[derive(Clone, Copy, Debug, Default, PartialEq, Eq, Hash, PartialOrd, Ord)]

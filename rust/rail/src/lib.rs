@@ -33,14 +33,24 @@
 //! The library has no state of its own and keeps nothing that it is lent, so calls
 //! on different sessions can run at once, and so can lookups on the same one.
 
+//!
+//! Without the feature `std`, which is on by default, the crate needs `alloc` alone.
+
+#![cfg_attr(not(any(feature = "std", test)), no_std)]
 #![deny(missing_docs)]
 #![deny(unsafe_code)]
+
+#[macro_use]
+extern crate alloc;
 
 mod answer;
 mod ffi;
 mod ids;
 mod memory;
 mod message;
+mod names;
+mod order;
+pub mod protocol;
 mod record;
 mod session;
 mod text;
@@ -51,8 +61,14 @@ pub use memory::{
     LentSession, Memory, View, BODIES_SIZE, CELLS_SIZE, DIRECTORY_SIZE, JOURNAL_SIZE,
 };
 pub use message::{Message, MESSAGE_LIMIT};
+pub use order::{orders, Change, Changed, Orders};
 pub use record::{
     CacheCell, Desktop, NotificationIcon, Picture, Point, Rectangle, ShowState, Size, Window,
 };
 pub use session::{NotificationIcons, Session, Windows};
 pub use text::{text_lossy, utf16_bytes};
+
+/// The Rust of the guide compiles.
+#[cfg(doctest)]
+#[doc = include_str!("../../../docs/GUIDE.md")]
+struct Guide;

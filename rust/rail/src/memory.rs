@@ -1,6 +1,8 @@
 //! State memory: four parts of bytes that are lent to each call.
 
-use std::fmt;
+use alloc::boxed::Box;
+use alloc::vec;
+use core::fmt;
 
 use crate::answer::{state_answer, Found, Refusal, Standing};
 use crate::ffi;
@@ -33,7 +35,7 @@ pub struct Memory {
 }
 
 impl Memory {
-    /// Zeroed parts of the needed lengths. They are to be reset before other calls.
+    /// Zeroed parts of the needed lengths. Zeros are a state: the one that is emptied.
     pub fn new() -> Self {
         Self::with_sizes([DIRECTORY_SIZE, BODIES_SIZE, CELLS_SIZE, JOURNAL_SIZE])
     }
@@ -47,6 +49,21 @@ impl Memory {
             bodies,
             cells,
             journal,
+        }
+    }
+
+    /// Makes every byte zero, which is the emptied state, so that nothing of what was
+    /// there before can be read from it. [`LentSession::reset`] erases nothing.
+    pub fn wipe(&mut self) {
+        for part in [
+            &mut self.directory,
+            &mut self.bodies,
+            &mut self.cells,
+            &mut self.journal,
+        ] {
+            part.fill(0);
+            // What is overwritten and never read again may not be left out.
+            core::hint::black_box(&mut **part);
         }
     }
 
@@ -115,7 +132,8 @@ impl<'a> LentSession<'a> {
         }
     }
 
-    /// Empties the table and its history, whatever the memory held.
+    /// Empties the table and its history, whatever the memory held. It erases nothing:
+    /// see [`Memory::wipe`].
     ///
     /// # Errors
     /// [`Refusal::UnfitMemory`], only where a part is too short.
@@ -305,6 +323,24 @@ impl View<'_> {
 #[cfg(test)]
 mod tests {
     use super::*;
+
+    /// Memory that was never emptied, all zeros, is the emptied state to the byte.
+    #[test]
+    fn zeros_are_the_emptied_state() {
+        let zeros = Memory::new();
+        assert_eq!(zeros.view().desktop().unwrap().record, Desktop::default());
+        assert_eq!(zeros.view().window(WindowId(0)), Err(Refusal::WrongId));
+        let mut memory = zeros.clone();
+        assert_eq!(memory.lend().undo(0), Ok(Standing::default()));
+        let hooked = [0x2E, 7, 0, 2, 0, 0, 4];
+        assert_eq!(memory.lend().deliver(&hooked).map(|s| s.orders), Ok(1));
+        let mut memory = zeros.clone();
+        memory.lend().reset().unwrap();
+        assert!(memory == zeros);
+        memory.directory.fill(0xFF);
+        memory.wipe();
+        assert!(memory == zeros);
+    }
 
     #[test]
     fn memory_prints_its_lengths() {

@@ -1,11 +1,14 @@
 //! A session that owns its memory.
 
-use std::collections::{btree_set, BTreeSet};
-use std::vec;
+use alloc::collections::{btree_map, BTreeSet};
+use alloc::vec;
+use alloc::vec::Vec;
 
 use crate::answer::{Refusal, Standing};
 use crate::ids::{NotifyIconId, WindowId};
 use crate::memory::Memory;
+use crate::names::Names;
+use crate::order::{Change, Changed};
 use crate::record::{CacheCell, Desktop, NotificationIcon, Picture, Window};
 
 /// What the orders of a server make of the terminal's table: windows, notification
@@ -22,7 +25,8 @@ use crate::record::{CacheCell, Desktop, NotificationIcon, Picture, Window};
 /// session.deliver(&[0x2E, 11, 0, 0, 0, 0, 0x11, 1, 0, 0, 0])?;
 /// session.deliver(&[0x2E, 11, 0, 0, 0, 0, 0x11, 2, 0, 0, 0])?;
 /// session.deliver(&[0x2E, 16, 0, 0x10, 0, 0, 0x04, 2, 2, 0, 0, 0, 1, 0, 0, 0])?;
-/// assert_eq!(session.checkpoint()?.orders, 0);
+/// session.checkpoint();
+/// assert_eq!(session.standing().orders, 0);
 ///
 /// let ids = |windows: rail::Windows<'_>| windows.map(|(id, _)| id.0).collect::<Vec<_>>();
 /// assert_eq!(ids(session.windows()), [1, 2]);
@@ -38,68 +42,48 @@ pub struct Session {
     names: Names,
 }
 
-/// The ids that granted orders named as new. All that are listed are among them.
-#[derive(Clone, Debug, Default)]
-struct Names {
-    windows: BTreeSet<WindowId>,
-    icons: BTreeSet<(WindowId, NotifyIconId)>,
-}
+/// Orders of our own: desktop none, and desktop hooked.
+const DESKTOP_NONE: [u8; 7] = [0x2E, 7, 0, 1, 0, 0, 4];
+const DESKTOP_HOOKED: [u8; 7] = [0x2E, 7, 0, 2, 0, 0, 4];
 
-/// The most windows and the most notification icons.
-const WINDOWS: usize = 32;
-const NOTIFICATION_ICONS: usize = 16;
-
-/// Bits of an order's FieldsPresentFlags.
-const WINDOW_TYPE: u32 = 0x0100_0000;
-const NOTIFICATION_TYPE: u32 = 0x0200_0000;
-const NEW: u32 = 0x1000_0000;
-const ANY_ICON: u32 = 0xC000_0000;
-
-impl Names {
-    /// Learns what a granted order names as new. On a window's icon the new bit says
-    /// nothing.
-    fn learn(&mut self, order: &[u8]) {
-        let number = |at: usize| {
-            let bytes = order.get(at..)?.first_chunk()?;
-            Some(u32::from_le_bytes(*bytes))
-        };
-        let flags = number(3).unwrap_or(0);
-        if flags & NEW == 0 {
-            return;
-        }
-        let window = number(7).map(WindowId);
-        if flags & WINDOW_TYPE != 0 && flags & ANY_ICON == 0 {
-            self.windows.extend(window);
-        } else if flags & NOTIFICATION_TYPE != 0 {
-            self.icons.extend(window.zip(number(11).map(NotifyIconId)));
-        }
-    }
+/// What a call on a session's own memory gives, which is well formed.
+///
+/// # Panics
+/// If the library refuses that memory, which it is proved not to do.
+fn granted<T>(answer: Result<T, Refusal>) -> T {
+    answer.expect("a session's own memory is well formed")
 }
 
 impl Session {
     /// An empty table.
     pub fn new() -> Self {
         let mut memory = Memory::new();
-        let standing = memory.lend().reset();
+        let standing = granted(memory.lend().reset());
         Self {
             memory,
-            standing: standing.expect("memory of the needed lengths is emptied"),
+            standing,
             names: Names::default(),
         }
     }
 
-    /// Empties the table and its history, also the icon cache.
-    ///
-    /// # Errors
-    /// None: the memory is long enough.
-    pub fn reset(&mut self) -> Result<Standing, Refusal> {
-        self.standing = self.memory.lend().reset()?;
+    /// Empties the table and its history, also the icon cache. It erases nothing: the
+    /// bytes of titles and icons stay in the memory until others take their place. See
+    /// [`wipe`](Self::wipe).
+    pub fn reset(&mut self) {
+        self.standing = granted(self.memory.lend().reset());
         self.names = Names::default();
-        Ok(self.standing)
+    }
+
+    /// Empties the table as [`reset`](Self::reset) does, with every byte of the memory
+    /// zero, so that nothing of the session before stands in it.
+    pub fn wipe(&mut self) {
+        self.memory.wipe();
+        self.reset();
     }
 
     /// Delivers a windowing order (an alternate secondary order of class 2 and type
-    /// 0B, from its first byte, 2E, to its last).
+    /// 0B, from its first byte, 2E, to its last). [`take`](Self::take) does what a
+    /// terminal in daily use needs besides.
     ///
     /// # Errors
     /// [`Refusal::HistoryFull`] where the order is good and the room after the
@@ -108,32 +92,64 @@ impl Session {
     /// to 11 that applies.
     pub fn deliver(&mut self, order: &[u8]) -> Result<Standing, Refusal> {
         self.standing = self.memory.lend().deliver(order)?;
-        self.names.learn(order);
+        self.names.learn(order, self.standing);
         Ok(self.standing)
+    }
+
+    /// Delivers a windowing order as a terminal in daily use does, and tells what it
+    /// changed.
+    ///
+    /// Where the history is full, a [`checkpoint`](Self::checkpoint) comes first. Where
+    /// the order begins a synchronization and something may be listed, all windows and
+    /// notification icons go first (the server tells them as new again), by an order of
+    /// our own that also stands: the answer is then [`Change::AllGone`].
+    ///
+    /// # Errors
+    /// The first of the numbers 2 to 11 that applies.
+    ///
+    /// ```
+    /// use rail::{orders, Change, Session};
+    ///
+    /// # let update = [0x2E, 7, 0, 2, 0, 0, 4];
+    /// let mut session = Session::new();
+    /// for order in orders(&update) {
+    ///     match session.take(order) {
+    ///         Ok(changed) => println!("to be drawn again: {:?}", changed.what),
+    ///         Err(refusal) => eprintln!("refused, {refusal}"),
+    ///     }
+    /// }
+    /// ```
+    pub fn take(&mut self, order: &[u8]) -> Result<Changed, Refusal> {
+        self.deliver_with_room(order)?;
+        let mut changed = Changed::of(order).expect("a granted order has its header");
+        if changed.begins_sync() && !self.names.is_empty() {
+            self.undo(1)?;
+            let hooked = self.desktop().hooked;
+            self.deliver_with_room(&DESKTOP_NONE)?;
+            if hooked {
+                self.deliver_with_room(&DESKTOP_HOOKED)?;
+            }
+            self.deliver_with_room(order)?;
+            changed.what = Change::AllGone;
+        }
+        Ok(changed)
+    }
+
+    fn deliver_with_room(&mut self, order: &[u8]) -> Result<Standing, Refusal> {
+        match self.deliver(order) {
+            Err(Refusal::HistoryFull) => {
+                self.checkpoint();
+                self.deliver(order)
+            }
+            answer => answer,
+        }
     }
 
     /// Sets a checkpoint: nothing before it can be taken back, and the room for
     /// orders is free again.
-    ///
-    /// # Errors
-    /// None: the memory is well formed.
-    pub fn checkpoint(&mut self) -> Result<Standing, Refusal> {
-        self.standing = self.memory.lend().checkpoint()?;
-        self.forget();
-        Ok(self.standing)
-    }
-
-    /// Right after a checkpoint what is not listed cannot come back. Names are looked
-    /// through only where there are more than can be listed.
-    fn forget(&mut self) {
-        let view = self.memory.view();
-        if self.names.windows.len() > WINDOWS {
-            self.names.windows.retain(|&id| view.window(id).is_ok());
-        }
-        if self.names.icons.len() > NOTIFICATION_ICONS {
-            let listed = |&(window, icon): &_| view.notification_icon(window, icon).is_ok();
-            self.names.icons.retain(listed);
-        }
+    pub fn checkpoint(&mut self) {
+        self.standing = granted(self.memory.lend().checkpoint());
+        self.names.forget_at_checkpoint(self.memory.view());
     }
 
     /// Takes the last `steps` orders back.
@@ -142,6 +158,7 @@ impl Session {
     /// [`Refusal::TooManySteps`] where fewer stand after the checkpoint.
     pub fn undo(&mut self, steps: u64) -> Result<Standing, Refusal> {
         self.standing = self.memory.lend().undo(steps)?;
+        self.names.forget_undone(self.standing);
         Ok(self.standing)
     }
 
@@ -179,32 +196,30 @@ impl Session {
         self.memory.view().picture(cell).map(|found| found.record)
     }
 
-    /// Looks up the desktop state.
-    ///
-    /// # Errors
-    /// None: the memory is well formed.
-    pub fn desktop(&self) -> Result<Desktop, Refusal> {
-        self.memory.view().desktop().map(|found| found.record)
+    /// The desktop state.
+    pub fn desktop(&self) -> Desktop {
+        granted(self.memory.view().desktop()).record
     }
 
     /// All windows, by their ids.
     pub fn windows(&self) -> Windows<'_> {
-        let ids = self.names.windows.iter().copied();
+        let ids: Vec<WindowId> = self.names.windows.keys().copied().collect();
         Windows {
             session: self,
-            ids: Ids::Named(ids),
+            ids: ids.into_iter(),
         }
     }
 
-    /// The windows that the desktop's stacking list names, from the topmost down, each
-    /// once. A listed window that the list does not name is not among them.
+    /// All windows, each once: those that the desktop's stacking list names, from the
+    /// topmost down, and below them those that it does not name, by their ids.
     pub fn windows_in_z_order(&self) -> Windows<'_> {
-        let mut ids = self.desktop().map_or(Vec::new(), |desktop| desktop.z_order);
+        let mut ids = self.desktop().z_order;
+        ids.extend(self.names.windows.keys());
         let mut seen = BTreeSet::new();
         ids.retain(|&id| seen.insert(id));
         Windows {
             session: self,
-            ids: Ids::Stacked(ids.into_iter()),
+            ids: ids.into_iter(),
         }
     }
 
@@ -212,7 +227,7 @@ impl Session {
     pub fn notification_icons(&self) -> NotificationIcons<'_> {
         NotificationIcons {
             session: self,
-            ids: self.names.icons.iter(),
+            ids: self.names.icons.keys(),
         }
     }
 }
@@ -228,13 +243,7 @@ impl Default for Session {
 #[derive(Debug)]
 pub struct Windows<'a> {
     session: &'a Session,
-    ids: Ids<'a>,
-}
-
-#[derive(Debug)]
-enum Ids<'a> {
-    Named(std::iter::Copied<btree_set::Iter<'a, WindowId>>),
-    Stacked(vec::IntoIter<WindowId>),
+    ids: vec::IntoIter<WindowId>,
 }
 
 impl Iterator for Windows<'_> {
@@ -243,10 +252,7 @@ impl Iterator for Windows<'_> {
     fn next(&mut self) -> Option<Self::Item> {
         let session = self.session;
         let listed = |id| Some((id, session.window(id).ok()?));
-        match &mut self.ids {
-            Ids::Named(ids) => ids.find_map(listed),
-            Ids::Stacked(ids) => ids.find_map(listed),
-        }
+        self.ids.find_map(listed)
     }
 }
 
@@ -254,7 +260,7 @@ impl Iterator for Windows<'_> {
 #[derive(Debug)]
 pub struct NotificationIcons<'a> {
     session: &'a Session,
-    ids: btree_set::Iter<'a, (WindowId, NotifyIconId)>,
+    ids: btree_map::Keys<'a, (WindowId, NotifyIconId), usize>,
 }
 
 impl Iterator for NotificationIcons<'_> {
@@ -273,6 +279,11 @@ impl Iterator for NotificationIcons<'_> {
 #[cfg(test)]
 mod tests {
     use super::*;
+    use crate::protocol::{
+        WINDOW_ORDER_STATE_DELETED as DELETED, WINDOW_ORDER_STATE_NEW as NEW,
+        WINDOW_ORDER_TYPE_DESKTOP as DESKTOP_TYPE, WINDOW_ORDER_TYPE_NOTIFY as NOTIFICATION_TYPE,
+        WINDOW_ORDER_TYPE_WINDOW as WINDOW_TYPE,
+    };
 
     fn order(flags: u32, ids: &[u32]) -> Vec<u8> {
         let mut order = vec![0x2E, 7 + 4 * ids.len() as u8, 0];
@@ -286,7 +297,7 @@ mod tests {
     }
 
     fn delete_window(id: u32) -> Vec<u8> {
-        order(0x2000_0000 | WINDOW_TYPE, &[id])
+        order(DELETED | WINDOW_TYPE, &[id])
     }
 
     fn ids(session: &Session) -> Vec<u32> {
@@ -305,8 +316,8 @@ mod tests {
         assert_eq!(ids(&session), [1, 2]);
         session.undo(1).unwrap();
         assert_eq!(ids(&session), [2]);
-        session.reset().unwrap();
-        assert!(ids(&session).is_empty() && session.names.windows.is_empty());
+        session.reset();
+        assert!(ids(&session).is_empty() && session.names.is_empty());
         assert_eq!(session.standing(), Standing::default());
     }
 
@@ -320,11 +331,107 @@ mod tests {
                 session.deliver(&delete_window(id - 10)).unwrap();
             }
             if id % 50 == 49 {
-                session.checkpoint().unwrap();
+                session.checkpoint();
             }
         }
         assert_eq!(ids(&session), (990..1_000).collect::<Vec<u32>>());
         assert_eq!(session.names.windows.len(), 10);
+    }
+
+    /// Nor do names of windows whose orders were taken back, with no checkpoint at all.
+    #[test]
+    fn names_stay_few_with_undo() {
+        let mut session = Session::new();
+        for id in 0..1_000 {
+            session.deliver(&new_window(id)).unwrap();
+            session
+                .deliver(&order(NEW | NOTIFICATION_TYPE, &[id, 1]))
+                .unwrap();
+            session.undo(2).unwrap();
+        }
+        assert!(session.names.is_empty());
+    }
+
+    /// What is deleted after a checkpoint, also by desktop none, can be brought back;
+    /// what is new after it goes.
+    #[test]
+    fn names_after_undo() {
+        let mut session = Session::new();
+        for icon in 1..=16 {
+            let new = order(NEW | NOTIFICATION_TYPE, &[7, icon]);
+            session.deliver(&new).unwrap();
+        }
+        session.deliver(&new_window(7)).unwrap();
+        session.checkpoint();
+        let gone = order(DELETED | NOTIFICATION_TYPE, &[7, 1]);
+        session.deliver(&gone).unwrap();
+        session
+            .deliver(&order(NEW | NOTIFICATION_TYPE, &[7, 17]))
+            .unwrap();
+        session.deliver(&DESKTOP_NONE).unwrap();
+        session.deliver(&new_window(8)).unwrap();
+        session.undo(4).unwrap();
+        let icons: Vec<u32> = session
+            .notification_icons()
+            .map(|((_, i), _)| i.0)
+            .collect();
+        assert_eq!(icons, (1..=16).collect::<Vec<u32>>());
+        assert_eq!(ids(&session), [7]);
+    }
+
+    fn titled(id: u32, title: u8) -> Vec<u8> {
+        let mut order = order(NEW | WINDOW_TYPE | 4, &[id]);
+        order.extend([2, 0, title, 0]);
+        order[1] = order.len() as u8;
+        order
+    }
+
+    /// A server that tells all its windows again: those of before go first, and the
+    /// desktop stays hooked.
+    #[test]
+    fn taking_a_synchronization() {
+        let mut session = Session::new();
+        let began = order(DESKTOP_TYPE | 8, &[]);
+        let changed = session.take(&order(DESKTOP_TYPE | 10, &[])).unwrap();
+        assert_eq!(changed.what, Change::Desktop);
+        session.take(&titled(7, b'A')).unwrap();
+        session.take(&titled(8, b'B')).unwrap();
+        session.take(&order(DESKTOP_TYPE | 4, &[])).unwrap();
+        assert_eq!(session.take(&began).unwrap().what, Change::AllGone);
+        session.take(&titled(7, b'C')).unwrap();
+        let titles: Vec<_> = session.windows().map(|(id, w)| (id.0, w.title())).collect();
+        assert_eq!(titles, [(7, "C".into())]);
+        let desktop = session.desktop();
+        assert!(desktop.hooked && desktop.syncing);
+        let clash = order(DESKTOP_TYPE | 12, &[]);
+        assert_eq!(session.take(&clash), Err(Refusal::FlagsClash));
+        assert_eq!(ids(&session), [7]);
+    }
+
+    /// A full history is no fault of an order that is taken.
+    #[test]
+    fn taking_more_than_the_history_holds() {
+        let mut session = Session::new();
+        for _ in 0..=Standing::ORDERS_LIMIT {
+            session.take(&DESKTOP_HOOKED).unwrap();
+        }
+        assert_eq!(session.standing().orders, 1);
+    }
+
+    /// Resetting erases nothing, wiping does.
+    #[test]
+    fn wiping() {
+        let mut session = Session::new();
+        let secret = titled(7, 0xA7);
+        session.deliver(&secret).unwrap();
+        session.checkpoint();
+        session.deliver(&titled(8, 0xA7)).unwrap();
+        let holds = |part: &[u8]| part.contains(&0xA7);
+        session.reset();
+        assert!(holds(&session.memory.bodies) && holds(&session.memory.journal));
+        session.wipe();
+        assert!(session.memory == Memory::new());
+        assert!(ids(&session).is_empty() && session.names.is_empty());
     }
 
     #[test]
@@ -342,30 +449,20 @@ mod tests {
         assert!(session.windows().next().is_none());
     }
 
-    /// An id that stands twice, and one that is not listed.
+    /// An id that stands twice, one that is not listed, and windows that it does not
+    /// name.
     #[test]
-    fn z_order_names_each_listed_window_once() {
+    fn z_order_has_each_window_once() {
         let mut session = Session::new();
-        for id in [1, 2, 3] {
+        for id in [1, 4, 3, 2] {
             session.deliver(&new_window(id)).unwrap();
         }
-        let mut desktop = order(0x0400_0010, &[]);
+        let mut desktop = order(DESKTOP_TYPE | 0x10, &[]);
         desktop.extend([4, 3, 0, 0, 0, 9, 0, 0, 0, 1, 0, 0, 0, 3, 0, 0, 0]);
         desktop[1] = desktop.len() as u8;
         session.deliver(&desktop).unwrap();
         let stacked: Vec<u32> = session.windows_in_z_order().map(|(id, _)| id.0).collect();
-        assert_eq!(stacked, [3, 1]);
-    }
-
-    /// On a window's icon the new bit names nothing as new.
-    #[test]
-    fn an_icon_names_no_new_window() {
-        let mut names = Names::default();
-        names.learn(&order(NEW | 0x4000_0000 | WINDOW_TYPE, &[7]));
-        names.learn(&order(WINDOW_TYPE, &[8]));
-        assert!(names.windows.is_empty() && names.icons.is_empty());
-        names.learn(&order(NEW | 0x4000_0000 | NOTIFICATION_TYPE, &[7, 8]));
-        assert_eq!(names.icons.len(), 1);
+        assert_eq!(stacked, [3, 1, 2, 4]);
     }
 
     #[test]

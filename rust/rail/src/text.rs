@@ -1,5 +1,8 @@
 //! UTF-16 as messages and records carry it.
 
+use alloc::string::String;
+use alloc::vec::Vec;
+
 /// The text of UTF-16 bytes, little-endian; what is no text becomes U+FFFD, and so
 /// does a last byte without its other half.
 ///

@@ -104,11 +104,12 @@ fn lent_memory_answers_as_the_book() {
 fn make_owned(session: &mut Session, call: &Call<'_>) -> Result<Standing, Refusal> {
     match *call {
         Call::Empty => session.reset(),
-        Call::Deliver(order) => session.deliver(order),
+        Call::Deliver(order) => return session.deliver(order),
         Call::Mark => session.checkpoint(),
-        Call::StepBack(steps) => session.undo(steps.into()),
-        _ => Ok(session.standing()),
+        Call::StepBack(steps) => return session.undo(steps.into()),
+        _ => {}
     }
+    Ok(session.standing())
 }
 
 /// The ids that the session lists are those of the table, also in stacking order.
@@ -119,6 +120,11 @@ fn listed_alike(session: &Session, table: &Table) -> bool {
     let mut stack: Vec<u32> = Vec::new();
     for id in &table.desktop().stack {
         if table.window(*id).is_some() && !stack.contains(&id.0) {
+            stack.push(id.0);
+        }
+    }
+    for id in table.window_ids() {
+        if !stack.contains(&id.0) {
             stack.push(id.0);
         }
     }

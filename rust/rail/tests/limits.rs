@@ -115,7 +115,7 @@ fn room_for_orders() {
     session.undo(1).unwrap();
     session.deliver(&hooked).unwrap();
     assert_eq!(session.deliver(&hooked), Err(Refusal::HistoryFull));
-    session.checkpoint().unwrap();
+    session.checkpoint();
     assert_eq!(session.deliver(&hooked).unwrap().orders, 1);
 }
 

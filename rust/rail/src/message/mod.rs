@@ -4,6 +4,8 @@
 mod tests;
 mod words;
 
+use alloc::vec::Vec;
+
 use crate::answer::{refused, written_answer, Refusal};
 use crate::ffi;
 use crate::ids::{NotifyIconId, WindowId};

@@ -1,7 +1,7 @@
 //! Messages as 12 words: the type, then the fields in carried order, a string as its
 //! place and its length, then zeros.
 
-use std::borrow::Cow;
+use alloc::borrow::Cow;
 
 use super::Message;
 use crate::answer::Refusal;

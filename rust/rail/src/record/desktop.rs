@@ -1,10 +1,13 @@
 //! The desktop state.
 
+use alloc::vec::Vec;
+
 use super::reader::Reader;
 use crate::ids::WindowId;
 
 /// The desktop state as the table has it.
 #[derive(Clone, Debug, Default, PartialEq, Eq)]
+#[non_exhaustive]
 pub struct Desktop {
     /// Whether the desktop is hooked.
     pub hooked: bool,

@@ -1,11 +1,15 @@
 //! Notification icons.
 
+use alloc::string::String;
+use alloc::vec::Vec;
+
 use super::reader::Reader;
 use super::CacheCell;
 
 /// A notification icon as the table has it. A field that no order has set is zero or
 /// empty.
 #[derive(Clone, Debug, Default, PartialEq, Eq)]
+#[non_exhaustive]
 pub struct NotificationIcon {
     /// How the icon behaves (Version).
     pub version: u32,

@@ -1,9 +1,12 @@
 //! Pictures of the icon cache.
 
+use alloc::vec::Vec;
+
 use super::reader::Reader;
 
 /// The picture in a filled cell (TS_ICON_INFO from Bpp on).
 #[derive(Clone, Debug, Default, PartialEq, Eq)]
+#[non_exhaustive]
 pub struct Picture {
     /// Bits per pixel (Bpp): 1, 4, 8, 16, 24 or 32.
     pub bits_per_pixel: u8,

@@ -1,5 +1,7 @@
 //! The bytes of a record, taken field by field.
 
+use alloc::vec::Vec;
+
 use super::{CacheCell, Point, Rectangle, Size};
 use crate::ids::WindowId;
 use crate::text::units;

@@ -1,5 +1,8 @@
 //! Windows.
 
+use alloc::string::String;
+use alloc::vec::Vec;
+
 use super::reader::Reader;
 use super::{CacheCell, Point, Rectangle, Size};
 use crate::ids::WindowId;
@@ -7,6 +10,7 @@ use crate::ids::WindowId;
 /// How a window is shown.
 #[derive(Clone, Copy, Debug, Default, PartialEq, Eq, Hash)]
 #[repr(u8)]
+#[non_exhaustive]
 pub enum ShowState {
     /// 0: not at all.
     #[default]
@@ -33,6 +37,7 @@ impl ShowState {
 
 /// A window as the table has it. A field that no order has set is zero or empty.
 #[derive(Clone, Debug, Default, PartialEq, Eq)]
+#[non_exhaustive]
 pub struct Window {
     /// The window that owns it (OwnerWindowId).
     pub owner: WindowId,

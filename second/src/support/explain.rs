@@ -1,0 +1,138 @@
+//! The lines that a run of state calls printed, told in words beside its script.
+
+use super::order::{outside, told};
+use super::words::{condition, quoted};
+use crate::hex;
+use crate::script::parts::Parts;
+use crate::script::session::{call, Call, SILENT};
+use crate::script::take_item;
+
+/// Fields whose bytes are texts, and those whose bytes are parts of a picture.
+const TEXTS: [&str; 3] = ["title", "tip", "text"];
+const PICTURES: [&str; 3] = ["mask", "table", "color"];
+/// Fields that are two's complement numbers.
+const OFFSETS: [&str; 4] = ["client", "offset", "delta", "visible"];
+
+/// Two lines for each item: what was asked, and what was answered. A fault names the
+/// item or line where script and output part.
+pub fn explain(script: &[u8], output: &str) -> Result<String, String> {
+    let parts = Parts::default();
+    let mut text = String::new();
+    let mut lines = output.lines().enumerate();
+    let mut rest = script;
+    let mut number = 0;
+    while !rest.is_empty() {
+        number += 1;
+        let item = take_item(rest).and_then(|(item, tail)| {
+            rest = tail;
+            Some((item.kind, call(item, &parts)?))
+        });
+        let Some((kind, call)) = item else {
+            text += &format!("{number}: no item\n");
+            return match lines.next() {
+                Some((_, "bad item")) => Ok(text + "    bad item: the run ends here\n"),
+                other => Err(parted(number, other)),
+            };
+        };
+        text += &format!("{number}: {}\n", asked(&call));
+        if SILENT.contains(&kind) {
+            continue;
+        }
+        let line = lines.next();
+        let answer = line
+            .and_then(|(_, line)| line.strip_prefix(char::from(kind))?.strip_prefix(' '))
+            .and_then(answered);
+        match answer {
+            Some(answer) => text += &format!("    {answer}{}\n", why(&call, &answer)),
+            None => return Err(parted(number, line)),
+        }
+    }
+    match lines.next() {
+        None => Ok(text),
+        extra => Err(parted(number + 1, extra)),
+    }
+}
+
+/// Which fields were outside their sets, where that was the refusal.
+fn why(call: &Call<'_>, answer: &str) -> String {
+    let fields = match call {
+        Call::Deliver(order) if answer.starts_with("refused, 8:") => outside(order),
+        _ => Vec::new(),
+    };
+    if fields.is_empty() {
+        return String::new();
+    }
+    format!(" ({})", fields.join("; "))
+}
+
+fn parted(item: usize, line: Option<(usize, &str)>) -> String {
+    match line {
+        None => format!("the output ends before item {item} of the script"),
+        Some((at, line)) => {
+            let beginning: String = line.chars().take(40).collect();
+            format!(
+                "line {} is not the answer to item {item} of the script: {beginning:?}",
+                at + 1
+            )
+        }
+    }
+}
+
+fn asked(call: &Call<'_>) -> String {
+    match *call {
+        Call::Empty => "empty".into(),
+        Call::Deliver(order) => format!("deliver {} bytes: {}", order.len(), told(order)),
+        Call::Mark => "mark".into(),
+        Call::StepBack(steps) => format!("step back {steps}"),
+        Call::Window(id) => format!("look up window {}", id.0),
+        Call::Icon(window, icon) => format!("look up notification icon {}/{}", window.0, icon.0),
+        Call::Cell(place) => format!("look up cell {}/{}", place.cache, place.entry),
+        Call::Desktop => "look up the desktop".into(),
+        Call::Shorten => "lend the next call too little".into(),
+        Call::Fault => "change a byte of the state memory".into(),
+    }
+}
+
+/// An answer from its number on; none where it is no answer.
+fn answered(line: &str) -> Option<String> {
+    let mut words = line.split(' ');
+    let number: u8 = words.next()?.parse().ok()?;
+    if number != 0 {
+        let text = format!("refused, {number}: {}", condition(number));
+        return (words.next().is_none() && number <= 14).then_some(text);
+    }
+    let orders: u32 = words.next()?.parse().ok()?;
+    let bytes: u32 = words.next()?.parse().ok()?;
+    let fields: Vec<String> = words.map(field).collect::<Option<_>>()?;
+    if fields.is_empty() {
+        return Some(format!(
+            "done; {orders} orders, {bytes} bytes after the mark"
+        ));
+    }
+    Some(fields.join(" "))
+}
+
+fn field(word: &str) -> Option<String> {
+    let (name, value) = word.split_once('=')?;
+    let value = if TEXTS.contains(&name) {
+        quoted(&hex::bytes(value.as_bytes()).ok()?)
+    } else if PICTURES.contains(&name) {
+        format!("{} bytes", hex::bytes(value.as_bytes()).ok()?.len())
+    } else if OFFSETS.contains(&name) {
+        let (x, y) = value.split_once(',')?;
+        format!("{},{}", signed(x)?, signed(y)?)
+    } else {
+        value.into()
+    };
+    Some(format!("{name}={value}"))
+}
+
+/// A number of 32 bits as a signed one, whether it was printed so or not.
+fn signed(text: &str) -> Option<i64> {
+    let number: i64 = text.parse().ok()?;
+    Some(if number > i64::from(i32::MAX) {
+        number - (1 << 32)
+    } else {
+        number
+    })
+}

@@ -1,0 +1,10 @@
+//! For those who look at a case: a raw update made a script, answers told in words,
+//! and what is wrong with an input that is no script.
+
+pub mod explain;
+pub mod import;
+mod order;
+mod unfit;
+mod words;
+
+pub use unfit::{pdu as unfit_pdu, session as unfit_session};

@@ -1,0 +1,298 @@
+//! For those who look at a case: an update imported, answers in words, unfit input.
+
+#[allow(dead_code)] // other tests use the rest
+#[path = "../common/mod.rs"]
+mod common;
+
+use std::fs;
+use std::path::PathBuf;
+
+use common::{hex, second};
+use second::book::{Book, ORDERS_ROOM};
+use second::script::take_item;
+use second::support::explain::explain;
+use second::support::import;
+
+/// A window with the title "A", one with a bad show state, a desktop order, and a cut one.
+fn update() -> Vec<u8> {
+    hex(
+        "2E0F0004000011 58000100 0200 4100 2E0C0010000001 58000100 04 \
+         2E070002000004 2E0B00000000115800",
+    )
+}
+
+/// The items of a script, each its letter and payload.
+fn items(script: &[u8]) -> Vec<(char, Vec<u8>)> {
+    let mut items = Vec::new();
+    let mut rest = script;
+    while let Some((item, tail)) = take_item(rest) {
+        items.push((item.kind.into(), item.payload.to_vec()));
+        rest = tail;
+    }
+    assert!(rest.is_empty());
+    items
+}
+
+fn letters(script: &[u8]) -> String {
+    items(script).iter().map(|(kind, _)| *kind).collect()
+}
+
+#[test]
+fn an_update_is_cut_and_looked_at() {
+    let script = second(&["update-to-script"], &update());
+    assert!(script.status.success());
+    assert_eq!(letters(&script.stdout), "DSWDDSWD");
+    let orders: Vec<u8> = items(&script.stdout)
+        .into_iter()
+        .filter(|(kind, _)| *kind == 'D')
+        .flat_map(|(_, order)| order)
+        .collect();
+    assert_eq!(orders, update());
+    let ids = items(&script.stdout)[2].1.clone();
+    assert_eq!(ids, hex("58000100"));
+}
+
+#[test]
+fn an_update_as_hex() {
+    let text = b"2E0F0004000011 58000100 # a window\n\n  0200 4100\n";
+    let script = second(&["update-to-script", "--hex"], text);
+    assert_eq!(letters(&script.stdout), "DSW");
+    let fault = second(&["update-to-script", "--hex"], b"2E\n2\n");
+    assert_eq!(fault.status.code(), Some(2));
+    assert_eq!(
+        fault.stderr,
+        b"second: input: line 2: a byte has two hex digits\n"
+    );
+}
+
+/// An order that finds no room is marked for; one longer than an item is cut.
+#[test]
+fn long_updates() {
+    let order = hex("2E070002000004");
+    let script = import::script(&order.repeat(ORDERS_ROOM + 1));
+    assert_eq!(letters(&script), "DS".repeat(ORDERS_ROOM) + "MDS");
+    let script = import::script(&[0x2E; 70_000]);
+    assert_eq!(items(&script)[0].1.len(), 0x2E2E);
+    let mut long = vec![0x2E, 1, 0];
+    long.resize(70_000, 0);
+    assert_eq!(items(&import::script(&long))[0].1.len(), 65_535);
+    assert!(import::script(&[]).is_empty());
+}
+
+/// Icons are looked up by both ids.
+#[test]
+fn notification_icons_are_looked_at() {
+    let script = import::script(&hex("2E0F0000000012 07000000 09000000"));
+    assert_eq!(items(&script)[2], ('N', hex("07000000 09000000")));
+}
+
+fn explained(script: &[u8]) -> Result<String, String> {
+    let output = second(&["session"], script).stdout;
+    explain(script, &String::from_utf8(output).expect("a text"))
+}
+
+#[test]
+fn answers_in_words() {
+    let text = explained(&import::script(&update())).expect("an explanation");
+    let lines: Vec<&str> = text.lines().collect();
+    assert_eq!(
+        lines[0],
+        "1: deliver 15 bytes: window 65624 new title=\"A\""
+    );
+    assert_eq!(lines[1], "    done; 1 orders, 15 bytes after the mark");
+    assert_eq!(lines[4], "3: look up window 65624");
+    assert!(lines[5].starts_with("    id=65624 owner=0 "));
+    assert!(lines[5].contains(" title=\"A\" "));
+    assert_eq!(lines[6], "4: deliver 12 bytes: window 65624 show=4");
+    let refused =
+        "    refused, 8: a field's number is outside its allowed set (show=4, not 0, 2, 3 or 5)";
+    assert_eq!(lines[7], refused);
+    assert_eq!(lines[8], "5: deliver 7 bytes: desktop hooked=1");
+    let cut = "8: deliver 9 bytes: first byte 2E, OrderSize 11, FieldsPresentFlags 11000000";
+    assert_eq!(lines[14], cut);
+    let refused = "    refused, 3: declared length differs from the bytes given";
+    assert_eq!(lines[15], refused);
+    assert_eq!(lines.len(), 16);
+}
+
+/// Every kind of item and order, offsets below zero, texts that are none, pictures.
+#[test]
+fn all_kinds_in_words() {
+    let text = "E\nM\nB 05000000\nC 020001\nN 0700000009000000\nT 00 0100\nS\n\
+        D 2E0B0004000001 07000000\n\
+        D 2E130000080011 07000000 9CFFFFFF 00000080\n\
+        W 07000000\n\
+        D 2E25000000004107000000 02000120 0200 0100 0100 0800 C0 0102030405060708\n\
+        D 2E20000000004107000000 02000120 0200 0100 0100 0800 C0 0102030405060708\n\
+        C 020001\n\
+        D 2E30000F000092 07000000 09000000 04000000 0400 00D84100 01000000 02000000 0200 4200 0200 0A00 03000000 020001\n\
+        N 0700000009000000\n\
+        D 2E0F0000000022 07000000 09000000\nD 2E0B000000002107000000\n\
+        D 2E10003A000004 07000000 01 07000000\n\
+        D 2E070001000004\n";
+    let script = second(&["hex-session"], text.as_bytes()).stdout;
+    let text = explained(&script).expect("an explanation");
+    for line in [
+        "1: empty",
+        "2: mark",
+        "3: step back 5",
+        "    refused, 13: more steps back than stand after the mark",
+        "4: look up cell 1/2",
+        "    refused, 9: the id must be in the table and isn't, or must not be and is",
+        "6: lend the next call too little",
+        "    refused, 1: lent state memory is shorter than needed, or not well formed",
+        "9: deliver 19 bytes: window 7 new offset=-100,-2147483648",
+        "12: deliver 32 bytes: window 7 small icon into cell 1/2, 2 by 1, 32 bits",
+        "    bpp=32 width=2 height=1 mask=1 bytes table=0 bytes color=8 bytes",
+        "16: deliver 15 bytes: notification icon 7/9 deleted",
+        "17: deliver 11 bytes: window 7 deleted",
+        "19: deliver 7 bytes: desktop none",
+    ] {
+        assert!(text.lines().any(|told| told == line), "{line}\n{text}");
+    }
+    assert!(text.contains(" offset=-100,-2147483648 "), "{text}");
+    let notification = "notification icon 7/9 new version=4 tip=\"\u{FFFD}A\" timeout=1 flags=2 \
+        text=\"B\" title=\"\u{FFFD}\" state=3 picture=icon of cell 1/2";
+    assert!(text.contains(notification), "{text}");
+}
+
+/// Every refusal 8 of a delivery names a field, and of granted orders none is named.
+#[test]
+fn fields_outside_their_sets_are_named() {
+    let mut named = 0;
+    for seed in 0..40 {
+        let script = second(&["gen-session", &seed.to_string(), "300"], b"").stdout;
+        let told = explained(&script).expect("an explanation");
+        let lines: Vec<&str> = told.lines().collect();
+        for pair in lines.windows(2) {
+            if pair[0].contains(": deliver ") && pair[1].starts_with("    refused, 8: ") {
+                assert!(pair[1].ends_with(')'), "{pair:?}");
+                named += 1;
+            } else {
+                assert!(!pair[1].starts_with("    refused") || !pair[1].contains(", not "));
+            }
+        }
+    }
+    assert!(named > 100, "{named}");
+}
+
+/// Generated scripts, which have every kind of order and refusal, are all told.
+#[test]
+fn generated_scripts_are_told() {
+    for seed in ["0", "1", "2", "19"] {
+        let script = second(&["gen-session", seed, "300"], b"").stdout;
+        let output = second(&["session"], &script).stdout;
+        let text = explain(&script, &String::from_utf8(output.clone()).expect("a text"));
+        let told = text.expect("an explanation");
+        let answers = told.lines().filter(|line| line.starts_with("    ")).count();
+        let lines = output.iter().filter(|&&byte| byte == b'\n').count();
+        assert_eq!(answers, lines);
+    }
+}
+
+#[test]
+fn script_and_output_that_part() {
+    let script = import::script(&update());
+    let output = String::from_utf8(second(&["session"], &script).stdout).expect("a text");
+    let cut: String = output
+        .lines()
+        .take(2)
+        .map(|line| format!("{line}\n"))
+        .collect();
+    assert_eq!(
+        explain(&script, &cut),
+        Err("the output ends before item 3 of the script".into())
+    );
+    let other = output.replacen('W', "N", 1);
+    let fault = explain(&script, &other).expect_err("a fault");
+    assert!(fault.starts_with("line 3 is not the answer to item 3 of the script: \"N 0 1 15"));
+    let more = output + "M 0 0 0\n";
+    let fault = explain(&script, &more).expect_err("a fault");
+    assert!(fault.starts_with("line 9 is not the answer to item 9"));
+    let spoiled = "D 15\n";
+    assert!(explain(&script, spoiled).is_err());
+}
+
+#[test]
+fn explaining_by_command_line() {
+    let path = PathBuf::from(env!("CARGO_TARGET_TMPDIR")).join("explained-script");
+    let script = import::script(&update());
+    fs::write(&path, &script).expect("a file");
+    let output = second(&["session"], &script).stdout;
+    let path = path.to_str().expect("a name");
+    let told = second(&["explain", path], &output);
+    assert!(told.status.success() && told.stdout.starts_with(b"1: deliver 15 bytes"));
+    let fault = second(&["explain", path], b"");
+    assert_eq!(fault.status.code(), Some(2));
+    let missing = second(&["explain", "no such file"], b"");
+    assert_eq!(missing.status.code(), Some(2));
+}
+
+/// What is wrong with an input that is no script stands on standard error, and the
+/// output is as before.
+#[test]
+fn unfit_input_is_named() {
+    let usage = "usage: second session < script (second --help)\n";
+    for (input, fault) in [
+        (&update()[..], "item 1, at byte 0: 2E is no kind of item (E D M B W N C S T X). It may be a raw update: second update-to-script makes a script of it"),
+        (b"M\0\0M\x01", "item 2, at byte 3: item M is cut"),
+        (b"M\0\0B\x02\0\x01\0", "item 2, at byte 3: item B cannot carry these 2 bytes"),
+    ] {
+        let output = second(&["session"], input);
+        assert!(output.stdout.ends_with(b"bad item\n"));
+        let said = String::from_utf8(output.stderr).expect("a text");
+        assert_eq!(said, format!("second: {fault}\n{usage}"));
+    }
+    let output = second(&["pdu"], b"R\x01\0\0P\x01\0\0");
+    let said = String::from_utf8(output.stderr).expect("a text");
+    let fault = "second: item 2, at byte 4: item P cannot carry these 1 bytes\n";
+    assert_eq!(
+        said,
+        format!("{fault}usage: second pdu < script (second --help)\n")
+    );
+    assert!(second(&["session"], b"M\0\0").stderr.is_empty());
+    assert!(second(&["pdu"], b"R\0\0").stderr.is_empty());
+}
+
+/// The help names the modes.
+#[test]
+fn help() {
+    let help = String::from_utf8(second(&["--help"], b"").stdout).expect("a text");
+    for name in ["second update-to-script [--hex]", "second explain SCRIPT"] {
+        assert!(help.contains(name), "{name}");
+    }
+}
+
+/// The book that imports agrees with the script run again.
+#[test]
+fn imported_orders_stand() {
+    let mut book = Book::new();
+    let script = import::script(&update());
+    let granted = items(&script)
+        .into_iter()
+        .filter(|(kind, order)| *kind == 'D' && book.deliver(order).is_ok())
+        .count();
+    assert_eq!(granted, 2);
+}
+
+/// What docs/FORMATS.md shows of an explanation is what is told.
+#[test]
+fn the_documents_lines_are_told() {
+    let document = include_str!("../../../docs/FORMATS.md");
+    let update = include_bytes!("../../../tests/guide/update.txt");
+    let script = second(&["update-to-script", "--hex"], update).stdout;
+    let told = explained(&script).expect("an explanation");
+    let shown: Vec<&str> = document
+        .split("`explain` says among others:")
+        .nth(1)
+        .expect("the document shows some lines")
+        .lines()
+        .skip(2)
+        .take_while(|line| !line.is_empty())
+        .map(|line| &line[4..])
+        .collect();
+    assert_eq!(shown.len(), 4);
+    for line in shown {
+        assert!(told.lines().any(|told| told == line), "{line}");
+    }
+}

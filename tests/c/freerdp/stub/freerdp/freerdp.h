@@ -1,0 +1,1 @@
+/* The real one has the types that the other two need. */
