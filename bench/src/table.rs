@@ -9,6 +9,14 @@ pub struct Cost {
     pub plain: f64,
 }
 
+impl Cost {
+    /// Both sides and their ratio.
+    pub fn text(self) -> String {
+        let Self { proved, plain } = self;
+        format!("{proved:.0} / {plain:.0} ({:.1})", proved / plain)
+    }
+}
+
 /// Prints the header of a table whose numbers have this unit, for both jobs.
 pub fn print_header(unit: &str) {
     let groups = Job::ALL.map(|job| {

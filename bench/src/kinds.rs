@@ -1,4 +1,4 @@
-//! The benchmark orders with their aims.
+//! The benchmark orders.
 
 use second::order::flags;
 
@@ -8,8 +8,6 @@ pub type Order = Vec<u8>;
 /// A kind of order, with what has to stand around it.
 pub struct Kind {
     pub label: &'static str,
-    /// The instructions that the proved program is to stay under.
-    pub aim: u32,
     /// Delivered once before.
     pub before: Vec<Order>,
     /// Orders that together leave the records as they were, one of them this one.
@@ -23,15 +21,10 @@ impl Kind {
     pub fn order(&self) -> &Order {
         &self.turn[self.at]
     }
-
-    /// Whether it cannot come twice in a row.
-    pub fn is_undone(&self) -> bool {
-        self.turn.len() > 1
-    }
 }
 
 /// The window of the orders. Its id is above those of the other windows.
-const WINDOW: u32 = 0x0001_0058;
+pub const WINDOW: u32 = 0x0001_0058;
 
 /// All kinds, in the table's order.
 pub fn all() -> Vec<Kind> {
@@ -39,48 +32,82 @@ pub fn all() -> Vec<Kind> {
     let icon = || window(flags::ICON, &icon());
     let delete = || window(flags::DELETED, &[]);
     vec![
-        with_delete("New window, title of 40 bytes", 800, new()),
-        with_delete("New window, all 14 fields", 1_900, new_with_all()),
+        with_delete("New window, title of 40 bytes", new()),
+        with_delete("New window, all 14 fields", new_with_all()),
         repeated(
             "Update: title of 200 bytes, 16 and 16 rectangles",
-            2_800,
             vec![new()],
             titled_update(),
         ),
         repeated(
             "Update: style, offsets, 4 and 4 rectangles",
-            1_600,
             vec![new()],
             placed_update(),
         ),
-        repeated("Icon, 32 by 32 at 32 bits", 2_900, vec![new()], icon()),
+        repeated("Icon, 32 by 32 at 32 bits", vec![new()], icon()),
         repeated(
             "Cached icon",
-            400,
             vec![new(), icon()],
             window(flags::CACHED_ICON, &CELL),
         ),
         Kind {
             label: "Delete, window with no field",
-            aim: 400,
             before: Vec::new(),
             turn: vec![window(flags::NEW, &[]), delete()],
             at: 1,
         },
-        repeated("Desktop: 30 ids, active id", 1_000, Vec::new(), desktop()),
+        repeated("Desktop: 30 ids, active id", Vec::new(), desktop()),
     ]
 }
 
-/// New windows beside that of the orders.
-pub fn others(count: u32) -> impl Iterator<Item = Order> {
-    (0..count).map(|index| new_window(0x0001_0001 + index, 40))
+/// The kind whose order has so many bytes.
+pub fn of_size(bytes: usize) -> Kind {
+    let found = all().into_iter().find(|kind| kind.order().len() == bytes);
+    found.expect("a kind of that size")
+}
+
+/// A new window with a title of 40 bytes.
+pub fn small_window(id: u32) -> Order {
+    new_window(id, 40)
+}
+
+/// A new window with every field at its largest.
+pub fn large_window(id: u32) -> Order {
+    let fields = fields(520, 16);
+    let mut order = of_fields(flags::NEW, &fields);
+    order[7..11].copy_from_slice(&id.to_le_bytes());
+    order
+}
+
+/// The largest icon in a cell, as the small icon of a window.
+pub fn icon_of(id: u32, cache: u8, entry: u16) -> Order {
+    let mut icon = icon();
+    icon[..2].copy_from_slice(&entry.to_le_bytes());
+    icon[2] = cache;
+    let fields = [&id.to_le_bytes()[..], &icon].concat();
+    order(flags::WINDOW | flags::ICON, &fields)
+}
+
+/// A new notification icon with version, a tip of 60 bytes, a balloon, and the picture of
+/// entry 0 in cache 0.
+pub fn notification(window: u32, icon: u32) -> Order {
+    let all = flags::VERSION | flags::TIP | flags::BALLOON | flags::CACHED_ICON;
+    let mut fields = Vec::new();
+    for number in [window, icon, 4] {
+        fields.extend(number.to_le_bytes());
+    }
+    fields.extend(string(60));
+    fields.extend([16, 39, 0, 0, 1, 0, 0, 0]);
+    fields.extend(string(80));
+    fields.extend(string(20));
+    fields.extend(CELL);
+    order(flags::NOTIFICATION | flags::NEW | all, &fields)
 }
 
 /// An order that can be delivered again and again.
-fn repeated(label: &'static str, aim: u32, before: Vec<Order>, order: Order) -> Kind {
+fn repeated(label: &'static str, before: Vec<Order>, order: Order) -> Kind {
     Kind {
         label,
-        aim,
         before,
         turn: vec![order],
         at: 0,
@@ -88,10 +115,9 @@ fn repeated(label: &'static str, aim: u32, before: Vec<Order>, order: Order) -> 
 }
 
 /// A new window, which has to be deleted before it can come again.
-fn with_delete(label: &'static str, aim: u32, order: Order) -> Kind {
+fn with_delete(label: &'static str, order: Order) -> Kind {
     Kind {
         label,
-        aim,
         before: Vec::new(),
         turn: vec![order, window(flags::DELETED, &[])],
         at: 0,
@@ -104,11 +130,16 @@ fn new_window(id: u32, title: usize) -> Order {
 }
 
 fn new_with_all() -> Order {
-    let fields = [
+    of_fields(flags::NEW, &fields(60, 1))
+}
+
+/// All 14 fields, with a title and rectangles of that length.
+fn fields(title: usize, count: u16) -> [(u32, Vec<u8>); 14] {
+    [
         (flags::OWNER, numbers(1)),
         (flags::STYLE, numbers(2)),
         (flags::SHOW, vec![5]),
-        (flags::TITLE, string(60)),
+        (flags::TITLE, string(title)),
         (flags::CLIENT_OFFSET, numbers(2)),
         (flags::CLIENT_SIZE, numbers(2)),
         (flags::RP_CONTENT, vec![1]),
@@ -116,11 +147,10 @@ fn new_with_all() -> Order {
         (flags::WINDOW_OFFSET, numbers(2)),
         (flags::CLIENT_DELTA, numbers(2)),
         (flags::WINDOW_SIZE, numbers(2)),
-        (flags::WINDOW_RECTS, rects(1)),
+        (flags::WINDOW_RECTS, rects(count)),
         (flags::VISIBLE_OFFSET, numbers(2)),
-        (flags::VISIBILITY, rects(1)),
-    ];
-    of_fields(flags::NEW, &fields)
+        (flags::VISIBILITY, rects(count)),
+    ]
 }
 
 fn titled_update() -> Order {
@@ -227,7 +257,8 @@ mod tests {
     fn every_turn_can_come_again() {
         for kind in all() {
             let mut table = Table::default();
-            let first: Vec<Order> = others(30).chain(kind.before.clone()).collect();
+            let others = (1..31).map(|index| large_window(WINDOW + (index << 24)));
+            let first: Vec<Order> = others.chain(kind.before.clone()).collect();
             assert!(delivered(&mut table, &first).iter().all(|&n| n == 0));
             assert!(delivered(&mut table, &kind.turn).iter().all(|&n| n == 0));
             let after = table.clone();
