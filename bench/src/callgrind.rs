@@ -7,8 +7,6 @@ use std::process::{Command, Stdio};
 pub struct Counted {
     /// All instructions.
     pub total: u64,
-    /// What the program printed.
-    pub printed: Vec<u8>,
 }
 
 /// Runs a program with these words and this input.
@@ -41,10 +39,7 @@ fn count_with(
         return Err(format!("valgrind failed: {report}"));
     }
     let total = collected(&report).ok_or_else(|| format!("valgrind told no total: {report}"))?;
-    Ok(Counted {
-        total,
-        printed: output.stdout,
-    })
+    Ok(Counted { total })
 }
 
 /// The number in callgrind's line `==PID== Collected : NUMBER`.

@@ -6,6 +6,7 @@ mod callgrind;
 mod check;
 mod inputs;
 mod instructions;
+mod kinds;
 mod orders;
 mod plain;
 mod state;
@@ -28,15 +29,16 @@ bench: the proved code beside the plain Rust of `second`
                        make N calls and print nothing, for callgrind.
                        SIDE: proved, plain or empty; JOB: read or write
   bench messages       list the benchmark messages
-  bench orders [PROGRAM]
-                       print instructions and nanoseconds per delivery of an order
-                       as a Markdown table: PROGRAM, by default the repository's
-                       target/bin/rail_table, beside `second table`
+  bench orders         print instructions per delivery of an order, and per mark
+                       that brings it into the table, as a Markdown table,
+                       beside the book of `second`
   bench state          print instructions and nanoseconds per state call at the C
-                       boundary as a Markdown table, beside the book of `second`
-  bench state-one CALL ORDERS SIDE N
+                       boundary as Markdown tables, beside the book of `second`,
+                       and the aims with what was measured
+  bench state-one LISTING CALL ORDERS SIDE N
                        make N state calls and print nothing, for callgrind.
-                       ORDERS: in the journal; SIDE: proved or plain
+                       LISTING: one, eight, full or equal; ORDERS: in the
+                       journal; SIDE: proved or plain
   bench state-calls    list the state calls
 
 Jobs: `read` takes a message's bytes to the 12 words of its record, judged;
@@ -59,10 +61,11 @@ fn main() -> ExitCode {
         ["instructions"] => instructions::run(),
         ["one", message, side, job, calls] => instructions::one(message, side, job, calls),
         ["messages"] => list_messages(),
-        ["orders"] => orders::run(None),
-        ["orders", program] => orders::run(Some(program)),
+        ["orders"] => orders::run(),
         ["state"] => state::run(),
-        ["state-one", call, orders, side, calls] => state::one(call, orders, side, calls),
+        ["state-one", listing, call, orders, side, calls] => {
+            state::one(listing, call, orders, side, calls)
+        }
         ["state-calls"] => state::list(),
         ["--help" | "-h" | "help"] => {
             print!("{HELP}");
@@ -89,7 +92,7 @@ fn everything() -> Result<(), String> {
     println!();
     instructions::run()?;
     println!();
-    orders::run(None)?;
+    orders::run()?;
     println!();
     state::run()
 }

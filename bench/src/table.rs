@@ -7,6 +7,14 @@ pub struct Cost {
     pub plain: f64,
 }
 
+impl Cost {
+    /// Both sides and their ratio.
+    pub fn text(self) -> String {
+        let Self { proved, plain } = self;
+        format!("{proved:.0} / {plain:.0} ({:.1})", proved / plain)
+    }
+}
+
 /// Prints the header of a table of a job on messages, whose numbers have this unit.
 pub fn print_header(job: &str, unit: &str) {
     println!("| Message | Bytes | {} |", titles(job, unit));

@@ -2,7 +2,6 @@
 
 use std::env;
 use std::io::{self, BufWriter, Read, Write};
-use std::mem;
 use std::path::Path;
 use std::process::ExitCode;
 
@@ -11,7 +10,6 @@ use second::coverage::{self, Facts};
 use second::fault::fault_run;
 use second::script::parts::Parts;
 use second::script::session::End;
-use second::table::Table;
 use second::{generate, hex, script, support};
 
 const HELP: &str = "\
@@ -20,10 +18,8 @@ The independent second program for RDP Remote Programs (RAIL).
 usage:
   second pdu < script > output
   second session [--parts L0,L1,..] < script > output
-  second table < script > output
-      Runs a script of control messages, of state calls, or of calls on a table
-      without history (E, D, W, N, C, S; no counts are printed), and prints a line
-      for each call. An item X, which changes state memory, ends a run with the line
+      Runs a script of control messages or of state calls, and prints a line for
+      each call. An item X, which changes state memory, ends a run with the line
       `fault` on standard error and the status 3: the state here has no memory.
   second gen-pdu SEED ITEMS > script
   second gen-session SEED ITEMS [--parts L0,L1,..] > script
@@ -31,15 +27,12 @@ usage:
       A seed that leaves 19 when divided by 20 gives a script whose last item is bad.
   second coverage-pdu FROM TO ITEMS
   second coverage-session FROM TO ITEMS
-  second coverage-table FROM TO ITEMS
       Runs the generated scripts of the seeds FROM to TO, prints how often each
       call, kind and number was met, also at each limit, and then what is missing.
       The status is 0 only if nothing is missing.
   second compare-pdu PROGRAM FROM TO ITEMS
   second compare-session PROGRAM FROM TO ITEMS [--parts L0,L1,..]
-  second compare-table PROGRAM FROM TO ITEMS
       Runs PROGRAM on the same scripts and compares what it prints, two at a time.
-      A script for a table has no items that need a history.
       The status is 0 only if scripts were compared and none differs.
   second fault-session PROGRAM FROM TO ITEMS [--parts L0,L1,..]
       Runs PROGRAM on scripts with items X strewn in, each followed by an emptying
@@ -84,7 +77,6 @@ fn dispatch(arguments: &[&str]) -> Result<ExitCode, String> {
     match arguments {
         ["pdu"] => run_pdu(),
         ["session", options @ ..] => run_session(&parts(options)?),
-        ["table"] => run_table(),
         ["gen-pdu", seed, items] => print(&generate::pdu::script(number(seed)?, count(items)?)),
         ["gen-session", seed, items, options @ ..] => {
             let parts = parts(options)?;
@@ -101,20 +93,12 @@ fn dispatch(arguments: &[&str]) -> Result<ExitCode, String> {
             number(to)?,
             count(items)?,
         )),
-        ["coverage-table", from, to, items] => print_facts(&coverage::table::of_seeds(
-            number(from)?,
-            number(to)?,
-            count(items)?,
-        )),
         ["compare-pdu", program, from, to, items] => {
             compare_pdu(program, number(from)?, number(to)?, count(items)?)
         }
         ["compare-session", program, from, to, items, options @ ..] => {
             let parts = parts(options)?;
             compare_session(program, number(from)?, number(to)?, count(items)?, &parts)
-        }
-        ["compare-table", program, from, to, items] => {
-            compare_table(program, number(from)?, number(to)?, count(items)?)
         }
         ["fault-session", program, from, to, items, options @ ..] => {
             let parts = parts(options)?;
@@ -194,15 +178,6 @@ fn run_session(parts: &Parts) -> Result<ExitCode, String> {
     }
 }
 
-fn run_table() -> Result<ExitCode, String> {
-    let script = input()?;
-    let mut table = Table::default();
-    to_output(|out| script::table::run(&script, &mut table, out))?;
-    // The program ends here: its memory goes at once, not record by record.
-    mem::forget(table);
-    Ok(ExitCode::SUCCESS)
-}
-
 /// What a run gives, its output written through.
 fn to_output<T>(run: impl FnOnce(&mut dyn Write) -> io::Result<T>) -> Result<T, String> {
     let mut out = BufWriter::with_capacity(1 << 16, io::stdout().lock());
@@ -245,15 +220,6 @@ fn compare_session(
         make: &|seed| generate::session::script(seed, items, parts),
         expected: &|script| written(|out| script::session::run(script, parts, out)),
         silent: script::session::SILENT,
-    };
-    compare_scripts(program, from, to, &scripts)
-}
-
-fn compare_table(program: &str, from: u64, to: u64, items: usize) -> Result<ExitCode, String> {
-    let scripts = Scripts {
-        make: &|seed| generate::table::script(seed, items),
-        expected: &|script| written(|out| script::table::run(script, &mut Table::default(), out)),
-        silent: b"",
     };
     compare_scripts(program, from, to, &scripts)
 }

@@ -1,17 +1,11 @@
-//! The calls that are measured, each with the orders that stand before it.
+//! The calls that are measured, each with what stands at the mark and after it.
 
-use second::order::flags;
-
-use crate::orders::kinds::{self, Kind, Order};
+use super::listing::Listing;
+use crate::kinds::{self, Kind, Order};
 
 /// The orders in the journal. A delivery needs room for one more.
 pub const JOURNALS: [usize; 4] = [0, 8, 32, 128];
 const MOST_BEFORE_DELIVERY: usize = 127;
-
-/// The window whose updates are in the journal, the first of `kinds::others`.
-const WINDOW: u32 = 0x0001_0001;
-/// A notification icon of it.
-const ICON: u32 = 7;
 
 /// A state call.
 pub enum Call {
@@ -39,26 +33,59 @@ impl Call {
     }
 }
 
-/// A call and what stands at the mark.
+/// A call and what stands before it.
 pub struct Job {
     /// For the command line.
     pub name: String,
     /// For the table.
     pub label: String,
     pub at_mark: Vec<Order>,
+    /// The update that the journal has copies of, or the one order that it has.
+    after_mark: After,
     pub call: Call,
 }
 
+enum After {
+    Updates(Order),
+    One(Order),
+}
+
 impl Job {
+    /// An order's delivery.
+    pub fn delivery(listing: &Listing, number: u32, kind: &Kind) -> Self {
+        Self {
+            name: format!("deliver-{number}"),
+            label: format!("Delivery: {}", kind.label),
+            at_mark: before(listing, kind),
+            after_mark: After::Updates(update(listing)),
+            call: Call::Deliver(kind.order().clone()),
+        }
+    }
+
+    /// A mark with that one order before it.
+    pub fn mark(listing: &Listing, number: u32, kind: &Kind) -> Self {
+        Self {
+            name: format!("mark-{number}"),
+            label: format!("Mark after: {}", kind.label),
+            at_mark: before(listing, kind),
+            after_mark: After::One(kind.order().clone()),
+            call: Call::Checkpoint,
+        }
+    }
+
     /// The orders in the journal where so many are wanted, or none where the call is
     /// refused then.
     pub fn journal(&self, wanted: usize) -> Option<Vec<Order>> {
+        let update = match &self.after_mark {
+            After::Updates(update) => update,
+            After::One(order) => return Some(vec![order.clone()]),
+        };
         let orders = match self.call {
             Call::Deliver(_) => wanted.min(MOST_BEFORE_DELIVERY),
             Call::Undo if wanted == 0 => return None,
             _ => wanted,
         };
-        Some(vec![update(); orders])
+        Some(vec![update.clone(); orders])
     }
 
     /// The bytes of an order that is delivered.
@@ -70,17 +97,20 @@ impl Job {
     }
 }
 
-/// All of them, in the table's order.
-pub fn all() -> Vec<Job> {
-    let mut jobs: Vec<Job> = (1..).zip(kinds::all()).map(delivery).collect();
-    let at_mark = records();
+/// The jobs of the table of state calls, in its order.
+pub fn all(listing: &Listing) -> Vec<Job> {
+    let kinds = (1..).zip(kinds::all());
+    let deliveries = kinds.map(|(number, kind)| Job::delivery(listing, number, &kind));
+    let mut jobs: Vec<Job> = deliveries.collect();
+    let at_mark = listing.records();
+    let (window, icon) = listing.notification();
     let others = [
         ("Undo of 1", Call::Undo),
         ("Checkpoint", Call::Checkpoint),
-        ("Lookup: window", Call::Window(WINDOW)),
+        ("Lookup: window", Call::Window(listing.updated())),
         (
             "Lookup: notification icon",
-            Call::Notification(WINDOW, ICON),
+            Call::Notification(window, icon),
         ),
         ("Lookup: cell", Call::Cell(0, 0)),
         ("Lookup: desktop", Call::Desktop),
@@ -89,74 +119,31 @@ pub fn all() -> Vec<Job> {
         name: call.entry().into(),
         label: label.into(),
         at_mark: at_mark.clone(),
+        after_mark: After::Updates(update(listing)),
         call,
     }));
     jobs
 }
 
-/// The job of that name.
-pub fn named(name: &str) -> Option<Job> {
-    all().into_iter().find(|job| job.name == name)
+/// The job of that name, one of either table.
+pub fn named(listing: &Listing, name: &str) -> Option<Job> {
+    let kinds = (1..).zip(kinds::all());
+    let marks = kinds.map(|(number, kind)| Job::mark(listing, number, &kind));
+    let mut jobs = all(listing).into_iter().chain(marks);
+    jobs.find(|job| job.name == name)
 }
 
-fn delivery((number, kind): (u32, Kind)) -> Job {
-    let mut at_mark: Vec<Order> = kinds::others(1).collect();
+/// What stands at the mark before a kind's order.
+fn before(listing: &Listing, kind: &Kind) -> Vec<Order> {
+    let mut at_mark = listing.orders();
     at_mark.extend(kind.before.iter().cloned());
     at_mark.extend_from_slice(&kind.turn[..kind.at]);
-    Job {
-        name: format!("deliver-{number}"),
-        label: format!("Delivery: {}", kind.label),
-        at_mark,
-        call: Call::Deliver(kind.order().clone()),
-    }
+    at_mark
 }
 
 /// An update of 111 bytes: style, offsets, 4 and 4 rectangles.
-fn update() -> Order {
-    let mut order = kind_of(111).order().clone();
-    order[7..11].copy_from_slice(&WINDOW.to_le_bytes());
-    order
-}
-
-/// The kind whose order has so many bytes.
-fn kind_of(bytes: usize) -> Kind {
-    let found = kinds::all()
-        .into_iter()
-        .find(|kind| kind.order().len() == bytes);
-    found.expect("a kind of that size")
-}
-
-/// Something of each sort: two windows, one with the largest icon, a notification icon
-/// with texts, and 30 ids in the stacking list.
-fn records() -> Vec<Order> {
-    let icon = kind_of(4_247);
-    let mut orders: Vec<Order> = kinds::others(1).collect();
-    orders.extend(icon.before.iter().cloned());
-    orders.push(icon.order().clone());
-    orders.push(notification());
-    orders.push(kind_of(132).order().clone());
-    orders
-}
-
-/// New, with version, a tip of 60 bytes, a balloon and the icon of cell 0.
-fn notification() -> Order {
-    let text = |length: u16| {
-        let mut text = length.to_le_bytes().to_vec();
-        text.extend(b"A\0".repeat(usize::from(length / 2)));
-        text
-    };
-    let all = flags::VERSION | flags::TIP | flags::BALLOON | flags::CACHED_ICON;
-    let mut order = vec![0x2E, 0, 0];
-    order.extend((flags::NOTIFICATION | flags::NEW | all).to_le_bytes());
-    for number in [WINDOW, ICON, 4] {
-        order.extend(number.to_le_bytes());
-    }
-    order.extend(text(60));
-    order.extend([16, 39, 0, 0, 1, 0, 0, 0]);
-    order.extend(text(80));
-    order.extend(text(20));
-    order.extend([0, 0, 0]);
-    let size = order.len() as u16;
-    order[1..3].copy_from_slice(&size.to_le_bytes());
+fn update(listing: &Listing) -> Order {
+    let mut order = kinds::of_size(111).order().clone();
+    order[7..11].copy_from_slice(&listing.updated().to_le_bytes());
     order
 }

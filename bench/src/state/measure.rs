@@ -5,9 +5,10 @@ use std::hint::black_box;
 use std::time::{Duration, Instant};
 
 use super::jobs::{Call, Job};
+use super::listing::Listing;
 use super::{Side, State, OUT};
 use crate::callgrind;
-use crate::orders::kinds::Order;
+use crate::kinds::Order;
 use crate::table::Cost;
 
 /// N: callgrind counts N and 2N calls. Both have as many digits.
@@ -18,10 +19,10 @@ pub const TIMED: usize = 1_001;
 const WARMING: usize = 50;
 
 /// What a job takes on both sides with a journal of so many orders.
-pub fn instructions(job: &Job, orders: usize) -> Result<Cost, String> {
+pub fn instructions(listing: &Listing, job: &Job, orders: usize) -> Result<Cost, String> {
     let per_call = |side: Side| -> Result<f64, String> {
-        let fewer = total(job, orders, side, CALLS)?;
-        let more = total(job, orders, side, 2 * CALLS)?;
+        let fewer = total(listing, job, orders, side, CALLS)?;
+        let more = total(listing, job, orders, side, 2 * CALLS)?;
         Ok((more as f64 - fewer as f64) / CALLS as f64)
     };
     Ok(Cost {
@@ -31,11 +32,24 @@ pub fn instructions(job: &Job, orders: usize) -> Result<Cost, String> {
 }
 
 /// The instructions of the entry point in one run, those of the set-up among them.
-fn total(job: &Job, orders: usize, side: Side, calls: usize) -> Result<u64, String> {
+fn total(
+    listing: &Listing,
+    job: &Job,
+    orders: usize,
+    side: Side,
+    calls: usize,
+) -> Result<u64, String> {
     let program = env::current_exe().map_err(|error| format!("own program: {error}"))?;
     let function = format!("{}_{}", side.prefix(), job.call.entry());
     let (orders, calls) = (orders.to_string(), calls.to_string());
-    let words = ["state-one", &job.name, &orders, side.name(), &calls];
+    let words = [
+        "state-one",
+        listing.name,
+        &job.name,
+        &orders,
+        side.name(),
+        &calls,
+    ];
     Ok(callgrind::count_within(&function, &program, &words)?.total)
 }
 

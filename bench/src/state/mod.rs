@@ -1,16 +1,20 @@
 //! The state calls at the C boundary, beside the book of `second`.
 
 mod jobs;
+mod listing;
 mod measure;
 mod plain;
 mod proved;
 
-use jobs::{Call, Job, JOURNALS};
-use measure::{instructions, nanoseconds, repeat, TIMED};
+pub use jobs::Job;
+use jobs::{Call, JOURNALS};
+pub use listing::{listings, Listing};
+pub use measure::instructions;
+use measure::{nanoseconds, repeat, TIMED};
 use plain::Plain;
 use proved::Proved;
 
-use crate::orders::kinds::Order;
+use crate::kinds::Order;
 use crate::table::Cost;
 
 /// Bytes of output memory, enough for every record.
@@ -59,12 +63,29 @@ impl Side {
     }
 }
 
-/// Prints the table, once both sides answer alike.
+/// Prints a table for each listing, once both sides answer alike, and then the aims.
 pub fn run() -> Result<(), String> {
-    let jobs = jobs::all();
-    for job in &jobs {
-        check_all(job)?;
+    let mut met = Vec::new();
+    for listing in listings() {
+        let jobs = jobs::all(&listing);
+        for job in &jobs {
+            check_all(job)?;
+        }
+        println!("### {}", listing.label);
+        println!();
+        print_head();
+        for job in &jobs {
+            let costs = print_row(&listing, job)?;
+            met.push(Measured::new(&listing, job, &costs));
+        }
+        println!();
     }
+    print_aims(&met);
+    print_notes();
+    Ok(())
+}
+
+fn print_head() {
     let titles = |unit| {
         JOURNALS
             .map(|orders| format!("{orders}: {unit}"))
@@ -76,45 +97,96 @@ pub fn run() -> Result<(), String> {
         titles("ns"),
     );
     println!("|---|{}", "---:|".repeat(1 + 2 * JOURNALS.len()));
-    for job in &jobs {
-        print_row(job)?;
-    }
-    print_notes();
-    Ok(())
 }
 
-/// Prints a call's row.
-fn print_row(job: &Job) -> Result<(), String> {
+/// Prints a call's row. Its instructions with each journal.
+fn print_row(listing: &Listing, job: &Job) -> Result<Vec<Option<Cost>>, String> {
     let count = |orders| {
-        let cost = job.journal(orders).map(|_| instructions(job, orders));
-        cost.transpose().map(text)
+        let cost = job.journal(orders);
+        cost.map(|_| instructions(listing, job, orders)).transpose()
     };
     let time = |orders| {
-        let cost = job
-            .journal(orders)
-            .map(|journal| nanoseconds(job, &journal));
-        Ok(text(cost))
+        let journal = job.journal(orders);
+        journal.map(|journal| nanoseconds(job, &journal))
     };
-    let counts = JOURNALS.into_iter().map(count);
+    let counts = JOURNALS
+        .into_iter()
+        .map(count)
+        .collect::<Result<Vec<_>, String>>()?;
     let times = JOURNALS.into_iter().map(time);
-    let cells = counts.chain(times).collect::<Result<Vec<_>, String>>()?;
+    let cells: Vec<String> = counts.iter().copied().chain(times).map(text).collect();
     let bytes = job.bytes().map_or(String::new(), |bytes| bytes.to_string());
     println!("| {} | {bytes} | {} |", job.label, cells.join(" | "));
-    Ok(())
+    Ok(counts)
 }
 
-/// Both sides and their ratio.
 fn text(cost: Option<Cost>) -> String {
-    match cost {
-        Some(Cost { proved, plain }) => {
-            format!("{proved:.0} / {plain:.0} ({:.1})", proved / plain)
+    cost.map_or("refused: 13".into(), Cost::text)
+}
+
+/// The proved side's instructions of a call.
+struct Measured {
+    listing: &'static str,
+    call: &'static str,
+    /// With 8 orders in the journal.
+    with_8: f64,
+    /// More for each further order, up to the longest journal.
+    further: f64,
+}
+
+impl Measured {
+    fn new(listing: &Listing, job: &Job, costs: &[Option<Cost>]) -> Self {
+        let proved = |index: usize| costs[index].expect("granted with a journal").proved;
+        let orders = |index: usize| {
+            job.journal(JOURNALS[index])
+                .map_or(0, |orders| orders.len())
+        };
+        Self {
+            listing: listing.name,
+            call: job.call.entry(),
+            with_8: proved(1),
+            further: (proved(3) - proved(1)) / (orders(3) - orders(1)) as f64,
         }
-        None => "refused: 13".into(),
     }
+}
+
+/// Prints what the calls were to stay under, beside the most that was measured.
+fn print_aims(met: &[Measured]) {
+    let is_full = |one: &&Measured| matches!(one.listing, "full" | "equal");
+    let of_call = |call: &'static str| met.iter().filter(move |one| one.call == call);
+    let most = |figures: Vec<f64>| figures.into_iter().fold(0.0, f64::max);
+    let with_8 = |call| {
+        most(
+            of_call(call)
+                .filter(is_full)
+                .map(|one| one.with_8)
+                .collect(),
+        )
+    };
+    let further = most(
+        of_call("deliver")
+            .filter(is_full)
+            .map(|one| one.further)
+            .collect(),
+    );
+    println!("| Aim, in instructions | At most | Measured |");
+    println!("|---|---:|---:|");
+    for (what, aim, figure) in [
+        ("a delivery", 7_500.0, with_8("deliver")),
+        ("a window lookup", 9_500.0, with_8("window")),
+        ("a cell lookup", 11_500.0, with_8("cell")),
+        ("each further order, at a delivery", 330.0, further),
+    ] {
+        let missed = if figure > aim { ", missed" } else { "" };
+        println!(
+            "| Full table, 8 orders in the journal: {what} | {aim:.0} | {figure:.0}{missed} |"
+        );
+    }
+    println!();
 }
 
 /// With every journal.
-fn check_all(job: &Job) -> Result<(), String> {
+pub fn check_all(job: &Job) -> Result<(), String> {
     JOURNALS
         .into_iter()
         .try_for_each(|orders| check(job, orders))
@@ -146,11 +218,13 @@ fn check(job: &Job, orders: usize) -> Result<(), String> {
 }
 
 /// `bench state-one`: the calls that callgrind counts.
-pub fn one(call: &str, orders: &str, side: &str, calls: &str) -> Result<(), String> {
+pub fn one(listing: &str, call: &str, orders: &str, side: &str, calls: &str) -> Result<(), String> {
     let number = |text: &str| -> Result<usize, String> {
         text.parse().map_err(|_| format!("`{text}` is no number"))
     };
-    let job = jobs::named(call).ok_or_else(|| format!("no call `{call}`"))?;
+    let known = listings().into_iter().find(|known| known.name == listing);
+    let listing = known.ok_or_else(|| format!("no listing `{listing}`"))?;
+    let job = jobs::named(&listing, call).ok_or_else(|| format!("no call `{call}`"))?;
     let journal = job.journal(number(orders)?);
     let journal = journal.ok_or_else(|| format!("`{call}` is refused then"))?;
     let side = [Side::Proved, Side::Plain]
@@ -163,20 +237,26 @@ pub fn one(call: &str, orders: &str, side: &str, calls: &str) -> Result<(), Stri
 
 /// `bench state-calls`.
 pub fn list() -> Result<(), String> {
-    for job in jobs::all() {
-        println!("{}: {}", job.name, job.label);
+    for listing in listings() {
+        for job in jobs::all(&listing) {
+            println!(
+                "{} {}: {}, {}",
+                listing.name, job.name, listing.label, job.label
+            );
+        }
     }
     Ok(())
 }
 
 /// Tells what is compared.
 fn print_notes() {
-    println!();
     println!(
         "Proved / plain (ratio). Proved: the entry point of librail.a on four lent parts, called from the crate `rail`. Plain: the same call on the \
-         book of `second`, which writes the same record in the same layout. The journal has so many updates of 111 \
-         bytes of one window (one fewer than 128 before a delivery, which needs room); what they need was there at the \
-         mark. Every call begins from the same state: what it changed is taken back in between and not counted."
+         book of `second`, which writes the same record in the same layout. One window, 8 windows: so many with a title, beside that of the order or \
+         of the icon, and in the calls besides deliveries a notification icon and a cell. Full table: 32 windows with all fields at their largest (31 \
+         before a new one), 16 notification icons, 12 cells of the largest picture. Equal low bytes: ids that differ in their highest byte alone. The \
+         journal has so many updates of 111 bytes of one window, the last listed, which is also the one looked up (one fewer than 128 before a \
+         delivery, which needs room). Every call begins from the same state: what it changed is taken back in between and not counted."
     );
     println!();
     println!(
@@ -197,34 +277,50 @@ fn print_notes() {
 #[cfg(test)]
 mod tests {
     use super::*;
+    use crate::kinds;
+
+    /// The jobs of both tables.
+    fn every_job() -> Vec<(Listing, Job)> {
+        let mut every = Vec::new();
+        for listing in listings() {
+            let marks = (1..).zip(kinds::all());
+            let marks = marks.map(|(number, kind)| Job::mark(&listing, number, &kind));
+            let jobs: Vec<Job> = jobs::all(&listing).into_iter().chain(marks).collect();
+            for job in jobs {
+                let known = listings().into_iter().find(|one| one.name == listing.name);
+                every.push((known.expect("a name"), job));
+            }
+        }
+        every
+    }
 
     #[test]
     fn both_sides_answer_alike() {
-        for job in jobs::all() {
-            check_all(&job).unwrap();
+        for (listing, job) in every_job() {
+            check_all(&job).unwrap_or_else(|fault| panic!("{}: {fault}", listing.label));
         }
     }
 
-    /// From the second call on, what is lent holds the same bytes each time.
+    /// What is lent holds the same bytes each time.
     #[test]
     fn the_state_is_the_same_each_time() {
-        for job in jobs::all() {
+        for (listing, job) in every_job() {
             for journal in JOURNALS.iter().filter_map(|&orders| job.journal(orders)) {
                 let mut state = Proved::new(&job, &journal);
                 repeat(&mut state, &job.call, 1);
                 let before = state.clone();
                 repeat(&mut state, &job.call, 1);
-                assert!(state == before, "{}", job.label);
+                assert!(state == before, "{}: {}", listing.label, job.label);
             }
         }
     }
 
     #[test]
     fn names_are_found_again() {
-        let jobs = jobs::all();
-        assert_eq!(jobs.len(), 14);
-        for job in jobs {
-            let found = jobs::named(&job.name).expect("a name");
+        let jobs = every_job();
+        assert_eq!(jobs.len(), 4 * (14 + 8));
+        for (listing, job) in jobs {
+            let found = jobs::named(&listing, &job.name).expect("a name");
             assert_eq!(found.label, job.label);
         }
     }

@@ -7,11 +7,13 @@ use second::table::{Cell, Rect, Window};
 
 use super::jobs::{Call, Job};
 use super::{Answer, State};
-use crate::orders::kinds::Order;
+use crate::kinds::Order;
 
-/// A book with the orders of its journal, to deliver them again.
+/// A book with the orders of its journal, to deliver them again, and the book that a
+/// checkpoint begins with.
 pub struct Plain {
     book: Book,
+    before: Book,
     journal: Vec<Order>,
 }
 
@@ -19,11 +21,16 @@ impl Plain {
     /// The state that a job begins with.
     pub fn new(job: &Job, journal: &[Order]) -> Self {
         let mut book = Book::new();
-        deliver_all(&mut book, &job.at_mark);
-        book.mark();
+        for order in &job.at_mark {
+            deliver_all(&mut book, std::slice::from_ref(order));
+            book.mark();
+        }
         deliver_all(&mut book, journal);
-        let journal = journal.to_vec();
-        Self { book, journal }
+        Self {
+            before: book.clone(),
+            book,
+            journal: journal.to_vec(),
+        }
     }
 }
 
@@ -52,7 +59,7 @@ impl State for Plain {
         match call {
             Call::Deliver(_) => assert_eq!(self.book.step_back(1), Ok(())),
             Call::Undo => deliver_all(&mut self.book, &self.journal[..1]),
-            Call::Checkpoint => deliver_all(&mut self.book, &self.journal),
+            Call::Checkpoint => self.book = self.before.clone(),
             _ => {}
         }
     }

@@ -4,14 +4,14 @@ use rail::{CacheCell, Memory, NotifyIconId, Refusal, WindowId};
 
 use super::jobs::{Call, Job};
 use super::{Answer, State};
-use crate::orders::kinds::Order;
+use crate::kinds::Order;
 
 /// Memory lent to the library.
 #[derive(Clone, PartialEq, Eq)]
 pub struct Proved {
     memory: Memory,
-    /// The journal's first two bytes, which tell how many orders it has.
-    count: [u8; 2],
+    /// As the job begins with it.
+    before: Box<Memory>,
 }
 
 impl Proved {
@@ -22,14 +22,14 @@ impl Proved {
         lent.reset().expect("an emptying is granted");
         for order in &job.at_mark {
             lent.deliver(order).expect("the orders before are granted");
+            lent.checkpoint().expect("a mark is granted");
         }
-        lent.checkpoint().expect("a mark is granted");
         for order in journal {
             lent.deliver(order)
                 .expect("the journal's orders are granted");
         }
-        let count = [memory.journal[0], memory.journal[1]];
-        Self { memory, count }
+        let before = Box::new(memory.clone());
+        Self { memory, before }
     }
 }
 
@@ -58,9 +58,13 @@ impl State for Proved {
         Ok((standing.orders, standing.bytes))
     }
 
-    /// The journal's bytes still stand behind its count, so the count is enough. The
-    /// updates that a checkpoint applied set the same fields again the next time.
-    fn restore(&mut self, _: &Call) {
-        self.memory.journal[..2].copy_from_slice(&self.count);
+    /// After a delivery or an undo the journal's bytes still stand behind its count, so the
+    /// count is enough.
+    fn restore(&mut self, call: &Call) {
+        if let Call::Checkpoint = call {
+            self.memory.clone_from(&self.before);
+        }
+        let count = &self.before.journal[..2];
+        self.memory.journal[..2].copy_from_slice(count);
     }
 }

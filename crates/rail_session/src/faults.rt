@@ -24,9 +24,28 @@ pub(crate) fn lent(part: u8, len: usize, lack: Lack) -> usize
     len - lack.bytes
 }
 
-// Whether a part of len bytes can lack so many.
-pub(crate) fn can_lack(len: usize, bytes: usize) -> bool {
-    (1 <= bytes) & (bytes <= len)
+// The length of a part; 0 where there is none.
+fn part_len(part: u8) -> usize {
+    match part {
+        0 => session::DIRECTORY,
+        1 => session::BODIES,
+        2 => session::CELLS,
+        3 => session::JOURNAL,
+        _ => 0,
+    }
+}
+
+// T: the part that the next call lacks bytes of. No bytes where the item is bad.
+pub(crate) fn shortened(s: &[u8]) -> Lack {
+    if s.len() != 3 {
+        return none();
+    }
+    let part = wire::read_u8(s, 0);
+    let bytes = wire::read_u16(s, 1) as usize;
+    if bytes > part_len(part) {
+        return none();
+    }
+    Lack { part, bytes }
 }
 
 // Changes a byte by exclusive or. False where there is none.

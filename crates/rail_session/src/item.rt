@@ -1,19 +1,20 @@
-// The items of a script: each is a kind (1 byte), a length (2) and a payload. A function that ends
-// an item answers whether the run goes on.
+// The items of a script: each is a kind (1 byte), a length (2) and a payload.
 use crate::faults;
 use crate::faults::Lack;
-use crate::line;
 use crate::show;
+ghost use Prim.Native.Nat.{_≤_};
+ghost use lib.ListN.{length};
 use ids::NotifyIconId;
 use ids::WindowId;
 use libc::STDIN_FILENO;
 use libc::STDOUT_FILENO;
 use session::Reply;
 
-// The head of an item: its kind and the length of its payload.
-enum Head {
-    Item(u8, usize),
-    Nothing,
+// An item that was read: its kind and the length of its payload.
+struct Item {
+    pub whole: bool,
+    pub kind: u8,
+    pub len: usize,
 }
 
 // Whether the run goes on, and what the next call lacks.
@@ -22,88 +23,89 @@ pub(crate) struct Turn {
     pub lack: Lack,
 }
 
-fn bad_item() -> bool {
-    io::write_all(STDOUT_FILENO, b"bad item\n");
-    false
-}
-
-// The end of a run.
-fn no_turn() -> Turn {
+// The end of an item after which nothing is lacking.
+fn ended(on: bool) -> Turn {
     let lack = faults::none();
-    Turn { on: false, lack }
+    Turn { on, lack }
 }
 
-fn bad_turn() -> Turn {
-    bad_item();
-    no_turn()
+fn bad_item() -> Turn {
+    io::write_all(STDOUT_FILENO, b"bad item\n");
+    ended(false)
 }
 
-// The line of a call that hands nothing out.
-fn reply_line(out: &mut [u8], kind: &[u8], r: Reply) -> bool {
-    let n = show::reply(out, kind, r);
-    line::end(out, n)
-}
-
-// E: empties the state.
-fn reset_call(
-    dir: &mut [u8],
-    bodies: &mut [u8],
-    cells: &[u8],
-    journal: &mut [u8],
-    s: &[u8],
-    out: &mut [u8],
-) -> bool {
-    if s.len() != 0 {
-        return bad_item();
+fn no_item() -> Item
+    ensures { λ r. ⌜ r .len ≤ 0 ⌝ }
+{
+    Item {
+        whole: false,
+        kind: 0,
+        len: 0,
     }
-    let r = session::calls::reset(dir, bodies, cells, journal);
-    reply_line(out, b"E ", r)
 }
 
-// D: delivers the order s.
-fn deliver_call(
-    dir: &[u8],
-    bodies: &[u8],
-    cells: &[u8],
-    journal: &mut [u8],
-    s: &[u8],
-    out: &mut [u8],
-) -> bool {
-    let r = session::calls::deliver(dir, bodies, cells, journal, s);
-    reply_line(out, b"D ", r)
+fn cut_item() -> Item
+    ensures { λ r. ⌜ r .len ≤ 0 ⌝ }
+{
+    bad_item();
+    no_item()
 }
 
-// M: sets the mark.
-fn checkpoint_call(
+// Whether an item of a kind can have a payload of len bytes.
+fn is_listed(kind: u8, len: usize) -> bool {
+    match kind {
+        b'E' | b'M' | b'S' => len == 0,
+        b'B' | b'W' => len == 4,
+        b'N' => len == 8,
+        b'C' | b'T' => len == 3,
+        b'X' => len == 6,
+        b'D' => true,
+        _ => false,
+    }
+}
+
+// Reads an item, and its payload into the payload's memory.
+fn read_item(payload: &mut [u8]) -> Item
+    ensures { λ r. ⌜ r .len ≤ length (now (payload .exit)) ⌝ }
+{
+    let mut head = [0u8; 3];
+    let got = io::read_full(STDIN_FILENO, &mut head);
+    if got == 0 {
+        return no_item();
+    }
+    let kind = wire::read_u8(&head, 0);
+    let len = wire::read_u16(&head, 1) as usize;
+    if (got < 3) | !is_listed(kind, len) {
+        return cut_item();
+    }
+    if len > payload.len() {
+        return cut_item();
+    }
+    if io::read_full(STDIN_FILENO, &mut payload[0..len]) < len {
+        return cut_item();
+    }
+    Item {
+        whole: true,
+        kind,
+        len,
+    }
+}
+
+// E, D, M, B: the calls that change the state.
+fn change_call(
     dir: &mut [u8],
     bodies: &mut [u8],
     cells: &mut [u8],
     journal: &mut [u8],
+    kind: u8,
     s: &[u8],
-    out: &mut [u8],
-) -> bool {
-    if s.len() != 0 {
-        return bad_item();
+) -> Reply {
+    match kind {
+        b'E' => session::calls::reset(dir, bodies, cells, journal),
+        b'M' => session::calls::checkpoint(dir, bodies, cells, journal),
+        b'B' => session::calls::undo(dir, bodies, cells, journal, wire::read_u32(s, 0) as u64),
+        _ => session::calls::deliver(dir, bodies, cells, journal, s),
     }
-    let r = session::calls::checkpoint(dir, bodies, cells, journal);
-    reply_line(out, b"M ", r)
-}
-
-// B: steps back.
-fn undo_call(
-    dir: &[u8],
-    bodies: &[u8],
-    cells: &[u8],
-    journal: &mut [u8],
-    s: &[u8],
-    out: &mut [u8],
-) -> bool {
-    if s.len() != 4 {
-        return bad_item();
-    }
-    let k = wire::read_u32(s, 0);
-    let r = session::calls::undo(dir, bodies, cells, journal, k as u64);
-    reply_line(out, b"B ", r)
 }
 
 // W: looks a window up.
@@ -114,21 +116,12 @@ fn window_call(
     journal: &[u8],
     s: &[u8],
     out: &mut [u8],
-) -> bool {
-    if s.len() != 4 {
-        return bad_item();
-    }
+) -> usize {
     let id = WindowId {
         id: wire::read_u32(s, 0),
     };
     let a = session::lookups::window(dir, bodies, cells, journal, id);
-    let r = a.reply;
-    let n = show::reply(out, b"W ", r);
-    if r.number != 0 {
-        return line::end(out, n);
-    }
-    let n = show::window(out, n, id, a.found);
-    line::end(out, n)
+    show::window(out, id, a)
 }
 
 // N: looks a notification icon up.
@@ -139,10 +132,7 @@ fn notification_call(
     journal: &[u8],
     s: &[u8],
     out: &mut [u8],
-) -> bool {
-    if s.len() != 8 {
-        return bad_item();
-    }
+) -> usize {
     let window = WindowId {
         id: wire::read_u32(s, 0),
     };
@@ -150,13 +140,7 @@ fn notification_call(
         id: wire::read_u32(s, 4),
     };
     let a = session::lookups::notification(dir, bodies, cells, journal, window, icon);
-    let r = a.reply;
-    let n = show::reply(out, b"N ", r);
-    if r.number != 0 {
-        return line::end(out, n);
-    }
-    let n = show::notification(out, n, window, icon, a.found);
-    line::end(out, n)
+    show::notification(out, window, icon, a)
 }
 
 // C: looks a cell up.
@@ -167,44 +151,41 @@ fn cell_call(
     journal: &[u8],
     s: &[u8],
     out: &mut [u8],
-) -> bool {
-    if s.len() != 3 {
-        return bad_item();
-    }
+) -> usize {
     let entry = wire::read_u16(s, 0);
     let cache = wire::read_u8(s, 2);
     let a = session::lookups::cell(dir, bodies, cells, journal, cache, entry);
-    let r = a.reply;
-    let n = show::reply(out, b"C ", r);
-    if r.number != 0 {
-        return line::end(out, n);
-    }
-    let n = show::picture(out, n, a.found);
-    line::end(out, n)
+    show::picture(out, a)
 }
 
 // S: looks the desktop state up.
-fn desktop_call(
+fn desktop_call(dir: &[u8], bodies: &[u8], cells: &[u8], journal: &[u8], out: &mut [u8]) -> usize {
+    let a = session::lookups::desktop(dir, bodies, cells, journal);
+    show::desktop(out, a)
+}
+
+fn is_lookup(kind: u8) -> bool {
+    (kind == b'W') | (kind == b'N') | (kind == b'C') | (kind == b'S')
+}
+
+fn look_call(
     dir: &[u8],
     bodies: &[u8],
     cells: &[u8],
     journal: &[u8],
+    kind: u8,
     s: &[u8],
     out: &mut [u8],
-) -> bool {
-    if s.len() != 0 {
-        return bad_item();
+) -> usize {
+    match kind {
+        b'W' => window_call(dir, bodies, cells, journal, s, out),
+        b'N' => notification_call(dir, bodies, cells, journal, s, out),
+        b'C' => cell_call(dir, bodies, cells, journal, s, out),
+        _ => desktop_call(dir, bodies, cells, journal, out),
     }
-    let a = session::lookups::desktop(dir, bodies, cells, journal);
-    let r = a.reply;
-    let n = show::reply(out, b"S ", r);
-    if r.number != 0 {
-        return line::end(out, n);
-    }
-    let n = show::desktop(out, n, a.found);
-    line::end(out, n)
 }
 
+// Makes a call and lays its line, whose length it answers.
 fn call(
     dir: &mut [u8],
     bodies: &mut [u8],
@@ -213,18 +194,12 @@ fn call(
     kind: u8,
     s: &[u8],
     out: &mut [u8],
-) -> bool {
-    match kind {
-        b'E' => reset_call(dir, bodies, cells, journal, s, out),
-        b'D' => deliver_call(dir, bodies, cells, journal, s, out),
-        b'M' => checkpoint_call(dir, bodies, cells, journal, s, out),
-        b'B' => undo_call(dir, bodies, cells, journal, s, out),
-        b'W' => window_call(dir, bodies, cells, journal, s, out),
-        b'N' => notification_call(dir, bodies, cells, journal, s, out),
-        b'C' => cell_call(dir, bodies, cells, journal, s, out),
-        b'S' => desktop_call(dir, bodies, cells, journal, s, out),
-        _ => bad_item(),
+) -> usize {
+    if is_lookup(kind) {
+        return look_call(dir, bodies, cells, journal, kind, s, out);
     }
+    let r = change_call(dir, bodies, cells, journal, kind, s);
+    show::reply(out, kind, r)
 }
 
 // A call, lent what it does not lack.
@@ -237,12 +212,12 @@ fn lent_call(
     s: &[u8],
     out: &mut [u8],
     lack: Lack,
-) -> bool {
+) -> Turn {
     let d = faults::lent(0, dir.len(), lack);
     let b = faults::lent(1, bodies.len(), lack);
     let c = faults::lent(2, cells.len(), lack);
     let j = faults::lent(3, journal.len(), lack);
-    call(
+    let n = call(
         &mut dir[0..d],
         &mut bodies[0..b],
         &mut cells[0..c],
@@ -250,32 +225,16 @@ fn lent_call(
         kind,
         s,
         out,
-    )
-}
-
-// The length of a part; 0 where there is none.
-fn part_len(part: u8, dir: &[u8], bodies: &[u8], cells: &[u8], journal: &[u8]) -> usize {
-    match part {
-        0 => dir.len(),
-        1 => bodies.len(),
-        2 => cells.len(),
-        3 => journal.len(),
-        _ => 0,
-    }
+    );
+    ended(print::end_line(out, n))
 }
 
 // T: the next call is lent a part that is too short.
-fn shorten(dir: &[u8], bodies: &[u8], cells: &[u8], journal: &[u8], s: &[u8]) -> Turn {
-    if s.len() != 3 {
-        return bad_turn();
+fn shorten(s: &[u8]) -> Turn {
+    let lack = faults::shortened(s);
+    if lack.bytes == 0 {
+        return bad_item();
     }
-    let part = wire::read_u8(s, 0);
-    let bytes = wire::read_u16(s, 1) as usize;
-    let len = part_len(part, dir, bodies, cells, journal);
-    if !faults::can_lack(len, bytes) {
-        return bad_turn();
-    }
-    let lack = Lack { part, bytes };
     Turn { on: true, lack }
 }
 
@@ -305,32 +264,15 @@ fn fault(
     cells: &mut [u8],
     journal: &mut [u8],
     s: &[u8],
-) -> bool {
-    if s.len() != 6 {
-        return bad_item();
-    }
+    lack: Lack,
+) -> Turn {
     let part = wire::read_u8(s, 0);
     let at = wire::read_u32(s, 1) as usize;
     let value = wire::read_u8(s, 5);
     if change(dir, bodies, cells, journal, part, at, value) {
-        return true;
+        return Turn { on: true, lack };
     }
     bad_item()
-}
-
-fn read_head() -> Head {
-    let mut head = [0u8; 3];
-    let got = io::read_full(STDIN_FILENO, &mut head);
-    if got == 0 {
-        return Head::Nothing;
-    }
-    if got < 3 {
-        bad_item();
-        return Head::Nothing;
-    }
-    let kind = wire::read_u8(&head, 0);
-    let len = wire::read_u16(&head, 1) as usize;
-    Head::Item(kind, len)
 }
 
 // Runs an item.
@@ -344,19 +286,14 @@ fn run_item(
     out: &mut [u8],
     lack: Lack,
 ) -> Turn {
-    if kind == b'T' {
-        return shorten(dir, bodies, cells, journal, s);
+    match kind {
+        b'T' => shorten(s),
+        b'X' => fault(dir, bodies, cells, journal, s, lack),
+        _ => lent_call(dir, bodies, cells, journal, kind, s, out, lack),
     }
-    if kind == b'X' {
-        let on = fault(dir, bodies, cells, journal, s);
-        return Turn { on, lack };
-    }
-    let on = lent_call(dir, bodies, cells, journal, kind, s, out, lack);
-    let lack = faults::none();
-    Turn { on, lack }
 }
 
-// Reads an item into the payload's memory and runs it, with out as the memory of its line.
+// Reads an item and runs it, with out as the memory of its line.
 pub(crate) fn next(
     dir: &mut [u8],
     bodies: &mut [u8],
@@ -366,21 +303,17 @@ pub(crate) fn next(
     out: &mut [u8],
     lack: Lack,
 ) -> Turn {
-    let Head::Item(kind, len) = read_head() else {
-        return no_turn();
-    };
-    if len > payload.len() {
-        return bad_turn();
+    let i = read_item(payload);
+    if !i.whole {
+        return ended(false);
     }
-    if io::read_full(STDIN_FILENO, &mut payload[0..len]) < len {
-        return bad_turn();
-    }
+    let len = i.len;
     run_item(
         dir,
         bodies,
         cells,
         journal,
-        kind,
+        i.kind,
         &payload[0..len],
         out,
         lack,

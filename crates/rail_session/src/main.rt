@@ -1,7 +1,6 @@
 // Runs a call script of state calls through the library and prints what each call answers.
 mod faults;
 mod item;
-mod line;
 mod show;
 
 // A proved loop has to end, and nothing says that the input does: the items are counted down from

@@ -3,7 +3,6 @@
 mod order;
 pub mod pdu;
 pub mod session;
-pub mod table;
 
 use std::collections::BTreeMap;
 

@@ -4,4 +4,3 @@ pub mod fault;
 pub mod pdu;
 pub mod random;
 pub mod session;
-pub mod table;

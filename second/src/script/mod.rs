@@ -5,7 +5,6 @@ pub mod parts;
 pub mod pdu;
 mod print;
 pub mod session;
-pub mod table;
 
 /// The most bytes that a payload can have.
 pub const PAYLOAD_LIMIT: usize = u16::MAX as usize;

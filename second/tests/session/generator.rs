@@ -109,20 +109,76 @@ fn nothing_expected_is_missing() {
 fn what_is_missing_is_named() {
     let facts = of_seeds(0, 0, 0);
     let missing = facts.missing();
-    for fact in [
-        "D 1",
-        "D new window 10",
-        "D title=520 0",
-        "D title=522 8",
-        "D picture=4225 8",
-        "D cache=255 11",
-        "D clash window icon with 00000010",
-        "D desktop outside=20000000 5",
-        "D bytes=32769 12",
-        "B one too many 13",
-        "B restores cells",
-    ] {
-        assert!(missing.contains(&fact), "{fact}");
+    let numbers = (1..=12).map(|number| format!("D {number}"));
+    let facts_named = numbers.chain(NAMED.map(String::from));
+    for fact in facts_named {
+        assert!(missing.contains(&fact.as_str()), "{fact}");
     }
     assert_eq!(facts.met().count(), 0);
 }
+
+/// The calls, and the limits of document 01's table and history rules.
+const NAMED: [&str; 62] = [
+    "E 0",
+    "D 0",
+    "M 0",
+    "B 0",
+    "B 13",
+    "W 0",
+    "W 9",
+    "N 0",
+    "N 9",
+    "C 0",
+    "C 9",
+    "S 0",
+    "D windows=32 0",
+    "D windows=33 10",
+    "D icons=16 0",
+    "D icons=17 10",
+    "D title=520 0",
+    "D title=522 8",
+    "D tip=256 0",
+    "D tip=258 8",
+    "D text=510 0",
+    "D text=512 8",
+    "D balloon_title=126 0",
+    "D balloon_title=128 8",
+    "D rects=16 0",
+    "D rects=17 8",
+    "D vis_rects=16 0",
+    "D vis_rects=17 8",
+    "D stack=64 0",
+    "D stack=65 8",
+    "D picture=4224 0",
+    "D picture=4225 8",
+    "D width=0 8",
+    "D width=32 0",
+    "D width=33 8",
+    "D height=0 8",
+    "D height=32 0",
+    "D height=33 8",
+    "D entry=5 0",
+    "D entry=6 8",
+    "D cache=1 0",
+    "D cache=2 8",
+    "D cache=255 11",
+    "D cached_entry=5 0",
+    "D cached_entry=6 8",
+    "D cached_cache=1 0",
+    "D cached_cache=2 8",
+    "D cached_cache=255 8",
+    "D new window 10",
+    "D new notification with icon 10",
+    "D small cached icon 11",
+    "D big icon 11",
+    "D clash window icon with 00000010",
+    "D desktop outside=20000000 5",
+    "D orders=128 0",
+    "D orders=129 12",
+    "D bytes=32768 0",
+    "D bytes=32769 12",
+    "B one too many 13",
+    "B restores windows",
+    "B restores cells",
+    "B restores desktop",
+];

@@ -1,0 +1,145 @@
+//! What is listed at the mark.
+
+use crate::kinds::{self, Order};
+
+/// The notify-icon id that is looked up.
+const ICON: u32 = 7;
+
+/// Windows, notification icons and cells that are listed before the orders of a call.
+pub struct Listing {
+    /// For the command line.
+    pub name: &'static str,
+    /// For the table.
+    pub label: &'static str,
+    /// The ids of the windows beside that of the orders.
+    windows: Vec<u32>,
+    /// The notification icons, and all 12 cells, stand where it is full.
+    icons: Vec<(u32, u32)>,
+}
+
+/// All listings: one window, 8, and a table as full as it can be before a new window.
+pub fn listings() -> Vec<Listing> {
+    let counted = |count: u32| (0..count).map(|index| 0x0001_0001 + index).collect();
+    let equal_low = |count: u32| (1..=count).map(|index| kinds::WINDOW + (index << 24));
+    let full = |name, label, windows: Vec<u32>, icon: fn(u32) -> u32| {
+        let last = windows[windows.len() - 1];
+        let icons = (0..15).map(|index| (windows[index as usize], icon(index)));
+        let icons = icons.chain([(last, ICON)]).collect();
+        Listing {
+            name,
+            label,
+            windows,
+            icons,
+        }
+    };
+    vec![
+        Listing {
+            name: "one",
+            label: "One window",
+            windows: counted(1),
+            icons: Vec::new(),
+        },
+        Listing {
+            name: "eight",
+            label: "8 windows",
+            windows: counted(8),
+            icons: Vec::new(),
+        },
+        full("full", "Full table", counted(31), |index| index),
+        full(
+            "equal",
+            "Full table, ids with equal low bytes",
+            equal_low(31).collect(),
+            |index| ICON + (index << 24),
+        ),
+    ]
+}
+
+impl Listing {
+    fn is_full(&self) -> bool {
+        !self.icons.is_empty()
+    }
+
+    /// The window whose updates are in the journal, and which is looked up: the last listed.
+    pub fn updated(&self) -> u32 {
+        self.windows[self.windows.len() - 1]
+    }
+
+    /// The notification icon that is looked up, of that window.
+    pub fn notification(&self) -> (u32, u32) {
+        (self.updated(), ICON)
+    }
+
+    /// What is listed before the orders of a delivery.
+    pub fn orders(&self) -> Vec<Order> {
+        if !self.is_full() {
+            let ids = self.windows.iter();
+            return ids.map(|&id| kinds::small_window(id)).collect();
+        }
+        let windows = self.windows.iter().map(|&id| kinds::large_window(id));
+        let cells = (0..12).map(|cell| {
+            let window = self.windows[usize::from(cell)];
+            kinds::icon_of(window, (cell / 6) as u8, cell % 6)
+        });
+        let icons = self.icons.iter();
+        let icons = icons.map(|&(window, icon)| kinds::notification(window, icon));
+        windows.chain(cells).chain(icons).collect()
+    }
+
+    /// Something of each sort besides: the orders' window with the largest icon, a
+    /// notification icon with texts, and 30 ids in the stacking list.
+    pub fn records(&self) -> Vec<Order> {
+        let icon = kinds::of_size(4_247);
+        let mut orders = self.orders();
+        orders.extend(icon.before.iter().cloned());
+        orders.push(icon.order().clone());
+        if !self.is_full() {
+            let (window, icon) = self.notification();
+            orders.push(kinds::notification(window, icon));
+        }
+        orders.push(kinds::of_size(132).order().clone());
+        orders
+    }
+}
+
+#[cfg(test)]
+mod tests {
+    use super::*;
+    use second::book::Book;
+
+    /// With the orders' window a full listing is a full table.
+    #[test]
+    fn listings_have_what_they_say() {
+        for listing in listings() {
+            let mut book = Book::new();
+            for order in listing.records() {
+                assert_eq!(book.deliver(&order), Ok(()), "{}", listing.label);
+                book.mark();
+            }
+            let table = book.table();
+            let listed = [
+                table.window_ids().count(),
+                table.icon_ids().count(),
+                table.filled_cells().count(),
+            ];
+            let expected = match listing.name {
+                "one" => [2, 1, 1],
+                "eight" => [9, 1, 1],
+                _ => [32, 16, 12],
+            };
+            assert_eq!(listed, expected, "{}", listing.label);
+        }
+    }
+
+    #[test]
+    fn equal_ids_differ_in_their_highest_byte_alone() {
+        let listing = listings().pop().expect("the last listing");
+        assert_eq!(listing.name, "equal");
+        let low = |id: u32| id & 0x00FF_FFFF;
+        assert!(listing
+            .windows
+            .iter()
+            .all(|&id| low(id) == low(kinds::WINDOW)));
+        assert!(listing.icons.iter().all(|&(_, icon)| low(icon) == ICON));
+    }
+}
