@@ -198,7 +198,7 @@ void test_decoders(void) {
     CHECK(rail_word_coordinate(0x8000) == -32768 && rail_word_coordinate(0xFFFF) == -1);
     CHECK(rail_coordinate_word(-1) == 0xFFFF && rail_coordinate_word(-32768) == 0x8000 && rail_coordinate_word(7) == 7);
     CHECK(rail_number(RAIL_HISTORY_BYTES_MAX * 65536u + RAIL_HISTORY_ORDERS_MAX * 256u + 14u) == 14);
-    CHECK(rail_written_number(14u * 65536u) == RAIL_OUTPUT_TOO_SMALL && rail_written_bytes(17052u) == RAIL_MESSAGE_MAX);
+    CHECK(rail_number(RAIL_MESSAGE_MAX * 65536u) == RAIL_DONE && rail_bytes(RAIL_MESSAGE_MAX * 65536u) == RAIL_MESSAGE_MAX);
     CHECK(strcmp(rail_number_words(RAIL_OUTPUT_TOO_SMALL), "output memory too small") == 0);
     CHECK(strcmp(rail_number_words(RAIL_FLAGS_CLASH), "order flags clash") == 0);
     CHECK(strcmp(rail_number_words(15), rail_number_words(UINT32_MAX)) == 0);

@@ -1,13 +1,13 @@
 -- A written record reads back equal. Assumes nothing.
 use mathlib.Core.Path.{_≡_, refl, sym, ap, _∙_}
-use mathlib.Core.Bool.{Bool, true, false, not}
+use mathlib.Core.Bool.{Bool, true, false}
 use mathlib.Core.List.{List, [], _∷_, _++_, map}
-use Prim.Native.Nat.{ℕ, _+_, _/_, _%_, _≤_, _<_}
+use Prim.Native.Nat.{ℕ, _+_, _%_, _≤_, _<_}
 use native.Mathlib.Omega.{arith}
-use lib.ListN.{length, getD, take, drop}
+use lib.ListN.{length, getD, drop}
 use lib.Dec.{leb, ltb, eqb}
 use borrow.Author.Tests.{leb-true, le-ltb, eq-eqb}
-use Rattle.wire.specs.Tests.{pick, both}
+use Rattle.wire.specs.Tests.{both}
 use Rattle.wire.specs.Parts.{splice}
 use Rattle.wire.specs.Numbers.{numAt, numsAt, putAll, total, fitsIn, allFit}
 use Rattle.wire.proofs.Tests.{both-left, both-right}
@@ -17,15 +17,15 @@ use Rattle.pdu.specs.declared.Pdu.the-variants.{Execute, Activate, Syste
 use Rattle.pdu.specs.declared.Span.{Span}
 use Rattle.pdu.specs.declared.Execute as E
 use Rattle.pdu.specs.declared.ExecuteResult as X
-use Rattle.pdu.specs.declared.Read.the-variants.{Message, Refused}
+use Rattle.pdu.specs.declared.Read.the-variants.{Message}
 use Rattle.pdu.specs.Layout.{oneOf, known, widths}
-use Rattle.pdu.specs.Records.{span, isYes, yesNumber, recordOf, kindOf, numsOf, sizeOf, spansOf}
+use Rattle.pdu.specs.Records.{isYes, yesNumber, recordOf, kindOf, numsOf, sizeOf, spansOf}
 use Rattle.pdu.specs.Rules.{textOk, executeFlagsOk, execResults, executeAllowed, executeResultAllowed, allowed}
 use Rattle.pdu.specs.Reading.{recordAs, bodyNumber, readNumber, answerAs, readOf}
 use Rattle.pdu.specs.Writing.{partOf, zeros, filled, stringsOf, joined, row, line, encode, grants}
 use Rattle.pdu.specs.RoundTrip.{rebased, typed, ReadsBack}
 use Rattle.pdu.proofs.Strings.{spansFrom, parts, parts-back, filled-whole}
-use Rattle.pdu.proofs.Writing.{allowed-of, lie-of, stringLengths, string-lengths, size-is, length-encode}
+use Rattle.pdu.proofs.Writing.{allowed-of, stringLengths, string-lengths, length-encode}
 
 -- ---- the record
 

@@ -1,21 +1,18 @@
 -- Strings one after the other: where they stand, and that they are found there. Assumes nothing.
 use mathlib.Core.Path.{_≡_, refl, sym, ap, _∙_}
-use mathlib.Core.Bool.{Bool, true, false}
+use mathlib.Core.Bool.{true}
 use mathlib.Core.List.{List, [], _∷_, _++_, append-assoc, append-nil, map}
 use Prim.Native.Nat.{ℕ, _+_, _≤_}
-use native.Mathlib.Nat.{add-zero}
 use native.Mathlib.Omega.{arith}
-use lib.ListN.{length, take, drop, replicate, length-append}
+use lib.ListN.{length, drop, replicate, length-append}
 use lib.Seq.{drop-length}
-use lib.Dec.{leb, eqb}
 use borrow.Author.Tests.{leb-true, le-leb}
-use Rattle.wire.specs.Tests.{pick, both}
 use Rattle.wire.specs.Parts.{slice, splice}
 use Rattle.wire.proofs.Tests.{both-left, both-right}
-use Rattle.wire.proofs.Parts.{length-slice, length-splice, slice-cut, slice-last, slice-mid, splice-start}
+use Rattle.wire.proofs.Parts.{length-slice, length-splice, slice-cut, slice-mid, splice-start}
 use Rattle.pdu.specs.declared.Span.{Span}
 use Rattle.pdu.specs.Records.{span}
-use Rattle.pdu.specs.Writing.{partOf, lies, allLie, zeros, filled, joined}
+use Rattle.pdu.specs.Writing.{partOf, lies, allLie, zeros, joined}
 
 -- places of strings of these lengths, one after the other from index n on
 abbrev pub spansFrom : ℕ → List ℕ → List Span

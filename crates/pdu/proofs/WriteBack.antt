@@ -1,30 +1,27 @@
 -- A read record is written as the same bytes, but for Padding and start. Assumes nothing.
 use mathlib.Core.Path.{_≡_, refl, sym, ap, _∙_, subst}
 use mathlib.Core.Bool.{Bool, true, false, not}
-use mathlib.Core.List.{List, [], _∷_, _++_, append-nil, map}
+use mathlib.Core.List.{List, [], _∷_, _++_, append-nil}
 use Prim.Native.Nat.{ℕ, suc, _+_, _≤_}
-use native.Mathlib.Nat.{add-zero}
 use native.Mathlib.Omega.{arith}
-use lib.ListN.{length, getD, take, drop, take-append-drop}
+use lib.ListN.{length, take, drop, take-append-drop}
 use lib.Seq.{drop-length}
-use lib.Dec.{leb, ltb, eqb}
-use borrow.Author.Tests.{le-leb, eqb-true}
-use Rattle.wire.specs.Tests.{pick, both}
+use lib.Dec.{ltb, eqb}
+use borrow.Author.Tests.{eqb-true}
+use Rattle.wire.specs.Tests.{pick}
 use Rattle.wire.specs.Parts.{slice, splice}
 use Rattle.wire.specs.Numbers.{numAt, numsAt, bytesOf, putAll, total}
 use Rattle.wire.proofs.Tests.{Each, one-of}
-use Rattle.wire.proofs.Parts.{length-slice, slice-last, splice-append}
+use Rattle.wire.proofs.Parts.{length-slice, splice-append}
 use Rattle.wire.proofs.Numbers.{Bytes, put-nums, length-put}
 use Rattle.pdu.specs.declared.Pdu.{Pdu}
-use Rattle.pdu.specs.declared.Pdu.the-variants.{Execute, Activate, SystemCommand, Handshake, NotifyEvent, WindowMove, MoveSize, MinMaxInfo, ClientInformation, SystemMenu, GetApplicationId, ApplicationIdResponse, ExecuteResult}
-use Rattle.pdu.specs.declared.Span.{Span}
 use Rattle.pdu.specs.declared.Read.{Read}
 use Rattle.pdu.specs.declared.Read.the-variants.{Message, Refused}
 use Rattle.pdu.specs.Layout.{types, known, widths}
-use Rattle.pdu.specs.Records.{span, isYes, yesNumber, recordOf, kindOf, numsOf, sizeOf, spansOf}
+use Rattle.pdu.specs.Records.{isYes, yesNumber, recordOf, kindOf, numsOf, sizeOf, spansOf}
 use Rattle.pdu.specs.Rules.{allowed}
 use Rattle.pdu.specs.Reading.{recordAs, bodyNumber, readNumber, answerAs, readOf}
-use Rattle.pdu.specs.Writing.{partOf, lies, allLie, zeros, filled, stringsOf, joined, row, line, encode, grants}
+use Rattle.pdu.specs.Writing.{allLie, zeros, filled, stringsOf, joined, line, encode, grants}
 use Rattle.pdu.specs.RoundTrip.{tidyAs, tidy, WritesBack}
 use Rattle.pdu.proofs.Strings.{spansFrom, sum, parts, parts-join, all-lie, filled-whole}
 

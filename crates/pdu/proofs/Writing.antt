@@ -1,14 +1,13 @@
 -- The length of what is written, and the ways through writing. Assumes nothing.
-use mathlib.Core.Path.{_≡_, refl, sym, ap, _∙_}
-use mathlib.Core.Bool.{Bool, true, false}
+use mathlib.Core.Path.{_≡_, refl, ap, _∙_}
+use mathlib.Core.Bool.{true, false}
 use mathlib.Core.List.{List, [], _∷_, _++_, map}
-use Prim.Native.Nat.{ℕ, _+_, _≤_, _<_}
+use Prim.Native.Nat.{ℕ, _+_, _≤_}
 use native.Mathlib.Omega.{arith}
 use native.Mathlib.Nat.{add-zero}
-use lib.ListN.{length, getD, take, drop, length-append}
-use lib.Dec.{leb, eqb}
+use lib.ListN.{length, getD, drop, length-append}
+use lib.Dec.{leb}
 use borrow.Author.Tests.{leb-true, le-leb}
-use Rattle.wire.specs.Tests.{both}
 use Rattle.wire.specs.Parts.{splice}
 use Rattle.wire.specs.Numbers.{putAll, total}
 use Rattle.wire.proofs.Tests.{both-left, both-right}
@@ -16,14 +15,13 @@ use Rattle.wire.proofs.Parts.{splice-start}
 use Rattle.wire.proofs.Numbers.{length-put}
 use Rattle.pdu.specs.declared.Pdu.{Pdu}
 use Rattle.pdu.specs.declared.Pdu.the-variants.{Execute, Activate, SystemCommand, Handshake, NotifyEvent, WindowMove, MoveSize, MinMaxInfo, ClientInformation, SystemMenu, GetApplicationId, ApplicationIdResponse, ExecuteResult}
-use Rattle.pdu.specs.declared.Span.{Span}
 use Rattle.pdu.specs.declared.ApplicationIdResponse as A
 use Rattle.pdu.specs.declared.Written.the-variants as W
 use Rattle.pdu.specs.Layout.{widths}
-use Rattle.pdu.specs.Records.{kindOf, numsOf, sizeOf, spansOf}
+use Rattle.pdu.specs.Records.{kindOf, sizeOf, spansOf}
 use Rattle.pdu.specs.Rules.{allowed}
-use Rattle.pdu.specs.Writing.{partOf, lies, allLie, zeros, filled, stringsOf, joined, row, line, encode, grants, writtenNumber, writtenOf, outAfter}
-use Rattle.pdu.proofs.Strings.{lens, lens-lie, sum, parts, length-joined, length-filled}
+use Rattle.pdu.specs.Writing.{partOf, allLie, zeros, filled, stringsOf, joined, row, line, encode, grants, writtenNumber, writtenOf, outAfter}
+use Rattle.pdu.proofs.Strings.{lens-lie, sum, length-joined, length-filled}
 
 pub allowed-of : (p : Pdu) (src : List ℕ) → grants p src ≡ true → allowed p ≡ true
 unfolding grants

@@ -22,7 +22,7 @@ use Rattle.pdu.specs.Reading.{typeAt, recordAs, bodyNumber, readNumber, answerA
 use Rattle.pdu.proofs.Answers.{read-says}
 use Rattle.pdu.proofs.WriteBack.{reading}
 use Rattle.pdu_words.specs.Words.{wordsOf}
-use Rattle.pdu_words.specs.Told.{wordsAfter, Told}
+use Rattle.pdu_read.specs.Told.{wordsAfter, Told}
 use Rattle.pdu_words.specs.FromWords.{u8, u16, u32, Stands, pduOf, fits}
 use Rattle.pdu_words.proofs.FromWords.{words-stand, words-back}
 use Rattle.pdu_read.specs.Answers.{Answerable, answerOf}

@@ -1,10 +1,9 @@
 -- The record of each type from the numbers read, and the ways through reading. Assumes nothing.
 use mathlib.Core.Path.{_≡_, refl, sym, ap, _∙_, subst}
-use mathlib.Core.Bool.{Bool, true, false, not}
+use mathlib.Core.Bool.{true, false}
 use mathlib.Core.List.{List}
 use Prim.Native.Nat.{ℕ, _+_, _≤_, _<_}
 use lib.ListN.{length}
-use lib.Dec.{eqb, ltb}
 use borrow.Author.Tests.{eq-eqb, ne-eqb, le-ltb, lt-ltb}
 use Rattle.wire.specs.Numbers.{numAt, numsAt}
 use Rattle.wire.proofs.Numbers.{Bytes}
@@ -19,7 +18,7 @@ use Rattle.pdu.specs.Answers.{readSays}
 use Rattle.pdu.specs.Reading.{recordAs, bodyNumber, readNumber, answerAs, readOf, bodyOf}
 use Rattle.pdu.specs.RoundTrip.{ReadAgain, ReadOutcome}
 use Rattle.pdu_words.specs.Words.{wordsOf}
-use Rattle.pdu_words.specs.Told.{wordsAfter, Told}
+use Rattle.pdu_read.specs.Told.{wordsAfter, Told}
 use Rattle.pdu.proofs.Answers.{read-says}
 use Rattle.pdu.proofs.WriteBack.{writes-back}
 

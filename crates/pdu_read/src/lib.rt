@@ -19,7 +19,7 @@ use pdu::WindowMove;
 ghost use mathlib.Core.Path.{_≡_};
 ghost use Rattle.pdu.specs.Reading.{bodyOf, readOf};
 ghost use Rattle.pdu.specs.RoundTrip.{ReadOutcome};
-ghost use Rattle.pdu_words.specs.Told.{Told};
+ghost use Rattle.pdu_read.specs.Told.{Told};
 ghost use Rattle.pdu_read.specs.Answers.{Answerable, answerOf};
 
 // ---- the words of a message of each type, whose declared length is right
@@ -309,7 +309,7 @@ fn answer(number: u32, words: [u32; 12]) -> Read
     if number != 0 {
         return Read::Refused(number as u8);
     }
-    Read::Message(pdu_words::record_from(words))
+    Read::Message(pdu_words::record_from(&words))
 }
 
 // The record of a message, its strings where they stand in s, or the first refusal.
@@ -318,5 +318,6 @@ pub fn read_pdu(s: &[u8]) -> Read
 {
     let mut words = [0u32; 12];
     let number = read_words(s, &mut words);
-    answer(number, words)
+    let read = answer(number, words);
+    read
 }

@@ -341,7 +341,7 @@ mod tests {
             all[..words.len()].copy_from_slice(words);
             pdu_write(&all, strings, &mut out)
         };
-        let refused = 8 * 65_536;
+        let refused = 8;
         assert_eq!(written(&[3, 1], &[]), refused);
         assert_eq!(written(&[0x1_0005, 1], &[]), refused);
         assert_eq!(written(&[5, 1, 1], &[]), refused);
@@ -352,7 +352,7 @@ mod tests {
         assert_eq!(written(&[0x0F, 1, u32::MAX, 1], &[0; 4]), refused);
         assert_eq!(written(&[0x0F, 1, 0, u32::MAX], &[0; 4]), refused);
         assert_eq!(written(&[5, 1, 0, 0, 0, 0, 0, 0, 0, 0, 0, 1], &[]), refused);
-        assert_eq!(written(&[5, 1], &[9; 3]), 8);
+        assert_eq!(written(&[5, 1], &[9; 3]), 8 * 65_536);
         assert_eq!(out[..9], [5, 0, 8, 0, 1, 0, 0, 0, 0xEE]);
     }
 }

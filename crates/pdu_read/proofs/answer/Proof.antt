@@ -1,7 +1,7 @@
 -- A number other than 0 is a refusal; with 0 the words stand for the record.
 use native.Mathlib.Omega.{arith}
 use borrow.Author.Tests.{eq-eqb, ne-eqb}
-use mathlib.Core.Path.{sym, ap, _∙_}
+use mathlib.Core.Path.{ap}
 use Rattle.pdu.specs.declared.Read.the-variants.{Message}
 use Rattle.pdu_read.specs.Answers.{answerOf}
 use Rattle.pdu_read.proofs.answer.Statement.{statement}
@@ -14,5 +14,5 @@ answer-spec =
     (tie.spec
     (λ c. omega (arith, c .before .pre .small))
     (λ c. rw (ne-eqb (c .before .args .number) 0 (c .if1 .taken)))
-    (λ c κs. c .before .pre .stands (c .if1 .left))
-    (λ c. let b = c .before .before in rw (eq-eqb (b .args .number) 0 (c .before .if1 .left)) (ap Message (c .record-from .ensures))))
+    (λ c κs. let e = c .before in e .before .pre .stands (e .if1 .left))
+    (λ c. let e = c .before .before in rw (eq-eqb (e .before .args .number) 0 (e .if1 .left)) (ap Message (c .record-from .ensures))))

@@ -1,6 +1,7 @@
 -- A known type: the words stand where each is within its row. Another type: they do not.
 use mathlib.Core.Path.{refl}
 use borrow.Author.Needs.{needs}
+use denote.Ref.{now}
 use Rattle.pdu.specs.Layout.{known}
 use Rattle.pdu_words.proofs.FromWords.{no-type, standing, not-standing}
 use Rattle.pdu_words.proofs.is_record.Statement.{statement}
@@ -25,17 +26,17 @@ is-record-spec =
     (λ c κs. search needs)
     (λ c κs. search needs)
     (λ c κs. search needs)
-    (λ c. standing (c .before .before .args .t1) (c .before .match .keys1) refl (c .is-within .ensures))
-    (λ c. standing (c .before .before .args .t1) (c .before .match .keys2) refl (c .is-within2 .ensures))
-    (λ c. standing (c .before .before .args .t1) (c .before .match .keys3) refl (c .is-within3 .ensures))
-    (λ c. standing (c .before .before .args .t1) (c .before .match .keys4) refl (c .is-within4 .ensures))
-    (λ c. standing (c .before .before .args .t1) (c .before .match .keys5) refl (c .is-within5 .ensures))
-    (λ c. standing (c .before .before .args .t1) (c .before .match .keys6) refl (c .is-within6 .ensures))
-    (λ c. standing (c .before .before .args .t1) (c .before .match .keys7) refl (c .is-within7 .ensures))
-    (λ c. standing (c .before .before .args .t1) (c .before .match .keys8) refl (c .is-within8 .ensures))
-    (λ c. standing (c .before .before .args .t1) (c .before .match .keys9) refl (c .is-within9 .ensures))
-    (λ c. standing (c .before .before .args .t1) (c .before .match .keys10) refl (c .is-within10 .ensures))
-    (λ c. standing (c .before .before .args .t1) (c .before .match .keys11) refl (c .is-within11 .ensures))
-    (λ c. standing (c .before .before .args .t1) (c .before .match .keys12) refl (c .is-within12 .ensures))
-    (λ c. standing (c .before .before .args .t1) (c .before .match .keys13) refl (c .is-within13 .ensures))
-    (λ c. not-standing (c .before .args .t1) (no-type _ (c .match .rest))))
+    (λ c. standing (now (c .before .before .before .args .w)) (c .before .match .keys1) refl (c .is-within .ensures))
+    (λ c. standing (now (c .before .before .before .args .w)) (c .before .match .keys2) refl (c .is-within2 .ensures))
+    (λ c. standing (now (c .before .before .before .args .w)) (c .before .match .keys3) refl (c .is-within3 .ensures))
+    (λ c. standing (now (c .before .before .before .args .w)) (c .before .match .keys4) refl (c .is-within4 .ensures))
+    (λ c. standing (now (c .before .before .before .args .w)) (c .before .match .keys5) refl (c .is-within5 .ensures))
+    (λ c. standing (now (c .before .before .before .args .w)) (c .before .match .keys6) refl (c .is-within6 .ensures))
+    (λ c. standing (now (c .before .before .before .args .w)) (c .before .match .keys7) refl (c .is-within7 .ensures))
+    (λ c. standing (now (c .before .before .before .args .w)) (c .before .match .keys8) refl (c .is-within8 .ensures))
+    (λ c. standing (now (c .before .before .before .args .w)) (c .before .match .keys9) refl (c .is-within9 .ensures))
+    (λ c. standing (now (c .before .before .before .args .w)) (c .before .match .keys10) refl (c .is-within10 .ensures))
+    (λ c. standing (now (c .before .before .before .args .w)) (c .before .match .keys11) refl (c .is-within11 .ensures))
+    (λ c. standing (now (c .before .before .before .args .w)) (c .before .match .keys12) refl (c .is-within12 .ensures))
+    (λ c. standing (now (c .before .before .before .args .w)) (c .before .match .keys13) refl (c .is-within13 .ensures))
+    (λ c. not-standing (now (c .before .before .args .w)) (no-type _ (c .match .rest))))

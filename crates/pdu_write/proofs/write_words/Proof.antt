@@ -8,7 +8,7 @@ use Rattle.pdu_write.proofs.Ways.{stands-for-none, refused-8, refused-1
 use Rattle.pdu_write.proofs.write_words.Statement.{statement}
 use Rattle.pdu_write.proofs.write_words.Tie as tie
 
-stands : (u : tie.Else1) → Stands (u .before .before .before .before .args .w)
+stands : (u : tie.Else1) → Stands (now (u .before .before .before .before .args .w))
 stands u = record { holds = sym (u .before .is-record .ensures) ∙ not-false _ (u .if1 .left) }
 
 pub write-words-spec : {M : Type 1} → statement M
