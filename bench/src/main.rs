@@ -32,9 +32,11 @@ bench: the proved code beside the plain Rust of `second`
   bench orders         print instructions per delivery of an order, and per mark
                        that brings it into the table, as a Markdown table,
                        beside the book of `second`
-  bench state          print instructions and nanoseconds per state call at the C
+  bench state [LISTING]
+                       print instructions and nanoseconds per state call at the C
                        boundary as Markdown tables, beside the book of `second`,
-                       and the aims with what was measured
+                       and the aims with what was measured; LISTING: that table
+                       alone
   bench state-one LISTING CALL ORDERS SIDE N
                        make N state calls and print nothing, for callgrind.
                        LISTING: one, eight, full or equal; ORDERS: in the
@@ -62,7 +64,8 @@ fn main() -> ExitCode {
         ["one", message, side, job, calls] => instructions::one(message, side, job, calls),
         ["messages"] => list_messages(),
         ["orders"] => orders::run(),
-        ["state"] => state::run(),
+        ["state"] => state::run(None),
+        ["state", listing] => state::run(Some(listing)),
         ["state-one", listing, call, orders, side, calls] => {
             state::one(listing, call, orders, side, calls)
         }
@@ -94,7 +97,7 @@ fn everything() -> Result<(), String> {
     println!();
     orders::run()?;
     println!();
-    state::run()
+    state::run(None)
 }
 
 fn list_messages() -> Result<(), String> {

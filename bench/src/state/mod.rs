@@ -63,10 +63,17 @@ impl Side {
     }
 }
 
-/// Prints a table for each listing, once both sides answer alike, and then the aims.
-pub fn run() -> Result<(), String> {
+/// Prints a table for each listing, or for one, once both sides answer alike, and then the aims.
+pub fn run(only: Option<&str>) -> Result<(), String> {
+    let mut listings = listings();
+    if let Some(only) = only {
+        listings.retain(|listing| listing.name == only);
+    }
+    if listings.is_empty() {
+        return Err("no such listing".into());
+    }
     let mut met = Vec::new();
-    for listing in listings() {
+    for listing in listings {
         let jobs = jobs::all(&listing);
         for job in &jobs {
             check_all(job)?;
@@ -153,6 +160,9 @@ impl Measured {
 /// Prints what the calls were to stay under, beside the most that was measured.
 fn print_aims(met: &[Measured]) {
     let is_full = |one: &&Measured| matches!(one.listing, "full" | "equal");
+    if !met.iter().any(|one| is_full(&one)) {
+        return;
+    }
     let of_call = |call: &'static str| met.iter().filter(move |one| one.call == call);
     let most = |figures: Vec<f64>| figures.into_iter().fold(0.0, f64::max);
     let with_8 = |call| {

@@ -8,6 +8,7 @@ use ids::NotifyIconId;
 use ids::WindowId;
 use libc::STDIN_FILENO;
 use libc::STDOUT_FILENO;
+use session::LookupTarget;
 use session::Reply;
 
 // An item that was read: its kind and the length of its payload.
@@ -108,66 +109,27 @@ fn change_call(
     }
 }
 
-// W: looks a window up.
-fn window_call(
-    dir: &[u8],
-    bodies: &[u8],
-    cells: &[u8],
-    journal: &[u8],
-    s: &[u8],
-    out: &mut [u8],
-) -> usize {
-    let id = WindowId {
-        id: wire::read_u32(s, 0),
-    };
-    let a = session::lookups::window(dir, bodies, cells, journal, id);
-    show::window(out, id, a)
-}
-
-// N: looks a notification icon up.
-fn notification_call(
-    dir: &[u8],
-    bodies: &[u8],
-    cells: &[u8],
-    journal: &[u8],
-    s: &[u8],
-    out: &mut [u8],
-) -> usize {
+// What a lookup names.
+fn target_of(kind: u8, s: &[u8]) -> LookupTarget {
     let window = WindowId {
         id: wire::read_u32(s, 0),
     };
     let icon = NotifyIconId {
         id: wire::read_u32(s, 4),
     };
-    let a = session::lookups::notification(dir, bodies, cells, journal, window, icon);
-    show::notification(out, window, icon, a)
-}
-
-// C: looks a cell up.
-fn cell_call(
-    dir: &[u8],
-    bodies: &[u8],
-    cells: &[u8],
-    journal: &[u8],
-    s: &[u8],
-    out: &mut [u8],
-) -> usize {
-    let entry = wire::read_u16(s, 0);
-    let cache = wire::read_u8(s, 2);
-    let a = session::lookups::cell(dir, bodies, cells, journal, cache, entry);
-    show::picture(out, a)
-}
-
-// S: looks the desktop state up.
-fn desktop_call(dir: &[u8], bodies: &[u8], cells: &[u8], journal: &[u8], out: &mut [u8]) -> usize {
-    let a = session::lookups::desktop(dir, bodies, cells, journal);
-    show::desktop(out, a)
+    match kind {
+        b'W' => LookupTarget::Window(window),
+        b'N' => LookupTarget::Notification(window, icon),
+        b'C' => LookupTarget::Cell(wire::read_u8(s, 2), wire::read_u16(s, 0)),
+        _ => LookupTarget::Desktop,
+    }
 }
 
 fn is_lookup(kind: u8) -> bool {
     (kind == b'W') | (kind == b'N') | (kind == b'C') | (kind == b'S')
 }
 
+// W, N, C, S: the lookups.
 fn look_call(
     dir: &[u8],
     bodies: &[u8],
@@ -177,12 +139,10 @@ fn look_call(
     s: &[u8],
     out: &mut [u8],
 ) -> usize {
-    match kind {
-        b'W' => window_call(dir, bodies, cells, journal, s, out),
-        b'N' => notification_call(dir, bodies, cells, journal, s, out),
-        b'C' => cell_call(dir, bodies, cells, journal, s, out),
-        _ => desktop_call(dir, bodies, cells, journal, out),
-    }
+    let target = target_of(kind, s);
+    let mut found = [0u8; layout::PICTURE];
+    let r = session::lookups::look(dir, bodies, cells, journal, target, &mut found);
+    show::found(out, kind, r, target, &found)
 }
 
 // Makes a call and lays its line, whose length it answers.

@@ -1,19 +1,16 @@
-// Records as text: a name=value for each field. Each function that takes the number of an answer lays the whole line.
+// Records as text: a name=value for each field.
 use ids::NotifyIconId;
 use ids::WindowId;
 use print::byte;
 use print::field;
 use print::string;
 use print::text;
-use session::CellReply;
-use session::DesktopReply;
-use session::NotificationReply;
+use session::LookupTarget;
 use session::Reply;
-use session::WindowReply;
 use view::DesktopRecord;
 use view::NotificationRecord;
 use view::Pair;
-use view::Picture;
+use view::PictureRecord;
 use view::Pointer;
 use view::Rectangles;
 use view::Stack;
@@ -26,7 +23,7 @@ fn pair(out: &mut [u8], at: usize, name: &[u8], p: Pair) -> usize {
 
 fn words(out: &mut [u8], at: usize, name: &[u8], t: Text) -> usize {
     let bytes = t.bytes;
-    string(out, at, name, &bytes, 0, t.length as usize)
+    string(out, at, name, &bytes, 0, t.count as usize)
 }
 
 fn pointer(out: &mut [u8], at: usize, name: &[u8], p: Pointer) -> usize {
@@ -52,7 +49,7 @@ fn rectangles(out: &mut [u8], at: usize, name: &[u8], r: Rectangles) -> usize {
 }
 
 fn window_style(out: &mut [u8], at: usize, w: WindowRecord) -> usize {
-    let n = field(out, at, b" owner=", w.owner as u64);
+    let n = field(out, at, b" owner=", w.owner.id as u64);
     let n = field(out, n, b" style=", w.style as u64);
     field(out, n, b" ext=", w.extended_style as u64)
 }
@@ -69,7 +66,7 @@ fn window_client(out: &mut [u8], at: usize, w: WindowRecord) -> usize {
 }
 
 fn window_place(out: &mut [u8], at: usize, w: WindowRecord) -> usize {
-    let n = field(out, at, b" root=", w.root_parent as u64);
+    let n = field(out, at, b" root=", w.root_parent.id as u64);
     let n = pair(out, n, b" offset=", w.window_offset);
     pair(out, n, b" delta=", w.client_delta)
 }
@@ -146,7 +143,7 @@ fn picture_numbers(out: &mut [u8], at: usize, bits: u8, width: u16, height: u16)
     field(out, n, b" height=", height as u64)
 }
 
-fn picture_record(out: &mut [u8], at: usize, p: Picture) -> usize {
+fn picture_record(out: &mut [u8], at: usize, p: PictureRecord) -> usize {
     let n = picture_numbers(out, at, p.bits, p.width, p.height);
     let bytes = p.bytes;
     picture_parts(out, n, &bytes, p.mask, p.table, p.color)
@@ -156,18 +153,27 @@ fn yes_number(b: bool) -> u64 {
     if b { 1 } else { 0 }
 }
 
-// The first k numbers of a list of ids.
-fn ids(out: &mut [u8], at: usize, ns: &[u32], k: usize) -> usize {
+// The first k numbers of a list.
+fn listed(out: &mut [u8], at: usize, ns: &[u32], k: usize) -> usize {
     if k > ns.len() {
         return at;
     }
     print::numbers(out, at, b',', &ns[0..k])
 }
 
+fn numbers_of(ids: [WindowId; 64]) -> [u32; 64] {
+    let mut ns = [0u32; 64];
+    for i in 0..64 {
+        let w = ids[i];
+        ns[i] = w.id;
+    }
+    ns
+}
+
 fn stack(out: &mut [u8], at: usize, s: Stack) -> usize {
     let n = text(out, at, b" stack=");
-    let list = s.ids;
-    ids(out, n, &list, s.count as usize)
+    let list = numbers_of(s.ids);
+    listed(out, n, &list, s.count as usize)
 }
 
 fn desktop_record(out: &mut [u8], at: usize, d: DesktopRecord) -> usize {
@@ -187,43 +193,29 @@ pub(crate) fn reply(out: &mut [u8], kind: u8, r: Reply) -> usize {
     print::pair(out, n, b" ", r.count as u64, b' ', r.bytes as u64)
 }
 
-pub(crate) fn window(out: &mut [u8], id: WindowId, a: WindowReply) -> usize {
-    let r = a.reply;
-    let n = reply(out, b'W', r);
-    if r.number != 0 {
-        return n;
+// The record in the bytes that were handed out.
+fn record(out: &mut [u8], at: usize, target: LookupTarget, bytes: &[u8]) -> usize {
+    match target {
+        LookupTarget::Window(w) => window_record(out, at, w, view::window(bytes)),
+        LookupTarget::Notification(w, n) => {
+            notification_record(out, at, w, n, view::notification(bytes))
+        }
+        LookupTarget::Cell(_, _) => picture_record(out, at, view::picture(bytes)),
+        LookupTarget::Desktop => desktop_record(out, at, view::desktop(bytes)),
     }
-    window_record(out, n, id, a.found)
 }
 
-pub(crate) fn notification(
+// The line of a lookup.
+pub(crate) fn found(
     out: &mut [u8],
-    window: WindowId,
-    icon: NotifyIconId,
-    a: NotificationReply,
+    kind: u8,
+    r: Reply,
+    target: LookupTarget,
+    bytes: &[u8],
 ) -> usize {
-    let r = a.reply;
-    let n = reply(out, b'N', r);
+    let n = reply(out, kind, r);
     if r.number != 0 {
         return n;
     }
-    notification_record(out, n, window, icon, a.found)
-}
-
-pub(crate) fn picture(out: &mut [u8], a: CellReply) -> usize {
-    let r = a.reply;
-    let n = reply(out, b'C', r);
-    if r.number != 0 {
-        return n;
-    }
-    picture_record(out, n, a.found)
-}
-
-pub(crate) fn desktop(out: &mut [u8], a: DesktopReply) -> usize {
-    let r = a.reply;
-    let n = reply(out, b'S', r);
-    if r.number != 0 {
-        return n;
-    }
-    desktop_record(out, n, a.found)
+    record(out, n, target, bytes)
 }
