@@ -1,1 +1,5 @@
 pub mod Outcomes
+pub mod Deliveries
+pub mod Changes
+pub mod Targets
+pub mod Found
