@@ -1,6 +1,6 @@
 -- What a validation establishes for the calls that go on from it: the log of the memory, and an index of its present table.
 -- Assumes nothing.
-use mathlib.Core.Path.{_≡_, refl, sym, ap, _∙_}
+use mathlib.Core.Path.{_≡_, refl, sym, ap, subst, _∙_}
 use mathlib.Core.Bool.{Bool, true, false}
 use mathlib.Core.List.{List, [], _∷_, _++_}
 use Prim.Native.Nat.{ℕ, _+_, _≤_}
@@ -31,6 +31,15 @@ pub record Indexed (m : Memory) (w : JournalExtent) (d : List ℕ) (os : List (L
   pub sound : soundDirectory d ≡ true
   pub directory : directoryOf d ≡ directory (run (markedIn m) os)
 
+-- f holds what the present table has of the target
+pub record Followed (want : Want) (m : Memory) (os : List (List ℕ)) (f : List ℕ) : Type 0 where
+  pub holds : Holds want (run (markedIn m) os) f
+
+-- with the target as the code made it
+pub validated-as : {want want' : Want} {m : Memory} {d f : List ℕ} {w : JournalExtent} {d' f' : List ℕ} → want ≡ want' → Validation want m d f w d' f'
+    → Validation want' m d f w d' f'
+validated-as {m = m} {d = d} {f = f} {w = w} {d' = d'} {f' = f'} e v = subst (λ (want : Want). Validation want m d f w d' f') e v
+
 module _ {want : Want} {m : Memory} {d f : List ℕ} {w : JournalExtent} {d' f' : List ℕ} (v : Validation want m d f w d' f') where
   -- 1
   pub unmet : w .end ≡ 0 → meetsRule m ≡ false
@@ -59,9 +68,9 @@ module _ {want : Want} {m : Memory} {d f : List ℕ} {w : JournalExtent} {d' f' 
         let i = v .means met in
         record { logged = rw (v .extent) (extent-formed m met); sound = i .sound; directory = i .directory }
 
-    pub held : Holds want (run (markedIn m) (logOf (m .journal))) f'
+    pub followed : Followed want m (logOf (m .journal)) f'
     unfolding stateOf
-    held = v .means met .holds
+    followed = record { holds = v .means met .holds }
 
 -- ---- the next order
 

@@ -6,13 +6,15 @@ use mathlib.Core.List.{List, [], _∷_, _++_}
 use Prim.Native.Nat.{ℕ, zero, suc, _+_, _-_, _≤_}
 use native.Mathlib.Omega.{arith}
 use lib.Dec.{ltb}
-use lib.ListN.{length, take, length-append}
+use lib.ListN.{length, take, drop, length-append}
 use lib.Seq.{length-take-le}
 use borrow.Author.Tests.{ltb-false, le-ltb, not-true, not-false}
 use Rattle.wire.specs.Tests.{pick, either}
 use Rattle.wire.specs.Numbers.{bytesOf}
 use Rattle.wire.specs.Parts.{splice}
 use Rattle.wire.proofs.Tests.{both-left, both-right}
+use Rattle.wire.proofs.Numbers.{length-bytes}
+use Rattle.wire.proofs.Parts.{length-splice, drop-splice}
 use Rattle.table.specs.Table.{Table, number}
 use Rattle.table.specs.Memory.{decode, soundTable}
 use Rattle.journal.specs.declared.JournalExtent.{JournalExtent}
@@ -99,6 +101,15 @@ module _ {m : Memory} {w : JournalExtent} {os : List (List ℕ)} (l : Logged m w
   pub logged-high : w .end ≤ journalLength
   logged-high = stored-room (l .stored) (omega arith)
 
+  -- as the code asks for the first n
+  pub logged-within : (n : ℕ) → n ≤ w .count → withinFrom n logStart (m .journal) ≡ true
+  logged-within n h =
+      let r = stored-reads (stored-take n (logStart + bytesIn (take n os)) refl (l .stored)) in
+      ap (λ (k : ℕ). withinFrom k logStart (m .journal)) (sym (length-take-le n os (omega (arith, l .many)))) ∙ r .within
+
+  pub logged-orders : ordersFrom (w .count) logStart (m .journal) ≡ os
+  logged-orders = ap (λ (n : ℕ). ordersFrom n logStart (m .journal)) (l .many) ∙ stored-reads (l .stored) .orders
+
 -- ---- by its tests
 
 length-orders : (n p : ℕ) (j : List ℕ) → length (ordersFrom n p j) ≡ n
@@ -148,6 +159,21 @@ module _ {m : Memory} {w : JournalExtent} {os : List (List ℕ)} (l : Logged m w
 
   two : 2 ≤ length (m .journal)
   two = omega (arith, l .long .journal)
+
+  -- nothing past the room changes
+  pub past-counted : (k : ℕ) → drop journalLength (splice (m .journal) 0 (bytesOf 2 k)) ≡ drop journalLength (m .journal)
+  past-counted k =
+      let n = length-bytes 2 k in
+      drop-splice (m .journal) 0 (bytesOf 2 k) (omega (arith, l .long .journal)) journalLength (omega arith)
+
+  pub past-more : (s : List ℕ) → w .end + length s ≤ journalLength
+      → drop journalLength (splice (splice (m .journal) (w .end) s) 0 (bytesOf 2 (w .count + 1))) ≡ drop journalLength (m .journal)
+  past-more s room =
+      let n = length-bytes 2 (w .count + 1) in
+      let fits : w .end + length s ≤ length (m .journal) = omega (arith, l .long .journal) in
+      let p = length-splice (m .journal) (w .end) s fits in
+      drop-splice (splice (m .journal) (w .end) s) 0 (bytesOf 2 (w .count + 1)) (omega (arith, l .long .journal)) journalLength (omega arith)
+      ∙ drop-splice (m .journal) (w .end) s fits journalLength room
 
   -- one order more that is accepted
   pub logged-more : (s : List ℕ) → number (run (markedIn m) os) s ≡ 0 → w .count ≤ 127 → w .end + length s ≤ journalLength
