@@ -4,14 +4,12 @@ use mathlib.Core.Path.{_≡_}
 use mathlib.Core.Bool.{true}
 use mathlib.Core.List.{List, [], _∷_}
 use lib.ListN.{length}
-use Rattle.wire.specs.Numbers.{Bytes}
 use Rattle.order.specs.declared.Row.{Row}
 use Rattle.order.specs.Rows.{lenOf, okOf}
 use Rattle.body.specs.Bodies.{Body}
 
 -- a field is in its set, and has the bytes that its row and its count ask for, no more
 pub record ValidField (r : Row) (f : List ℕ) : Type 0 where
-  pub bytes : Bytes f
   pub long : length f ≡ lenOf r f 0
   pub set : okOf r f 0 ≡ true
 

@@ -13,15 +13,18 @@ use Rattle.wire.specs.Parts.{slice, padded}
 use Rattle.wire.proofs.Parts.{length-slice, getD-padded, padded-ext, padded-same}
 use Rattle.wire.proofs.Numbers.{num-slice, num-padded, bytes-slice, nums-take}
 use Rattle.order.specs.declared.IconParts.{IconParts}
+use Rattle.order.specs.declared.Row.{Row}
+use Rattle.order.specs.Rows.{rowsFrom, roomOf, lenOf}
 use Rattle.order.specs.Icons.{tabled, partsFrom, partsOf}
-use Rattle.body.specs.Bodies.{windowFields, notificationFields, desktopFields}
+use Rattle.body.specs.Bodies.{fieldIn, fieldsOf, bodyOf, bodyOk}
+use Rattle.body.specs.Stores.{roomAll}
 use Rattle.cache.specs.Cells.{cellOk, pictureOf}
-use Rattle.layout.specs.Layouts.{pictureSize, pictureBytes}
+use Rattle.layout.specs.Layouts.{fieldAt, pictureBytes}
 use Rattle.layout.proofs.LayoutsLossless.{content-few, in-cell, keeps-record}
 use Rattle.layout.proofs.ValidMemory.{valid-body}
 use Rattle.view.specs.declared.PictureRecord.{PictureRecord}
 use Rattle.view.specs.Views.{windowOf, notificationOf, desktopOf, headSize, pictureView}
-use Rattle.view.specs.Lossless.{contentSize, ValidPicture, MemoryValid, ViewsLoseNothing, ShownAsHeld}
+use Rattle.view.specs.Lossless.{BytesEach, ValidRecord, contentSize, ValidPicture, MemoryValid, ViewsLoseNothing, ShownAsHeld}
 use Rattle.view.proofs.ViewsLossless.{window-same, notification-same, desktop-same}
 
 -- ---- the view of a picture, by whether it has a color table
@@ -181,8 +184,27 @@ module _ (cell : List ℕ) (bytes : Bytes cell) (long : 4240 ≤ length cell) (o
   unfolding pictureOf
   valid-picture = valid
 
+bytes-field : (r : Row) (slot : List ℕ) (off : ℕ) → Bytes slot → Bytes (fieldAt r slot off)
+unfolding fieldIn
+bytes-field r slot off b = go (lenOf r (slice slot off (roomOf r)) 0)
+  where
+    go : (n : ℕ) → Bytes (take n (slice slot off (roomOf r)))
+    go n = unfold slice in bytes-slice (slice slot off (roomOf r)) 0 n (bytes-slice slot off (roomOf r) b)
+
+bytes-each : (rows : List Row) (off : ℕ) (slot : List ℕ) → Bytes slot → BytesEach (fieldsOf rows off slot)
+unfolding fieldsOf
+bytes-each [] off slot b = tt
+bytes-each (r ∷ rs) off slot b = (bytes-field r slot off b, bytes-each rs (off + roomOf r) slot b)
+
+valid-record : (low high m n : ℕ) (slot : List ℕ) → Bytes slot → 2 + roomAll (rowsFrom low high) ≤ length slot → bodyOk (rowsFrom low high) m n slot ≡ true
+    → ValidRecord (rowsFrom low high) m n (bodyOf (rowsFrom low high) slot)
+valid-record low high m n slot b inside ok = record { body = valid-body low high m n slot inside ok; bytes = each }
+  where
+    each : BytesEach (bodyOf (rowsFrom low high) slot .fields)
+    each = unfold bodyOf in bytes-each (rowsFrom low high) 2 slot b
+
 pub memory-valid : MemoryValid
-memory-valid = record { body = valid-body; picture = valid-picture }
+memory-valid = record { body = valid-record; picture = valid-picture }
 
 -- ---- what is handed out
 

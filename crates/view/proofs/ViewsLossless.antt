@@ -20,7 +20,7 @@ use Rattle.order.specs.declared.Row.{Row}
 use Rattle.order.specs.Rows.{noRow, textRow, rectanglesRow, idsRow, firstOf, lenOf}
 use Rattle.body.specs.Bodies.{Body, windowFields, notificationFields, desktopFields}
 use Rattle.body.proofs.Placed.{Placed}
-use Rattle.layout.specs.Valid.{ValidField, ValidFields, ValidBody}
+use Rattle.layout.specs.Valid.{ValidField, ValidFields}
 use Rattle.layout.proofs.LayoutsWritten.{placed-at}
 use Rattle.layout.proofs.LayoutsLossless.{short-field}
 use Rattle.view.specs.declared.Pair.{Pair}
@@ -32,7 +32,13 @@ use Rattle.view.specs.declared.WindowRecord.{WindowRecord}
 use Rattle.view.specs.declared.NotificationRecord.{NotificationRecord}
 use Rattle.view.specs.declared.DesktopRecord.{DesktopRecord}
 use Rattle.view.specs.Views.{windowId, eachOf, pairOf, textOf, rectanglesOf, stackOf, pointerOf, windowOf, notificationOf, desktopOf}
+use Rattle.view.specs.Lossless.{BytesEach, ValidRecord}
 use Rattle.view.proofs.ViewsRead.{length-each}
+
+-- a valid field, in bytes
+record Whole (r : Row) (f : List ℕ) : Type 0 where
+  pub valid : ValidField r f
+  pub bytes : Bytes f
 
 -- ---- a field of fixed numbers
 
@@ -60,12 +66,12 @@ unfolding total
 total-each w zero = sym (mul-zero w)
 total-each w (suc n) = rw (total-each w n, mul-suc w n) (omega arith)
 
-module _ (r : Row) {f g : List ℕ} (v : ValidField r f) (u : ValidField r g) where
+module _ (r : Row) {f g : List ℕ} (v : Whole r f) (u : Whole r g) where
   fixed : (ws : List ℕ) → r .unit ≡ 0 → total ws ≡ r .size → numsAt ws f 0 ≡ numsAt ws g 0 → f ≡ g
   unfolding lenOf
   fixed ws z t e =
-      let lf : length f ≡ total ws = v .long ∙ rw (z, t) (omega arith) in
-      let lg : length g ≡ total ws = u .long ∙ rw (z, t) (omega arith) in
+      let lf : length f ≡ total ws = v .valid .long ∙ rw (z, t) (omega arith) in
+      let lg : length g ≡ total ws = u .valid .long ∙ rw (z, t) (omega arith) in
       nums-same ws f g (v .bytes) (u .bytes) lf lg e
 
   -- one number, of 4 bytes or of 1
@@ -93,31 +99,31 @@ module _ (r : Row) {f g : List ℕ} (v : ValidField r f) (u : ValidField r g) wh
 -- ---- by kind: a valid field has no more numbers than its row allows
 
 module _ (flag : ℕ) {f g : List ℕ} where
-  text : (most : ℕ) → most ≤ 520 → Placed (textRow flag most) → ValidField (textRow flag most) f → ValidField (textRow flag most) g → textOf f ≡ textOf g → f ≡ g
+  text : (most : ℕ) → most ≤ 520 → Placed (textRow flag most) → Whole (textRow flag most) f → Whole (textRow flag most) g → textOf f ≡ textOf g → f ≡ g
   unfolding textOf lenOf firstOf
   text most few p v u e =
       let c : numAt 2 f 0 ≡ numAt 2 g 0 = ap (λ (t : Text). t .count) e in
-      let h = short-field (textRow flag most) f p v in
+      let h = short-field (textRow flag most) f p (v .valid) in
       counted (textRow flag most) v u (λ (n : ℕ). n) (λ (n : ℕ). n) 0 1 2 (numAt 2 f 0) 520 (λ i. refl)
-      (v .long) (u .long ∙ ap (λ (n : ℕ). 2 + 1 * n) (sym c)) (omega (arith, v .long)) c
+      (v .valid .long) (u .valid .long ∙ ap (λ (n : ℕ). 2 + 1 * n) (sym c)) (omega (arith, v .valid .long)) c
       (ap (λ (t : Text). t .bytes) e ∙ ap (λ (n : ℕ). padded 0 520 (eachOf (λ (k : ℕ). k) 1 n g 2)) (sym c))
 
-  rectangles : Placed (rectanglesRow flag) → ValidField (rectanglesRow flag) f → ValidField (rectanglesRow flag) g → rectanglesOf f ≡ rectanglesOf g → f ≡ g
+  rectangles : Placed (rectanglesRow flag) → Whole (rectanglesRow flag) f → Whole (rectanglesRow flag) g → rectanglesOf f ≡ rectanglesOf g → f ≡ g
   unfolding rectanglesOf lenOf firstOf
   rectangles p v u e =
       let c : numAt 2 f 0 ≡ numAt 2 g 0 = ap (λ (t : Rectangles). t .count) e in
-      let h = short-field (rectanglesRow flag) f p v in
+      let h = short-field (rectanglesRow flag) f p (v .valid) in
       counted (rectanglesRow flag) v u (λ (n : ℕ). n) (λ (n : ℕ). n) 0 2 2 (4 * numAt 2 f 0) 64 (λ i. refl)
-      (omega (arith, v .long)) (omega (arith, u .long)) (omega (arith, v .long)) c
+      (omega (arith, v .valid .long)) (omega (arith, u .valid .long)) (omega (arith, v .valid .long)) c
       (ap (λ (t : Rectangles). t .sides) e ∙ ap (λ (n : ℕ). padded 0 64 (eachOf (λ (k : ℕ). k) 2 (4 * n) g 2)) (sym c))
 
-  stack : Placed (idsRow flag) → ValidField (idsRow flag) f → ValidField (idsRow flag) g → stackOf f ≡ stackOf g → f ≡ g
+  stack : Placed (idsRow flag) → Whole (idsRow flag) f → Whole (idsRow flag) g → stackOf f ≡ stackOf g → f ≡ g
   unfolding stackOf lenOf firstOf
   stack p v u e =
       let c : numAt 1 f 0 ≡ numAt 1 g 0 = ap (λ (t : Stack). t .count) e in
-      let h = short-field (idsRow flag) f p v in
+      let h = short-field (idsRow flag) f p (v .valid) in
       counted (idsRow flag) v u windowId (λ (w : WindowId). w .id) (windowId 0) 4 1 (numAt 1 f 0) 64 (λ i. refl)
-      (v .long) (u .long ∙ ap (λ (n : ℕ). 1 + 4 * n) (sym c)) (omega (arith, v .long)) c
+      (v .valid .long) (u .valid .long ∙ ap (λ (n : ℕ). 1 + 4 * n) (sym c)) (omega (arith, v .valid .long)) c
       (ap (λ (t : Stack). t .ids) e ∙ ap (λ (n : ℕ). padded (windowId 0) 64 (eachOf windowId 4 n g 1)) (sym c))
 
 -- ---- a mark
@@ -169,11 +175,11 @@ many [] (f ∷ fs) v = absurd v
 many (r ∷ rs) [] v = absurd v
 many (r ∷ rs) (f ∷ fs) v = ap suc (many rs fs (v .1))
 
-valid-at : (rows : List Row) (fs : List (List ℕ)) → ValidFields rows fs → (k : ℕ) → k < length rows → ValidField (getD rows k noRow) (getD fs k [])
-valid-at [] fs v k h = absurd (omega arith)
-valid-at (r ∷ rs) [] v k h = absurd v
-valid-at (r ∷ rs) (f ∷ fs) v zero h = v .0
-valid-at (r ∷ rs) (f ∷ fs) v (suc k) h = valid-at rs fs (v .1) k (omega arith)
+valid-at : (rows : List Row) (fs : List (List ℕ)) → ValidFields rows fs → BytesEach fs → (k : ℕ) → k < length rows → Whole (getD rows k noRow) (getD fs k [])
+valid-at [] fs v b k h = absurd (omega arith)
+valid-at (r ∷ rs) [] v b k h = absurd v
+valid-at (r ∷ rs) (f ∷ fs) v b zero h = record { valid = v .0; bytes = b .0 }
+valid-at (r ∷ rs) (f ∷ fs) v b (suc k) h = valid-at rs fs (v .1) (b .1) k (omega arith)
 
 alike-at : (rows : List Row) (k : ℕ) (fs gs : List (List ℕ)) → Alike rows k fs gs → (i : ℕ) → i < length rows → getD fs (k + i) [] ≡ getD gs (k + i) []
 alike-at [] k fs gs a i h = absurd (omega arith)
@@ -182,11 +188,11 @@ alike-at (r ∷ rs) k fs gs a (suc i) h =
     let e : k + suc i ≡ suc k + i = omega arith in
     ap (λ (j : ℕ). getD fs j []) e ∙ alike-at rs (suc k) fs gs (a .1) i (omega arith) ∙ ap (λ (j : ℕ). getD gs j []) (sym e)
 
-module _ (rows : List Row) (m n : ℕ) (a b : Body) (va : ValidBody rows m n a) (vb : ValidBody rows m n b) where
+module _ (rows : List Row) (m n : ℕ) (a b : Body) (va : ValidRecord rows m n a) (vb : ValidRecord rows m n b) where
   fields-same : Alike rows 0 (a .fields) (b .fields) → a .fields ≡ b .fields
   fields-same e =
-      let la = many rows (a .fields) (va .fields) in
-      let lb = many rows (b .fields) (vb .fields) in
+      let la = many rows (a .fields) (va .body .fields) in
+      let lb = many rows (b .fields) (vb .body .fields) in
       ext-getD [] (a .fields) (b .fields) (la ∙ sym lb)
       (λ i h. ap (λ (j : ℕ). getD (a .fields) j []) (sym (zero-add i)) ∙ alike-at rows 0 (a .fields) (b .fields) e i (omega arith)
       ∙ ap (λ (j : ℕ). getD (b .fields) j []) (zero-add i))
@@ -194,13 +200,13 @@ module _ (rows : List Row) (m n : ℕ) (a b : Body) (va : ValidBody rows m n a) 
   body-same : a .first ≡ b .first → a .second ≡ b .second → Alike rows 0 (a .fields) (b .fields) → a ≡ b
   body-same e f g = λ i. record { first = e i; second = f i; fields = fields-same g i }
 
-  fa : (k : ℕ) → k < length rows → ValidField (getD rows k noRow) (getD (a .fields) k [])
-  fa = valid-at rows (a .fields) (va .fields)
+  fa : (k : ℕ) → k < length rows → Whole (getD rows k noRow) (getD (a .fields) k [])
+  fa = valid-at rows (a .fields) (va .body .fields) (va .bytes)
 
-  fb : (k : ℕ) → k < length rows → ValidField (getD rows k noRow) (getD (b .fields) k [])
-  fb = valid-at rows (b .fields) (vb .fields)
+  fb : (k : ℕ) → k < length rows → Whole (getD rows k noRow) (getD (b .fields) k [])
+  fb = valid-at rows (b .fields) (vb .body .fields) (vb .bytes)
 
-pub window-same : (a b : Body) → ValidBody windowFields 12 12 a → ValidBody windowFields 12 12 b → windowOf a ≡ windowOf b → a ≡ b
+pub window-same : (a b : Body) → ValidRecord windowFields 12 12 a → ValidRecord windowFields 12 12 b → windowOf a ≡ windowOf b → a ≡ b
 unfolding windowOf pairOf
 window-same a b va vb e =
     let u = fa windowFields 12 12 a b va vb in
@@ -253,7 +259,7 @@ window-same a b va vb e =
       ),
     )
 
-pub notification-same : (a b : Body) → ValidBody notificationFields 12 0 a → ValidBody notificationFields 12 0 b → notificationOf a ≡ notificationOf b → a ≡ b
+pub notification-same : (a b : Body) → ValidRecord notificationFields 12 0 a → ValidRecord notificationFields 12 0 b → notificationOf a ≡ notificationOf b → a ≡ b
 unfolding notificationOf
 notification-same a b va vb e =
     let u = fa notificationFields 12 0 a b va vb in
@@ -261,7 +267,7 @@ notification-same a b va vb e =
     let r : ℕ → Row = λ k. getD notificationFields k noRow in
     body-same notificationFields 12 0 a b va vb
     (pointer (a .first) (b .first) (ap (λ (x : NotificationRecord). x .icon) e))
-    (omega (arith, va .second, vb .second)) (
+    (omega (arith, va .body .second, vb .body .second)) (
       number (r 0) (u 0 (omega arith)) (v 0 (omega arith)) 4 refl refl (ap (λ (x : NotificationRecord). x .version) e),
       (
         text 0x00000001 256 (omega arith) (placed-at 17 (omega arith)) (u 1 (omega arith)) (v 1 (omega arith)) (ap (λ (x : NotificationRecord). x .tip) e),
@@ -282,14 +288,14 @@ notification-same a b va vb e =
       ),
     )
 
-pub desktop-same : (a b : Body) → ValidBody desktopFields 1 1 a → ValidBody desktopFields 1 1 b → desktopOf a ≡ desktopOf b → a ≡ b
+pub desktop-same : (a b : Body) → ValidRecord desktopFields 1 1 a → ValidRecord desktopFields 1 1 b → desktopOf a ≡ desktopOf b → a ≡ b
 unfolding desktopOf
 desktop-same a b va vb e =
     let u = fa desktopFields 1 1 a b va vb in
     let v = fb desktopFields 1 1 a b va vb in
     body-same desktopFields 1 1 a b va vb
-    (switch (a .first) (b .first) (va .first) (vb .first) (ap (λ (x : DesktopRecord). x .hooked) e))
-    (switch (a .second) (b .second) (va .second) (vb .second) (ap (λ (x : DesktopRecord). x .syncing) e)) (
+    (switch (a .first) (b .first) (va .body .first) (vb .body .first) (ap (λ (x : DesktopRecord). x .hooked) e))
+    (switch (a .second) (b .second) (va .body .second) (vb .body .second) (ap (λ (x : DesktopRecord). x .syncing) e)) (
       number (getD desktopFields 0 noRow) (u 0 (omega arith)) (v 0 (omega arith)) 4 refl refl (ap (λ (x : DesktopRecord). x .active .id) e),
       (
         stack 0x00000010 (placed-at 23 (omega arith)) (u 1 (omega arith)) (v 1 (omega arith)) (ap (λ (x : DesktopRecord). x .stack) e),

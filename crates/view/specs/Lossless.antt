@@ -3,9 +3,10 @@
 use Prim.Native.Nat.{ℕ, _+_, _≤_}
 use mathlib.Core.Path.{_≡_}
 use mathlib.Core.Bool.{true}
-use mathlib.Core.List.{List}
+use mathlib.Core.List.{List, [], _∷_}
 use lib.ListN.{length}
 use Rattle.wire.specs.Numbers.{Bytes}
+use Rattle.order.specs.declared.Row.{Row}
 use Rattle.order.specs.Rows.{rowsFrom}
 use Rattle.body.specs.Bodies.{Body, windowFields, notificationFields, desktopFields, bodyOf, bodyOk}
 use Rattle.body.specs.Stores.{roomAll}
@@ -15,6 +16,15 @@ use Rattle.layout.specs.Layouts.{recordBytes, pictureBytes}
 use Rattle.view.specs.Views.{windowOf, notificationOf, desktopOf, headSize, pictureView}
 
 -- ---- valid
+
+-- a list of bytes for each field
+abbrev pub BytesEach : List (List ℕ) → Type 0
+BytesEach [] = Unit {0}
+BytesEach (f ∷ fs) = Bytes f × BytesEach fs
+
+pub record ValidRecord (rows : List Row) (m n : ℕ) (b : Body) : Type 0 where
+  pub body : ValidBody rows m n b
+  pub bytes : BytesEach (b .fields)
 
 -- the bytes of a picture's mask, color table and color
 abbrev pub contentSize : List ℕ → ℕ
@@ -29,7 +39,7 @@ pub record ValidPicture (p : List ℕ) : Type 0 where
 -- memory that meets the rule holds such records and pictures
 pub record MemoryValid : Type 0 where
   pub body : (low high m n : ℕ) (slot : List ℕ) → Bytes slot → 2 + roomAll (rowsFrom low high) ≤ length slot → bodyOk (rowsFrom low high) m n slot ≡ true
-      → ValidBody (rowsFrom low high) m n (bodyOf (rowsFrom low high) slot)
+      → ValidRecord (rowsFrom low high) m n (bodyOf (rowsFrom low high) slot)
   pub picture : (cell : List ℕ) → Bytes cell → 4240 ≤ length cell → cellOk cell ≡ true → ValidPicture (pictureOf cell)
 
 -- ---- nothing is lost
@@ -38,9 +48,9 @@ abbrev pub LosesNothing : {A B : Type 0} → (A → Type 0) → (A → B) → Ty
 LosesNothing {A} Valid view = (a b : A) → Valid a → Valid b → view a ≡ view b → a ≡ b
 
 pub record ViewsLoseNothing : Type 0 where
-  pub window : LosesNothing (ValidBody windowFields 12 12) windowOf
-  pub notification : LosesNothing (ValidBody notificationFields 12 0) notificationOf
-  pub desktop : LosesNothing (ValidBody desktopFields 1 1) desktopOf
+  pub window : LosesNothing (ValidRecord windowFields 12 12) windowOf
+  pub notification : LosesNothing (ValidRecord notificationFields 12 0) notificationOf
+  pub desktop : LosesNothing (ValidRecord desktopFields 1 1) desktopOf
   pub picture : LosesNothing ValidPicture pictureView
 
 -- ---- what is handed out is shown as what the table has
