@@ -10,6 +10,7 @@ use Rattle.wire.specs.Parts.{slice, splice}
 use Rattle.order.specs.declared.Row.{Row}
 use Rattle.order.specs.declared.Fit.the-variants.{Ends}
 use Rattle.order.specs.Rows.{allRows, noRow, rowsFrom, roomOf, stepOf, onFit, walkOf}
+use Rattle.protocol.specs.Flags.{desktopArcBegan, desktopArcCompleted, desktopHooked, flagsIcon}
 
 -- the flagged fields put into their places, the first row's at index off
 unfoldable pub storeOf : List Row → ℕ → ℕ → List ℕ → ℕ → List ℕ → List ℕ
@@ -24,16 +25,16 @@ preparedOf fresh slot = pick fresh (splice slot 0 (replicate 916 0)) slot
 
 -- a mark set where an icon or cached icon is carried
 unfoldable pub pointedOf : ℕ → ℕ → ℕ → List ℕ → List ℕ
-pointedOf flags mark v slot = pick (has flags 0xC0000000) (splice slot mark (bytesOf 1 v)) slot
+pointedOf flags mark v slot = pick (has flags flagsIcon) (splice slot mark (bytesOf 1 v)) slot
 
 -- the desktop's marks: 2 sets hooked; 8 starts syncing, 4 ends it
 unfoldable pub hookedOf : ℕ → List ℕ → List ℕ
-hookedOf flags slot = pick (has flags 0x00000002) (splice slot 0 (bytesOf 1 1)) slot
+hookedOf flags slot = pick (has flags desktopHooked) (splice slot 0 (bytesOf 1 1)) slot
 
 unfoldable pub syncedOf : ℕ → List ℕ → List ℕ
 syncedOf flags slot =
-    pick (has flags 0x00000008) (splice slot 1 (bytesOf 1 1))
-    (pick (has flags 0x00000004) (splice slot 1 (bytesOf 1 0)) slot)
+    pick (has flags desktopArcBegan) (splice slot 1 (bytesOf 1 1))
+    (pick (has flags desktopArcCompleted) (splice slot 1 (bytesOf 1 0)) slot)
 
 -- the places that the fields take
 unfoldable pub roomAll : List Row → ℕ

@@ -26,6 +26,7 @@ use Rattle.directory.proofs.Soundness.{same-family, sound-has}
 use Rattle.directory.proofs.Listed.{length-listed, listed-find, listed-many, listed-filled, freed-find, freed-many, freed-filled, length-filled, filled-find, filled-many, filled-filled, cleared-find, cleared-many, cleared-filled, emptied-find, emptied-many, emptied-filled}
 use Rattle.directory.proofs.Planned.{Planned, planned, window-second, second-small}
 use Rattle.directory.proofs.Numbered.{judged-number, planned-desktop, refused-number}
+use Rattle.protocol.specs.Flags.{desktopNone, flagDeleted, flagIcon}
 
 -- two directories that say the same are one
 pub same-directory : (d e : Directory) → ((f : Family) (a b : ℕ) → d .listed f a b ≡ e .listed f a b) → ((f : Family) → d .many f ≡ e .many f)
@@ -46,21 +47,21 @@ there-gone false w = refl
 
 -- ---- the cell that an icon fills
 
-module _ (dir s : List ℕ) (flags icon : ℕ) (long : 444 ≤ length dir) (cell : has flags 0x40000000 ≡ true → cellAt s icon < 12) where
+module _ (dir s : List ℕ) (flags icon : ℕ) (long : 444 ≤ length dir) (cell : has flags flagIcon ≡ true → cellAt s icon < 12) where
   pub length-fill : length (filledOf dir s flags icon) ≡ length dir
   unfolding filledOf
-  length-fill = go (has flags 0x40000000) refl
+  length-fill = go (has flags flagIcon) refl
     where
-      go : (t : Bool) → has flags 0x40000000 ≡ t → length (pick t (splice dir (432 + cellAt s icon) (bytesOf 1 1)) dir) ≡ length dir
+      go : (t : Bool) → has flags flagIcon ≡ t → length (pick t (splice dir (432 + cellAt s icon) (bytesOf 1 1)) dir) ≡ length dir
       go true e = length-filled dir (cellAt s icon) long (cell e)
       go false e = refl
 
   pub fill-find : (g : Family) (p q : ℕ)
       → firstFrom (most g) (start g) (isAt (filledOf dir s flags icon) p q) ≡ firstFrom (most g) (start g) (isAt dir p q)
   unfolding filledOf
-  fill-find g p q = go (has flags 0x40000000) refl
+  fill-find g p q = go (has flags flagIcon) refl
     where
-      go : (t : Bool) → has flags 0x40000000 ≡ t
+      go : (t : Bool) → has flags flagIcon ≡ t
           → firstFrom (most g) (start g) (isAt (pick t (splice dir (432 + cellAt s icon) (bytesOf 1 1)) dir) p q)
           ≡ firstFrom (most g) (start g) (isAt dir p q)
       go true e = filled-find dir (cellAt s icon) long (cell e) g p q
@@ -68,17 +69,17 @@ module _ (dir s : List ℕ) (flags icon : ℕ) (long : 444 ≤ length dir) (cell
 
   pub fill-many : (g : Family) → manyIn g (filledOf dir s flags icon) ≡ manyIn g dir
   unfolding filledOf
-  fill-many g = go (has flags 0x40000000) refl
+  fill-many g = go (has flags flagIcon) refl
     where
-      go : (t : Bool) → has flags 0x40000000 ≡ t → manyIn g (pick t (splice dir (432 + cellAt s icon) (bytesOf 1 1)) dir) ≡ manyIn g dir
+      go : (t : Bool) → has flags flagIcon ≡ t → manyIn g (pick t (splice dir (432 + cellAt s icon) (bytesOf 1 1)) dir) ≡ manyIn g dir
       go true e = filled-many dir (cellAt s icon) long (cell e) g
       go false e = refl
 
   pub fill-filled : (c : ℕ) → filledAt (filledOf dir s flags icon) c ≡ fillBy (filledAt dir) flags s icon c
   unfolding filledOf
-  fill-filled c = go (has flags 0x40000000) refl
+  fill-filled c = go (has flags flagIcon) refl
     where
-      go : (t : Bool) → has flags 0x40000000 ≡ t
+      go : (t : Bool) → has flags flagIcon ≡ t
           → filledAt (pick t (splice dir (432 + cellAt s icon) (bytesOf 1 1)) dir) c ≡ either (both t (eqb (cellAt s icon) c)) (filledAt dir c)
       go true e = filled-filled dir (cellAt s icon) long (cell e) c
       go false e = refl
@@ -122,7 +123,7 @@ module _ (f : Family) (dir s : List ℕ) (c : Change) (p : Planned f dir s c) (s
       go true false w d e r = refl
       go false v w d e r = refl
 
-  deleted-directory : has (c .flags) 0x20000000 ≡ true → directoryOf (freedOf dir (c .slot)) ≡ without (directoryOf dir) f (c .a) (c .b)
+  deleted-directory : has (c .flags) flagDeleted ≡ true → directoryOf (freedOf dir (c .slot)) ≡ without (directoryOf dir) f (c .a) (c .b)
   unfolding directoryOf
   deleted-directory t =
       let e = p .old (p .deleted t) in
@@ -153,7 +154,7 @@ module _ (f : Family) (dir s : List ℕ) (c : Change) (p : Planned f dir s c) (s
       ∙ listed-many f dir (c .slot) (c .a) (c .b) long (p .slot) (n .1) (p .first) small g)
       (λ k.
       fill-filled z s (c .flags) (c .icon) lz (p .icon) k
-      ∙ ap (λ (t : Bool). either (both (has (c .flags) 0x40000000) (eqb (cellAt s (c .icon)) k)) t)
+      ∙ ap (λ (t : Bool). either (both (has (c .flags) flagIcon) (eqb (cellAt s (c .icon)) k)) t)
       (listed-filled f dir (c .slot) (c .a) (c .b) long (p .slot) (n .1) (p .first) small k))
 
   old-directory : c .fresh ≡ false
@@ -167,9 +168,9 @@ module _ (f : Family) (dir s : List ℕ) (c : Change) (p : Planned f dir s c) (s
 
   pub record-directory : directoryOf (markedOf dir s c) ≡ changeRecord (directoryOf dir) f (c .a) (c .b) (c .fresh) (c .flags) s (c .icon)
   unfolding markedOf changeRecord
-  record-directory = go (has (c .flags) 0x20000000) (c .fresh) refl refl
+  record-directory = go (has (c .flags) flagDeleted) (c .fresh) refl refl
     where
-      go : (u t : Bool) → has (c .flags) 0x20000000 ≡ u → c .fresh ≡ t
+      go : (u t : Bool) → has (c .flags) flagDeleted ≡ u → c .fresh ≡ t
           → directoryOf (pick u (freedOf dir (c .slot)) (filledOf (pick t (listedOf dir (c .slot) (c .a) (c .b)) dir) s (c .flags) (c .icon)))
           ≡ pick u (without (directoryOf dir) f (c .a) (c .b)) (with-record (directoryOf dir) f (c .a) (c .b) t (c .flags) s (c .icon))
       go true t d e = deleted-directory d
@@ -193,9 +194,9 @@ emptied-directory dir long =
     (λ f a b. ap there (emptied-find dir long f a b)) (emptied-many dir long) (emptied-filled dir long)
 
 desktop-directory : (dir : List ℕ) (flags : ℕ) → 444 ≤ length dir
-    → directoryOf (pick (has flags 0x00000001) (clearedOf dir) dir) ≡ changeDesktop (directoryOf dir) flags
+    → directoryOf (pick (has flags desktopNone) (clearedOf dir) dir) ≡ changeDesktop (directoryOf dir) flags
 unfolding changeDesktop directoryOf
-desktop-directory dir flags long = go (has flags 0x00000001)
+desktop-directory dir flags long = go (has flags desktopNone)
   where
     go : (t : Bool) → directoryOf (pick t (clearedOf dir) dir)
         ≡ pick t (record { listed = λ f a b. false; many = λ f. 0; filled = directoryOf dir .filled }) (directoryOf dir)

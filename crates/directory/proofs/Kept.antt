@@ -24,6 +24,7 @@ use Rattle.directory.proofs.Memory.{Same, Listed, listed-is, Freed, fre
 use Rattle.directory.proofs.Soundness.{highest, Within, within-slots, same-family, family-same, apart, slot-free, slot-used, slot-own, slot-cases, Sound, sound-has, sound-is}
 use Rattle.directory.proofs.Listed.{length-listed, listed-find, length-freed, freed-find, length-filled, filled-find, length-cleared, found-within}
 use Rattle.directory.proofs.Planned.{Planned, planned, second-small}
+use Rattle.protocol.specs.Flags.{desktopNone, flagDeleted, flagIcon}
 
 -- ---- slots and marks
 
@@ -160,11 +161,11 @@ filled-sound dir c below s =
     go k u false e =
         mark-same dir (splice dir (432 + c) (bytesOf 1 1)) k (filled-is dir c (s .long) below .others k (eqb-false k c e)) (s .marks k u)
 
-pub fill-sound : (dir s : List ℕ) (flags icon : ℕ) → (has flags 0x40000000 ≡ true → cellAt s icon < 12) → Sound dir → Sound (filledOf dir s flags icon)
+pub fill-sound : (dir s : List ℕ) (flags icon : ℕ) → (has flags flagIcon ≡ true → cellAt s icon < 12) → Sound dir → Sound (filledOf dir s flags icon)
 unfolding filledOf
-fill-sound dir s flags icon cell h = go (has flags 0x40000000) refl
+fill-sound dir s flags icon cell h = go (has flags flagIcon) refl
   where
-    go : (t : Bool) → has flags 0x40000000 ≡ t → Sound (pick t (splice dir (432 + cellAt s icon) (bytesOf 1 1)) dir)
+    go : (t : Bool) → has flags flagIcon ≡ t → Sound (pick t (splice dir (432 + cellAt s icon) (bytesOf 1 1)) dir)
     go true e = filled-sound dir (cellAt s icon) (cell e) h
     go false e = h
 
@@ -193,12 +194,12 @@ emptied-sound dir long =
 
 pub record-sound : (f : Family) (dir s : List ℕ) (c : Change) → Planned f dir s c → soundDirectory dir ≡ true → Sound (markedOf dir s c)
 unfolding markedOf
-record-sound f dir s c p sound = go (has (c .flags) 0x20000000) (c .fresh) refl refl
+record-sound f dir s c p sound = go (has (c .flags) flagDeleted) (c .fresh) refl refl
   where
     d : Sound dir
     d = sound-has dir sound
 
-    go : (u t : Bool) → has (c .flags) 0x20000000 ≡ u → c .fresh ≡ t
+    go : (u t : Bool) → has (c .flags) flagDeleted ≡ u → c .fresh ≡ t
         → Sound (pick u (freedOf dir (c .slot)) (filledOf (pick t (listedOf dir (c .slot) (c .a) (c .b)) dir) s (c .flags) (c .icon)))
     go true t x y = freed-sound f dir (c .slot) (c .a) (c .b) sound (p .old (p .deleted x))
     go false true x y =
@@ -218,14 +219,14 @@ marked-sound dir s bytes sound = sound-is (markedBy dir s (planOf dir s)) (go (p
     go : (p : Plan) → planOf dir s ≡ p → Sound (markedBy dir s p)
     go (ChangeWindow c) e = record-sound windows dir s c (planned dir s bytes windows c e) sound
     go (ChangeNotification c) e = record-sound notifications dir s c (planned dir s bytes notifications c e) sound
-    go (ChangeDesktop flags) e = desktop (has flags 0x00000001)
+    go (ChangeDesktop flags) e = desktop (has flags desktopNone)
     go (Refuse n) e = sound-has dir sound
 
 -- ---- lengths
 
 pub length-record : (f : Family) (dir s : List ℕ) (c : Change) → Planned f dir s c → soundDirectory dir ≡ true → length (markedOf dir s c) ≡ length dir
 unfolding markedOf filledOf
-length-record f dir s c p sound = go (has (c .flags) 0x20000000) (c .fresh) (has (c .flags) 0x40000000) refl refl refl
+length-record f dir s c p sound = go (has (c .flags) flagDeleted) (c .fresh) (has (c .flags) flagIcon) refl refl refl
   where
     d : Sound dir
     d = sound-has dir sound
@@ -235,7 +236,7 @@ length-record f dir s c p sound = go (has (c .flags) 0x20000000) (c .fresh) (has
     fill true x l h = length-filled x (cellAt s (c .icon)) l (h refl)
     fill false x l h = refl
 
-    go : (u t v : Bool) → has (c .flags) 0x20000000 ≡ u → c .fresh ≡ t → has (c .flags) 0x40000000 ≡ v
+    go : (u t v : Bool) → has (c .flags) flagDeleted ≡ u → c .fresh ≡ t → has (c .flags) flagIcon ≡ v
         → length
         (pick u (freedOf dir (c .slot))
         (pick v (splice (pick t (listedOf dir (c .slot) (c .a) (c .b)) dir) (432 + cellAt s (c .icon)) (bytesOf 1 1))
@@ -259,5 +260,5 @@ length-marked dir s bytes sound = go (planOf dir s) refl
     go : (p : Plan) → planOf dir s ≡ p → length (markedBy dir s p) ≡ length dir
     go (ChangeWindow c) e = length-record windows dir s c (planned dir s bytes windows c e) sound
     go (ChangeNotification c) e = length-record notifications dir s c (planned dir s bytes notifications c e) sound
-    go (ChangeDesktop flags) e = desktop (has flags 0x00000001)
+    go (ChangeDesktop flags) e = desktop (has flags desktopNone)
     go (Refuse n) e = refl

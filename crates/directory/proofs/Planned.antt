@@ -37,6 +37,7 @@ use Rattle.directory.specs.Directory.{Family, windows, notifications, st
 use Rattle.directory.proofs.Search.{found}
 use Rattle.directory.proofs.Soundness.{highest, Within}
 use Rattle.directory.proofs.Listed.{found-within, free-within}
+use Rattle.protocol.specs.Flags.{desktopArcBegan, desktopArcCompleted, desktopNone, flagBigIcon, flagCachedIcon, flagDeleted, flagIcon, flagNew, flagsIcon}
 
 -- ---- of an order
 
@@ -78,14 +79,14 @@ first-clash true true c d e f g h t = h
 first-clash false b c d e f g h t = let z : _≡_ {A = ℕ} 0 1 = cc in absurd (omega arith)
 
 -- what is deleted is not new
-pub deleted-old : (flags : ℕ) → clash flags ≡ false → has flags 0x20000000 ≡ true → has flags 0x10000000 ≡ false
+pub deleted-old : (flags : ℕ) → clash flags ≡ false → has flags flagDeleted ≡ true → has flags flagNew ≡ false
 deleted-old flags h t =
     let n : has flags 0xD8FFFFFF ≡ false =
-    first-clash (has flags 0x20000000) (has flags 0xD8FFFFFF) (both (has flags 0x40000000) (has flags 0x80000000))
-    (all (isWindow flags ∷ has flags 0xC0000000 ∷ has flags 0x28FFDFFF ∷ [])) (both (has flags 0x00002000) (not (has flags 0xC0000000)))
-    (all (isDesktop flags ∷ has flags 0x00000001 ∷ has flags 0xF8FFFFFE ∷ [])) (all (isDesktop flags ∷ has flags 0x00000004 ∷ has flags 0x00000008 ∷ [])) h t in
+    first-clash (has flags flagDeleted) (has flags 0xD8FFFFFF) (both (has flags flagIcon) (has flags flagCachedIcon))
+    (all (isWindow flags ∷ has flags flagsIcon ∷ has flags 0x28FFDFFF ∷ [])) (both (has flags flagBigIcon) (not (has flags flagsIcon)))
+    (all (isDesktop flags ∷ has flags desktopNone ∷ has flags 0xF8FFFFFE ∷ [])) (all (isDesktop flags ∷ has flags desktopArcCompleted ∷ has flags desktopArcBegan ∷ [])) h t in
     let z : bitAnd flags 0xD8FFFFFF ≡ 0 = eqb-true (bitAnd flags 0xD8FFFFFF) 0 (not-false (eqb (bitAnd flags 0xD8FFFFFF) 0) n) in
-    let y : bitAnd flags 0x10000000 ≡ 0 = bit-unset flags 0xD8FFFFFF 28 z refl in
+    let y : bitAnd flags flagNew ≡ 0 = bit-unset flags 0xD8FFFFFF 28 z refl in
     rw y
 
 -- ---- the families' orders and plans
@@ -188,7 +189,7 @@ placed f dir fresh a b n i e =
 
 -- an icon's cell, where the icon's number is 0
 pub icon-cell : (filled : ℕ → Bool) (flags : ℕ) (s : List ℕ) (icon : ℕ) → 7 ≤ icon → pictureFit flags s icon 0 ≡ Ends (length s) 0
-    → iconNumber filled flags s icon ≡ 0 → has flags 0x40000000 ≡ true → cellAt s icon < 12
+    → iconNumber filled flags s icon ≡ 0 → has flags flagIcon ≡ true → cellAt s icon < 12
 unfolding iconNumber cellAt
 icon-cell filled flags s icon low p n h =
     let i = an-icon flags s icon (omega arith) h p in
@@ -201,7 +202,7 @@ icon-cell filled flags s icon low p n h =
     go false e x y = omega (arith, leb-true (numAt 2 s icon) 5 x, leb-true (numAt 1 s (icon + 2)) 1 y)
 
 pub cached-cell : (filled : ℕ → Bool) (flags : ℕ) (s : List ℕ) (icon : ℕ) → 7 ≤ icon → pictureFit flags s icon 0 ≡ Ends (length s) 0
-    → iconNumber filled flags s icon ≡ 0 → has flags 0x40000000 ≡ false → has flags 0x80000000 ≡ true
+    → iconNumber filled flags s icon ≡ 0 → has flags flagIcon ≡ false → has flags flagCachedIcon ≡ true
     → (cellAt s icon < 12) × (filled (cellAt s icon) ≡ true)
 unfolding iconNumber cellAt
 cached-cell filled flags s icon low p n h g =
@@ -223,12 +224,12 @@ pub record Planned (f : Family) (dir s : List ℕ) (c : Change) : Type 0 where
   pub judged : judgeOf s ≡ judgedOf f (c .a) (c .b) (c .flags) (c .icon)
   pub new : c .fresh ≡ true → (firstFrom (most f) (start f) (isAt dir (c .a) (c .b)) ≡ Nothing) × (isFree dir (c .slot) ≡ true)
   pub old : c .fresh ≡ false → firstFrom (most f) (start f) (isAt dir (c .a) (c .b)) ≡ At (c .slot)
-  pub deleted : has (c .flags) 0x20000000 ≡ true → c .fresh ≡ false
-  pub icon : has (c .flags) 0x40000000 ≡ true → cellAt s (c .icon) < 12
-  pub cached : has (c .flags) 0x40000000 ≡ false → has (c .flags) 0x80000000 ≡ true
+  pub deleted : has (c .flags) flagDeleted ≡ true → c .fresh ≡ false
+  pub icon : has (c .flags) flagIcon ≡ true → cellAt s (c .icon) < 12
+  pub cached : has (c .flags) flagIcon ≡ false → has (c .flags) flagCachedIcon ≡ true
       → (cellAt s (c .icon) < 12) × (filledAt dir (cellAt s (c .icon)) ≡ true)
 
-not-fresh : (f : Family) (flags : ℕ) → has flags 0x10000000 ≡ false → freshOf f flags ≡ false
+not-fresh : (f : Family) (flags : ℕ) → has flags flagNew ≡ false → freshOf f flags ≡ false
 not-fresh windows flags e = rw e
 not-fresh notifications flags e = e
 

@@ -15,11 +15,12 @@ use Rattle.directory.specs.Marks.{markedOf, markedBy, clearedOf}
 use Rattle.directory.specs.Sound.{soundDirectory}
 use Rattle.directory.proofs.Soundness.{within-slots, sound-has}
 use Rattle.directory.proofs.Planned.{changeOf, planned}
+use Rattle.protocol.specs.Flags.{desktopNone, flagIcon}
 
 module _ (dir s : List ℕ) (bytes : Bytes s) (sound : soundDirectory dir ≡ true) {r : Plan} (judged : r ≡ planOf dir s) where
   -- what the change of a record asks
   pub record-asks : (f : Family) (c : Change) → r ≡ changeOf f c
-      → ((444 ≤ length dir) × (c .slot < 48)) × (has (c .flags) 0x40000000 ≡ true → cellAt s (c .icon) < 12)
+      → ((444 ≤ length dir) × (c .slot < 48)) × (has (c .flags) flagIcon ≡ true → cellAt s (c .icon) < 12)
   record-asks f c e =
       let p = planned dir s bytes f c (sym judged ∙ e) in
       ((sound-has dir sound .long, within-slots f (c .slot) (p .slot)), p .icon)
@@ -37,7 +38,7 @@ module _ (dir s : List ℕ) (bytes : Bytes s) (sound : soundDirectory dir ≡ tr
   pub notification-steps : (c : Change) {d : List ℕ} → r ≡ ChangeNotification c → d ≡ markedOf dir s c → Steps 0 d
   notification-steps c e x = by-plan (ChangeNotification c) e (unfold markedBy in x)
 
-  pub desktop-steps : (flags : ℕ) {d : List ℕ} → r ≡ ChangeDesktop flags → d ≡ pick (has flags 0x00000001) (clearedOf dir) dir → Steps 0 d
+  pub desktop-steps : (flags : ℕ) {d : List ℕ} → r ≡ ChangeDesktop flags → d ≡ pick (has flags desktopNone) (clearedOf dir) dir → Steps 0 d
   desktop-steps flags e x = by-plan (ChangeDesktop flags) e (unfold markedBy in x)
 
   pub refused-steps : (n : ℕ) → r ≡ Refuse n → Steps n dir

@@ -30,6 +30,7 @@ use Rattle.directory.specs.Slots.{isUsed, isFree, isAt, firstFrom, fille
 use Rattle.directory.specs.Plans.{freshWindow, freshNotification, cellAt, iconNumber, besidesIcon, placeOf, planWindow, planNotification, planOf}
 use Rattle.directory.specs.Marks.{listedOf, freedOf, filledOf, markedOf, clearedOf, emptiedOf}
 use Rattle.directory.specs.Sound.{slotsOk, slotOk, marksOk, soundDirectory}
+use Rattle.protocol.specs.Flags.{desktopNone, flagCachedIcon, flagDeleted, flagIcon}
 
 -- ---- a slot and a cell
 
@@ -139,28 +140,28 @@ unfolding cellAt
 cell-of s icon e f = rw (e, f)
 
 module _ (filled : ℕ → Bool) (flags : ℕ) (s : List ℕ) (icon : ℕ) where
-  module _ (h : bitAnd flags 0x40000000 ≡ 0 → ⊥) {b : ℕ} (e : b ≡ numAt 1 s (icon + 2)) where
+  module _ (h : bitAnd flags flagIcon ≡ 0 → ⊥) {b : ℕ} (e : b ≡ numAt 1 s (icon + 2)) where
     pub icon-absent : b ≡ 0xFF → 11 ≡ iconNumber filled flags s icon
     unfolding iconNumber
-    icon-absent g = rw (ne-eqb (bitAnd flags 0x40000000) 0 h, ← e, eq-eqb b 0xFF g)
+    icon-absent g = rw (ne-eqb (bitAnd flags flagIcon) 0 h, ← e, eq-eqb b 0xFF g)
 
     pub icon-good : (b ≡ 0xFF → ⊥) → 0 ≡ iconNumber filled flags s icon
     unfolding iconNumber
-    icon-good g = rw (ne-eqb (bitAnd flags 0x40000000) 0 h, ← e, ne-eqb b 0xFF g)
+    icon-good g = rw (ne-eqb (bitAnd flags flagIcon) 0 h, ← e, ne-eqb b 0xFF g)
 
-  module _ (h : bitAnd flags 0x40000000 ≡ 0) where
-    module _ (g : bitAnd flags 0x80000000 ≡ 0 → ⊥) {c : ℕ} (e : c ≡ cellAt s icon) {t : Bool} (f : t ≡ filled c) where
+  module _ (h : bitAnd flags flagIcon ≡ 0) where
+    module _ (g : bitAnd flags flagCachedIcon ≡ 0 → ⊥) {c : ℕ} (e : c ≡ cellAt s icon) {t : Bool} (f : t ≡ filled c) where
       pub cached-good : t ≡ true → 0 ≡ iconNumber filled flags s icon
       unfolding iconNumber
-      cached-good x = rw (eq-eqb (bitAnd flags 0x40000000) 0 h, ne-eqb (bitAnd flags 0x80000000) 0 g, ← e, ← f, x)
+      cached-good x = rw (eq-eqb (bitAnd flags flagIcon) 0 h, ne-eqb (bitAnd flags flagCachedIcon) 0 g, ← e, ← f, x)
 
       pub cached-empty : t ≡ false → 11 ≡ iconNumber filled flags s icon
       unfolding iconNumber
-      cached-empty x = rw (eq-eqb (bitAnd flags 0x40000000) 0 h, ne-eqb (bitAnd flags 0x80000000) 0 g, ← e, ← f, x)
+      cached-empty x = rw (eq-eqb (bitAnd flags flagIcon) 0 h, ne-eqb (bitAnd flags flagCachedIcon) 0 g, ← e, ← f, x)
 
-    pub no-icon : bitAnd flags 0x80000000 ≡ 0 → 0 ≡ iconNumber filled flags s icon
+    pub no-icon : bitAnd flags flagCachedIcon ≡ 0 → 0 ≡ iconNumber filled flags s icon
     unfolding iconNumber
-    no-icon g = rw (eq-eqb (bitAnd flags 0x40000000) 0 h, eq-eqb (bitAnd flags 0x80000000) 0 g)
+    no-icon g = rw (eq-eqb (bitAnd flags flagIcon) 0 h, eq-eqb (bitAnd flags flagCachedIcon) 0 g)
 
 -- ---- 9 and 10
 
@@ -243,31 +244,31 @@ unfolding listedOf
 listed-bytes dir i a b e f g = rw (← e, ← f) g
 
 module _ (dir s : List ℕ) (flags icon : ℕ) where
-  pub fill-none : bitAnd flags 0x40000000 ≡ 0 → dir ≡ filledOf dir s flags icon
+  pub fill-none : bitAnd flags flagIcon ≡ 0 → dir ≡ filledOf dir s flags icon
   unfolding filledOf
-  fill-none h = rw (eq-eqb (bitAnd flags 0x40000000) 0 h)
+  fill-none h = rw (eq-eqb (bitAnd flags flagIcon) 0 h)
 
-  module _ (h : bitAnd flags 0x40000000 ≡ 0 → ⊥) {c : ℕ} (e : c ≡ cellAt s icon) where
-    pub fill-small : (has flags 0x40000000 ≡ true → cellAt s icon < 12) → c < 12
-    fill-small f = rw e (f (ap not (ne-eqb (bitAnd flags 0x40000000) 0 h)))
+  module _ (h : bitAnd flags flagIcon ≡ 0 → ⊥) {c : ℕ} (e : c ≡ cellAt s icon) where
+    pub fill-small : (has flags flagIcon ≡ true → cellAt s icon < 12) → c < 12
+    fill-small f = rw e (f (ap not (ne-eqb (bitAnd flags flagIcon) 0 h)))
 
     pub fill-cell : {x : List ℕ} → x ≡ splice dir (432 + c) (bytesOf 1 1) → x ≡ filledOf dir s flags icon
     unfolding filledOf
-    fill-cell g = rw (ne-eqb (bitAnd flags 0x40000000) 0 h, ← e) g
+    fill-cell g = rw (ne-eqb (bitAnd flags flagIcon) 0 h, ← e) g
 
 module _ (dir s : List ℕ) (c : Change) {x : List ℕ} where
-  pub mark-deleted : (bitAnd (c .flags) 0x20000000 ≡ 0 → ⊥) → x ≡ splice dir (9 * c .slot) (bytesOf 1 0) → x ≡ markedOf dir s c
+  pub mark-deleted : (bitAnd (c .flags) flagDeleted ≡ 0 → ⊥) → x ≡ splice dir (9 * c .slot) (bytesOf 1 0) → x ≡ markedOf dir s c
   unfolding markedOf freedOf
-  mark-deleted h g = rw (ne-eqb (bitAnd (c .flags) 0x20000000) 0 h) g
+  mark-deleted h g = rw (ne-eqb (bitAnd (c .flags) flagDeleted) 0 h) g
 
-  module _ (h : bitAnd (c .flags) 0x20000000 ≡ 0) where
+  module _ (h : bitAnd (c .flags) flagDeleted ≡ 0) where
     pub mark-new : {y : List ℕ} → c .fresh ≡ true → y ≡ listedOf dir (c .slot) (c .a) (c .b) → x ≡ filledOf y s (c .flags) (c .icon) → x ≡ markedOf dir s c
     unfolding markedOf
-    mark-new t e g = rw (eq-eqb (bitAnd (c .flags) 0x20000000) 0 h, t, ← e) g
+    mark-new t e g = rw (eq-eqb (bitAnd (c .flags) flagDeleted) 0 h, t, ← e) g
 
     pub mark-kept : c .fresh ≡ false → x ≡ filledOf dir s (c .flags) (c .icon) → x ≡ markedOf dir s c
     unfolding markedOf
-    mark-kept t g = rw (eq-eqb (bitAnd (c .flags) 0x20000000) 0 h, t) g
+    mark-kept t g = rw (eq-eqb (bitAnd (c .flags) flagDeleted) 0 h, t) g
 
 pub cleared : (dir : List ℕ) {x : List ℕ} → x ≡ splice dir 0 (replicate 432 0) → x ≡ clearedOf dir
 unfolding clearedOf
@@ -322,8 +323,8 @@ module _ (dir : List ℕ) where
       unfolding soundDirectory
       sound-marks x y = rw (le-ltb (length dir) 444 h, ← e, f, ← g, x) y
 
-pub listed-kept : (flags : ℕ) (dir : List ℕ) → bitAnd flags 0x00000001 ≡ 0 → dir ≡ pick (has flags 0x00000001) (clearedOf dir) dir
+pub listed-kept : (flags : ℕ) (dir : List ℕ) → bitAnd flags 0x00000001 ≡ 0 → dir ≡ pick (has flags desktopNone) (clearedOf dir) dir
 listed-kept flags dir h = rw (eq-eqb (bitAnd flags 0x00000001) 0 h)
 
-pub listed-none : (flags : ℕ) (dir : List ℕ) {x : List ℕ} → (bitAnd flags 0x00000001 ≡ 0 → ⊥) → x ≡ clearedOf dir → x ≡ pick (has flags 0x00000001) (clearedOf dir) dir
+pub listed-none : (flags : ℕ) (dir : List ℕ) {x : List ℕ} → (bitAnd flags 0x00000001 ≡ 0 → ⊥) → x ≡ clearedOf dir → x ≡ pick (has flags desktopNone) (clearedOf dir) dir
 listed-none flags dir h e = rw (ne-eqb (bitAnd flags 0x00000001) 0 h) e

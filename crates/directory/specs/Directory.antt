@@ -10,6 +10,7 @@ use Rattle.order.specs.declared.Judged.the-variants.{Window, Notification, Desk
 use Rattle.order.specs.Judge.{judgeOf}
 use Rattle.directory.specs.Slots.{isUsed, isAt, firstFrom, countFrom, onFound, filledAt}
 use Rattle.directory.specs.Plans.{freshWindow, freshNotification, cellAt, iconNumber}
+use Rattle.protocol.specs.Flags.{desktopNone, flagDeleted, flagIcon}
 
 -- the two families of records that are listed by ids: a window has one id (its second is 0), a notification icon two
 pub data Family : Type 0 where
@@ -77,11 +78,11 @@ abbrev pub sameRecord : Family → ℕ → ℕ → Family → ℕ → ℕ → Bo
 sameRecord f a b g x y = both (sameFamily f g) (both (eqb a x) (eqb b y))
 
 abbrev pub fillBy : (ℕ → Bool) → ℕ → List ℕ → ℕ → ℕ → Bool
-fillBy filled flags s icon c = either (both (has flags 0x40000000) (eqb (cellAt s icon) c)) (filled c)
+fillBy filled flags s icon c = either (both (has flags flagIcon) (eqb (cellAt s icon) c)) (filled c)
 
 unfoldable pub changeRecord : Directory → Family → ℕ → ℕ → Bool → ℕ → List ℕ → ℕ → Directory
 changeRecord d f a b fresh flags s icon =
-    pick (has flags 0x20000000)
+    pick (has flags flagDeleted)
     (record {
       listed = λ g x y. pick (sameRecord f a b g x y) false (d .listed g x y);
       many = λ g. pick (sameFamily f g) (d .many g - 1) (d .many g);
@@ -95,7 +96,7 @@ changeRecord d f a b fresh flags s icon =
 
 -- desktop none: no record is listed, cells stay
 unfoldable pub changeDesktop : Directory → ℕ → Directory
-changeDesktop d flags = pick (has flags 0x00000001) (record { listed = λ f a b. false; many = λ f. 0; filled = d .filled }) d
+changeDesktop d flags = pick (has flags desktopNone) (record { listed = λ f a b. false; many = λ f. 0; filled = d .filled }) d
 
 abbrev pub changeOn : Directory → List ℕ → Judged → Directory
 changeOn d s (Window o) = changeRecord d windows (o .window .id) 0 (freshWindow (o .flags)) (o .flags) s (o .icon)

@@ -10,6 +10,7 @@ use Rattle.directory.specs.declared.Change.{Change}
 use Rattle.directory.specs.declared.Plan.{Plan}
 use Rattle.directory.specs.declared.Plan.the-variants.{ChangeWindow, ChangeNotification, ChangeDesktop, Refuse}
 use Rattle.directory.specs.Plans.{cellAt, planOf}
+use Rattle.protocol.specs.Flags.{desktopNone, flagDeleted, flagIcon}
 
 -- the ids a and b listed in slot i
 unfoldable pub listedOf : List ℕ → ℕ → ℕ → ℕ → List ℕ
@@ -21,11 +22,11 @@ freedOf dir i = splice dir (9 * i) (bytesOf 1 0)
 
 -- the cell marked that an icon fills
 unfoldable pub filledOf : List ℕ → List ℕ → ℕ → ℕ → List ℕ
-filledOf dir s flags icon = pick (has flags 0x40000000) (splice dir (432 + cellAt s icon) (bytesOf 1 1)) dir
+filledOf dir s flags icon = pick (has flags flagIcon) (splice dir (432 + cellAt s icon) (bytesOf 1 1)) dir
 
 unfoldable pub markedOf : List ℕ → List ℕ → Change → List ℕ
 markedOf dir s c =
-    pick (has (c .flags) 0x20000000) (freedOf dir (c .slot))
+    pick (has (c .flags) flagDeleted) (freedOf dir (c .slot))
     (filledOf (pick (c .fresh) (listedOf dir (c .slot) (c .a) (c .b)) dir) s (c .flags) (c .icon))
 
 -- no record listed
@@ -40,5 +41,5 @@ emptiedOf dir = splice dir 0 (replicate 444 0)
 unfoldable pub markedBy : List ℕ → List ℕ → Plan → List ℕ
 markedBy dir s (ChangeWindow c) = markedOf dir s c
 markedBy dir s (ChangeNotification c) = markedOf dir s c
-markedBy dir s (ChangeDesktop flags) = pick (has flags 0x00000001) (clearedOf dir) dir
+markedBy dir s (ChangeDesktop flags) = pick (has flags desktopNone) (clearedOf dir) dir
 markedBy dir s (Refuse n) = dir

@@ -16,13 +16,14 @@ use Rattle.directory.specs.declared.Change.{Change}
 use Rattle.directory.specs.declared.Plan.{Plan}
 use Rattle.directory.specs.declared.Plan.the-variants.{ChangeWindow, ChangeNotification, ChangeDesktop, Refuse}
 use Rattle.directory.specs.Slots.{isFree, isAt, firstFrom, onFound, filledAt}
+use Rattle.protocol.specs.Flags.{flagCachedIcon, flagIcon, flagNew, flagsIcon}
 
 -- a new record is asked for; on window icon orders the new bit is ignored
 abbrev pub freshWindow : ℕ → Bool
-freshWindow flags = both (has flags 0x10000000) (not (has flags 0xC0000000))
+freshWindow flags = both (has flags flagNew) (not (has flags flagsIcon))
 
 abbrev pub freshNotification : ℕ → Bool
-freshNotification flags = has flags 0x10000000
+freshNotification flags = has flags flagNew
 
 -- the cell that an icon or cached icon names: entry 2, cache id 1
 unfoldable pub cellAt : List ℕ → ℕ → ℕ
@@ -31,8 +32,8 @@ cellAt s icon = 6 * numAt 1 s (icon + 2) + numAt 2 s icon
 -- 11: an icon with cache id FF, or a cached icon naming an empty cell; else 0
 unfoldable pub iconNumber : (ℕ → Bool) → ℕ → List ℕ → ℕ → ℕ
 iconNumber filled flags s icon =
-    pick (has flags 0x40000000) (pick (eqb (numAt 1 s (icon + 2)) 0xFF) 11 0)
-    (pick (has flags 0x80000000) (pick (filled (cellAt s icon)) 0 11)
+    pick (has flags flagIcon) (pick (eqb (numAt 1 s (icon + 2)) 0xFF) 11 0)
+    (pick (has flags flagCachedIcon) (pick (filled (cellAt s icon)) 0 11)
     0)
 
 -- ---- on the memory: the slot of the record, or the number of the refusal

@@ -51,7 +51,7 @@ fn plan_window(dir: &[u8], s: &[u8], o: WindowOrder) -> Plan
     let icon = o.icon;
     let a = o.window.id;
     let n = places::icon_number(dir, s, flags, icon);
-    let fresh = (flags & 0x1000_0000 != 0) & !(flags & 0xC000_0000 != 0);
+    let fresh = (flags & protocol::NEW != 0) & !(flags & protocol::ANY_ICON != 0);
     let p = places::slot_for(dir, 0, 32, fresh, a, 0, n);
     match p {
         Place::Not(number) => Plan::Refuse(number),
@@ -74,7 +74,7 @@ fn plan_notification(dir: &[u8], s: &[u8], o: NotificationOrder) -> Plan
     let a = o.window.id;
     let b = o.notify.id;
     let n = places::icon_number(dir, s, flags, icon);
-    let fresh = flags & 0x1000_0000 != 0;
+    let fresh = flags & protocol::NEW != 0;
     let p = places::slot_for(dir, 32, 16, fresh, a, b, n);
     match p {
         Place::Not(number) => Plan::Refuse(number),

@@ -6,6 +6,7 @@ ghost use lib.ListN.{length};
 ghost use Rattle.wire.specs.Tests.{pick, has};
 ghost use Rattle.directory.specs.Plans.{cellAt};
 ghost use Rattle.directory.specs.Marks.{listedOf, filledOf, markedOf, clearedOf, emptiedOf};
+ghost use Rattle.protocol.specs.Flags.{desktopNone, flagIcon};
 use crate::Change;
 use crate::places;
 
@@ -22,10 +23,10 @@ fn list(dir: &mut [u8], i: usize, a: u32, b: u32)
 // Marks the cell as filled that an icon names.
 fn fill(dir: &mut [u8], s: &[u8], flags: u32, icon: u32)
     requires { ⌜ 444 ≤ length (now dir) ⌝ }
-    requires { ⌜ (has flags 0x40000000 ≡ true → cellAt (now s) icon < 12) ⌝ }
+    requires { ⌜ (has flags flagIcon ≡ true → cellAt (now s) icon < 12) ⌝ }
     ensures { λ _. ⌜ now (dir .exit) ≡ filledOf (now (dir .entry)) (now (s .entry)) flags icon ⌝ }
 {
-    if flags & 0x4000_0000 == 0 {
+    if flags & protocol::ICON == 0 {
         return;
     }
     let c = places::cell(s, icon);
@@ -35,11 +36,11 @@ fn fill(dir: &mut [u8], s: &[u8], flags: u32, icon: u32)
 // Notes the change of a record.
 pub fn mark(dir: &mut [u8], s: &[u8], c: Change)
     requires { ⌜ (444 ≤ length (now dir)) × (c .slot < 48) ⌝ }
-    requires { ⌜ (has (c .flags) 0x40000000 ≡ true → cellAt (now s) (c .icon) < 12) ⌝ }
+    requires { ⌜ (has (c .flags) flagIcon ≡ true → cellAt (now s) (c .icon) < 12) ⌝ }
     ensures { λ _. ⌜ now (dir .exit) ≡ markedOf (now (dir .entry)) (now (s .entry)) c ⌝ }
 {
     let flags = c.flags;
-    if flags & 0x2000_0000 != 0 {
+    if flags & protocol::DELETED != 0 {
         wire::write_u8(dir, 9 * c.slot, 0);
         return;
     }
@@ -63,9 +64,9 @@ fn clear(dir: &mut [u8])
 // Desktop none lists no record.
 pub fn none(dir: &mut [u8], flags: u32)
     requires { ⌜ 444 ≤ length (now dir) ⌝ }
-    ensures { λ _. ⌜ now (dir .exit) ≡ pick (has flags 0x00000001) (clearedOf (now (dir .entry))) (now (dir .entry)) ⌝ }
+    ensures { λ _. ⌜ now (dir .exit) ≡ pick (has flags desktopNone) (clearedOf (now (dir .entry))) (now (dir .entry)) ⌝ }
 {
-    if flags & 0x0000_0001 == 0 {
+    if flags & protocol::DESKTOP_NONE == 0 {
         return;
     }
     clear(dir);

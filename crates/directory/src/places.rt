@@ -21,14 +21,14 @@ pub fn cell(s: &[u8], icon: u32) -> usize
 pub fn icon_number(dir: &[u8], s: &[u8], flags: u32, icon: u32) -> u8
     ensures { λ r. ⌜ r ≡ iconNumber (filledAt (now (dir .entry))) flags (now (s .entry)) icon ⌝ }
 {
-    if flags & 0x4000_0000 != 0 {
+    if flags & protocol::ICON != 0 {
         let at = icon as usize;
         if wire::read_u8(s, at + 2) == 0xFF {
             return 11;
         }
         return 0;
     }
-    if flags & 0x8000_0000 != 0 {
+    if flags & protocol::CACHED_ICON != 0 {
         let c = cell(s, icon);
         if slots::is_filled(dir, c) {
             return 0;

@@ -5,8 +5,8 @@ use mathlib.Core.Path.{_≡_}
 use mathlib.Core.Bool.{true}
 use mathlib.Core.List.{List}
 use lib.ListN.{length}
-use Rattle.ids.specs.declared.WindowId.{WindowId}
-use Rattle.ids.specs.declared.NotifyIconId.{NotifyIconId}
+use Rattle.protocol.specs.declared.WindowId.{WindowId}
+use Rattle.protocol.specs.declared.NotifyIconId.{NotifyIconId}
 use Rattle.body.specs.Bodies.{Body, windowFields, notificationFields, desktopFields}
 use Rattle.cache.specs.Cells.{pictureOf, cellOk}
 use Rattle.layout.specs.Valid.{ValidBody}

@@ -26,6 +26,7 @@ use Rattle.wire.proofs.Tests.{both-right}
 use Rattle.order.proofs.Absent.{bare-icon, unlisted}
 use Rattle.order.proofs.Pictures.{picture-none, laid}
 use Rattle.order.proofs.Carried.{fit-kept, stepped, carried}
+use Rattle.protocol.specs.Flags.{desktopArcBegan, desktopArcCompleted, desktopFlags, desktopNone, flagBigIcon, flagCachedIcon, flagDeleted, flagIcon, flagsIcon}
 
 pub record Accepted (s : List ℕ) : Type 0 where
   pub long : 7 ≤ length s
@@ -44,7 +45,7 @@ pub record Accepted (s : List ℕ) : Type 0 where
 
 picture-kept : (flags : ℕ) (s : List ℕ) (at bad q : ℕ) → pictureFit flags s at bad ≡ Ends q 0 → bad ≡ 0
 unfolding pictureFit iconFit cachedFit
-picture-kept flags s at bad q e = go (has flags 0x40000000) (has flags 0x80000000) e
+picture-kept flags s at bad q e = go (has flags flagIcon) (has flags flagCachedIcon) e
   where
     go : (b c : Bool) → pick b (iconFit s at bad) (pick c (cachedFit s at bad) (Ends at bad)) ≡ Ends q 0 → bad ≡ 0
     go true c e = fit-kept (leb (partsOf s at .end) (length s)) (partsOf s at .end) bad (iconBad s at) (partsCut at (length s) (partsOf s at)) q e
@@ -165,14 +166,14 @@ Kinded s (Desktop o) = ADesktop s o
 Kinded s (Refused r) = Unit {0}
 
 -- a desktop order has no icon, by its closed list
-desktop-list : (flags : ℕ) → isWindow flags ≡ false → isNotification flags ≡ false → closed flags ≡ true → bitAnd flags 0x0400003F ≡ flags
+desktop-list : (flags : ℕ) → isWindow flags ≡ false → isNotification flags ≡ false → closed flags ≡ true → bitAnd flags desktopFlags ≡ flags
 desktop-list flags a b c =
-    let d : both (isDesktop flags) (inList flags 0x0400003F) ≡ true = rw (a, b) at c in
-    eqb-true (bitAnd flags 0x0400003F) flags (both-right (isDesktop flags) (inList flags 0x0400003F) d)
+    let d : both (isDesktop flags) (inList flags desktopFlags) ≡ true = rw (a, b) at c in
+    eqb-true (bitAnd flags desktopFlags) flags (both-right (isDesktop flags) (inList flags desktopFlags) d)
 
-desktop-ends : (flags : ℕ) (s : List ℕ) (at q : ℕ) → bitAnd flags 0x0400003F ≡ flags → pictureFit flags s at 0 ≡ Ends q 0 → at ≡ q
+desktop-ends : (flags : ℕ) (s : List ℕ) (at q : ℕ) → bitAnd flags desktopFlags ≡ flags → pictureFit flags s at 0 ≡ Ends q 0 → at ≡ q
 desktop-ends flags s at q l e =
-    let n : Ends at 0 ≡ Ends q 0 = picture-none s at 0 flags (unlisted flags 0x0400003F 30 l refl) (unlisted flags 0x0400003F 31 l refl) ∙ e in
+    let n : Ends at 0 ≡ Ends q 0 = picture-none s at 0 flags (unlisted flags desktopFlags 30 l refl) (unlisted flags desktopFlags 31 l refl) ∙ e in
     cc
 
 kinded : (s : List ℕ) → numberOf (judgeOf s) ≡ 0 → Kinded s (judgeOf s)
@@ -228,14 +229,14 @@ id-only flags s q l e =
     let z = zero-mul (firstOf r s 7) in
     omega (arith, c .ends, n, z)
 
-pub window-icon : (s : List ℕ) (w : Accepted s) → isWindow (flagsOf s) ≡ true → has (flagsOf s) 0xC0000000 ≡ true → w .icon ≡ 11
+pub window-icon : (s : List ℕ) (w : Accepted s) → isWindow (flagsOf s) ≡ true → has (flagsOf s) flagsIcon ≡ true → w .icon ≡ 11
 unfolding fieldsFit
 window-icon s w t h =
     let flags = flagsOf s in
     let n : has flags 0x28FFDFFF ≡ false =
-    no-clash (both (has flags 0x20000000) (has flags 0xD8FFFFFF)) (both (has flags 0x40000000) (has flags 0x80000000)) (isWindow flags) (has flags 0xC0000000)
-    (has flags 0x28FFDFFF) (both (has flags 0x00002000) (not (has flags 0xC0000000))) (all (isDesktop flags ∷ has flags 0x00000001 ∷ has flags 0xF8FFFFFE ∷ []))
-    (all (isDesktop flags ∷ has flags 0x00000004 ∷ has flags 0x00000008 ∷ [])) t h (w .agrees) in
+    no-clash (both (has flags flagDeleted) (has flags 0xD8FFFFFF)) (both (has flags flagIcon) (has flags flagCachedIcon)) (isWindow flags) (has flags flagsIcon)
+    (has flags 0x28FFDFFF) (both (has flags flagBigIcon) (not (has flags flagsIcon))) (all (isDesktop flags ∷ has flags desktopNone ∷ has flags 0xF8FFFFFE ∷ []))
+    (all (isDesktop flags ∷ has flags desktopArcCompleted ∷ has flags desktopArcBegan ∷ [])) t h (w .agrees) in
     let z : bitAnd flags 0x28FFDFFF ≡ 0 = eqb-true (bitAnd flags 0x28FFDFFF) 0 (not-false (eqb (bitAnd flags 0x28FFDFFF) 0) n) in
     let f : walkOf windowRows flags s 7 0 ≡ Ends (w .icon) 0 = rw t at (w .fields) in
     id-only flags s (w .icon) (w .long) (bare-icon flags s z ∙ f)
@@ -260,7 +261,7 @@ pub record AnIcon (s : List ℕ) (at : ℕ) : Type 0 where
   pub height : sideOk (numAt 2 s (at + 6)) ≡ true
   pub bytes : partsOf s at .end - partsOf s at .mask ≤ 4224
 
-pub an-icon : (flags : ℕ) (s : List ℕ) (at : ℕ) → 1 ≤ at → has flags 0x40000000 ≡ true → pictureFit flags s at 0 ≡ Ends (length s) 0 → AnIcon s at
+pub an-icon : (flags : ℕ) (s : List ℕ) (at : ℕ) → 1 ≤ at → has flags flagIcon ≡ true → pictureFit flags s at 0 ≡ Ends (length s) 0 → AnIcon s at
 unfolding pictureFit iconFit iconBad
 an-icon flags s at l h e =
     let p = partsOf s at in
@@ -294,7 +295,7 @@ pub record ACached (s : List ℕ) (at : ℕ) : Type 0 where
   pub entry : numAt 2 s at ≤ 5
   pub cache : numAt 1 s (at + 2) ≤ 1
 
-pub a-cached : (flags : ℕ) (s : List ℕ) (at : ℕ) → 1 ≤ at → has flags 0x40000000 ≡ false → has flags 0x80000000 ≡ true
+pub a-cached : (flags : ℕ) (s : List ℕ) (at : ℕ) → 1 ≤ at → has flags flagIcon ≡ false → has flags flagCachedIcon ≡ true
     → pictureFit flags s at 0 ≡ Ends (length s) 0 → ACached s at
 unfolding pictureFit cachedFit cachedBad
 a-cached flags s at l h g e =

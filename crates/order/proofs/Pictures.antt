@@ -16,6 +16,7 @@ use Rattle.order.specs.declared.Fit.the-variants.{Ends, Short}
 use Rattle.order.specs.Rows.{firstBad, Within}
 use Rattle.order.specs.Icons.{tabled, partsFrom, partsOf, entryOk, cacheOk, bitsOk, sideOk, iconNumbersBad, iconBad, cachedNumbersBad, cachedBad, headCut, partsCut, iconFit, cachedFit, pictureFit}
 use Rattle.order.proofs.Fields.{bad-within}
+use Rattle.protocol.specs.Flags.{flagCachedIcon, flagIcon}
 
 -- ---- the parts
 
@@ -128,17 +129,17 @@ module _ (s : List ℕ) (at bad : ℕ) where
   cached-short l e = rw (lt-leb 3 (length s - at) l, e)
 
   module _ (flags : ℕ) {f : Fit} where
-    pub picture-icon : (bitAnd flags 0x40000000 ≡ 0 → ⊥) → f ≡ iconFit s at bad → f ≡ pictureFit flags s at bad
+    pub picture-icon : (bitAnd flags flagIcon ≡ 0 → ⊥) → f ≡ iconFit s at bad → f ≡ pictureFit flags s at bad
     unfolding pictureFit
-    picture-icon h e = rw (ne-eqb (bitAnd flags 0x40000000) 0 h) e
+    picture-icon h e = rw (ne-eqb (bitAnd flags flagIcon) 0 h) e
 
-    pub picture-cached : bitAnd flags 0x40000000 ≡ 0 → (bitAnd flags 0x80000000 ≡ 0 → ⊥) → f ≡ cachedFit s at bad → f ≡ pictureFit flags s at bad
+    pub picture-cached : bitAnd flags flagIcon ≡ 0 → (bitAnd flags flagCachedIcon ≡ 0 → ⊥) → f ≡ cachedFit s at bad → f ≡ pictureFit flags s at bad
     unfolding pictureFit
-    picture-cached g h e = rw (eq-eqb (bitAnd flags 0x40000000) 0 g, ne-eqb (bitAnd flags 0x80000000) 0 h) e
+    picture-cached g h e = rw (eq-eqb (bitAnd flags flagIcon) 0 g, ne-eqb (bitAnd flags flagCachedIcon) 0 h) e
 
-  pub picture-none : (flags : ℕ) → bitAnd flags 0x40000000 ≡ 0 → bitAnd flags 0x80000000 ≡ 0 → Ends at bad ≡ pictureFit flags s at bad
+  pub picture-none : (flags : ℕ) → bitAnd flags flagIcon ≡ 0 → bitAnd flags flagCachedIcon ≡ 0 → Ends at bad ≡ pictureFit flags s at bad
   unfolding pictureFit
-  picture-none flags g h = rw (eq-eqb (bitAnd flags 0x40000000) 0 g, eq-eqb (bitAnd flags 0x80000000) 0 h)
+  picture-none flags g h = rw (eq-eqb (bitAnd flags flagIcon) 0 g, eq-eqb (bitAnd flags flagCachedIcon) 0 h)
 
 -- ---- every offset lies within the order
 
@@ -188,7 +189,7 @@ module _ (s : List ℕ) (at bad : ℕ) (in-at : at ≤ length s) (in-bad : bad �
 
   pub picture-within : (flags : ℕ) → Within (pictureFit flags s at bad) (length s)
   unfolding pictureFit
-  picture-within flags = go (has flags 0x40000000) (has flags 0x80000000)
+  picture-within flags = go (has flags flagIcon) (has flags flagCachedIcon)
     where
       go : (b c : Bool) → Within (pick b (iconFit s at bad) (pick c (cachedFit s at bad) (Ends at bad))) (length s)
       go true c = icon-within

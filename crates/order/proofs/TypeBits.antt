@@ -5,6 +5,7 @@ use native.Mathlib.Nat.{add-zero, div-div-eq-div-mul}
 use native.Mathlib.Omega.{arith}
 use lib.Bits.{bitAnd, and-high}
 use lib.Count.{ones, ones-step, ones-cat}
+use Rattle.protocol.specs.Flags.{flagDesktop, flagNotification, flagWindow}
 
 ones-three : (n : ℕ) → n < 8 → ones n ≡ n % 2 + n / 2 % 2 + n / 4 % 2
 unfolding ones
@@ -26,16 +27,16 @@ bit2 : (y : ℕ) → y % 8 / 4 % 2 ≡ y / 4 % 2
 bit2 y = omega arith
 
 -- the ones of a field of three bits at bit 24
-masked : (n : ℕ) → ones (bitAnd n 0x07000000) ≡ ones (n / 0x01000000 % 8)
+masked : (n : ℕ) → ones (bitAnd n 0x07000000) ≡ ones (n / flagWindow % 8)
 unfolding ones
 masked n =
-    ap ones (and-high n 3 24 ∙ sym (add-zero (n / 0x01000000 % 8 * 0x01000000)))
-    ∙ ones-cat 24 (n / 0x01000000 % 8) 0 (omega arith)
-    ∙ add-zero (ones (n / 0x01000000 % 8))
+    ap ones (and-high n 3 24 ∙ sym (add-zero (n / flagWindow % 8 * flagWindow)))
+    ∙ ones-cat 24 (n / flagWindow % 8) 0 (omega arith)
+    ∙ add-zero (ones (n / flagWindow % 8))
 
-pub type-ones : (n : ℕ) → ones (bitAnd n 0x07000000) ≡ n / 0x01000000 % 2 + n / 0x02000000 % 2 + n / 0x04000000 % 2
+pub type-ones : (n : ℕ) → ones (bitAnd n 0x07000000) ≡ n / flagWindow % 2 + n / flagNotification % 2 + n / flagDesktop % 2
 type-ones n =
-    let y = n / 0x01000000 in
-    let h1 : y / 2 ≡ n / 0x02000000 = div-div-eq-div-mul n 0x01000000 2 in
-    let h2 : y / 4 ≡ n / 0x04000000 = div-div-eq-div-mul n 0x01000000 4 in
+    let y = n / flagWindow in
+    let h1 : y / 2 ≡ n / flagNotification = div-div-eq-div-mul n flagWindow 2 in
+    let h2 : y / 4 ≡ n / flagDesktop = div-div-eq-div-mul n flagWindow 4 in
     masked n ∙ ones-three (y % 8) (omega arith) ∙ rw (bit0 y, bit1 y, bit2 y, h1, h2)

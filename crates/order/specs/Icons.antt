@@ -10,6 +10,7 @@ use Rattle.order.specs.declared.IconParts.{IconParts}
 use Rattle.order.specs.declared.Fit.{Fit}
 use Rattle.order.specs.declared.Fit.the-variants.{Ends, Short}
 use Rattle.order.specs.Rows.{firstBad}
+use Rattle.protocol.specs.Flags.{flagCachedIcon, flagIcon}
 
 -- the bits per pixel that have a color table
 abbrev pub tabled : ℕ → Bool
@@ -93,6 +94,6 @@ cachedFit s at bad =
 
 unfoldable pub pictureFit : ℕ → List ℕ → ℕ → ℕ → Fit
 pictureFit flags s at bad =
-    pick (has flags 0x40000000) (iconFit s at bad)
-    (pick (has flags 0x80000000) (cachedFit s at bad)
+    pick (has flags flagIcon) (iconFit s at bad)
+    (pick (has flags flagCachedIcon) (cachedFit s at bad)
     (Ends at bad))

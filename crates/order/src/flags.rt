@@ -6,25 +6,31 @@ ghost use Rattle.order.specs.Flags.{oneType, closed, clash};
 pub fn one_type(flags: u32) -> bool
     ensures { λ r. ⌜ r ≡ oneType flags ⌝ }
 {
-    u32::count_ones(flags & 0x0700_0000) == 1
+    u32::count_ones(flags & protocol::TYPES) == 1
 }
 
 // No bit stands outside the closed list of the order's kind.
 pub fn in_closed(flags: u32) -> bool
     ensures { λ r. ⌜ r ≡ closed flags ⌝ }
 {
-    ((flags & 0x0100_0000 != 0) & (flags & 0xF107_FF1E == flags))
-        | ((flags & 0x0200_0000 != 0) & (flags & 0xF200_000F == flags))
-        | ((flags & 0x0400_0000 != 0) & (flags & 0x0400_003F == flags))
+    ((flags & protocol::WINDOW != 0) & (flags & protocol::WINDOW_FLAGS == flags))
+        | ((flags & protocol::NOTIFICATION != 0) & (flags & protocol::NOTIFICATION_FLAGS == flags))
+        | ((flags & protocol::DESKTOP != 0) & (flags & protocol::DESKTOP_FLAGS == flags))
 }
 
 pub fn clashes(flags: u32) -> bool
     ensures { λ r. ⌜ r ≡ clash flags ⌝ }
 {
-    ((flags & 0x2000_0000 != 0) & (flags & 0xD8FF_FFFF != 0))
-        | ((flags & 0x4000_0000 != 0) & (flags & 0x8000_0000 != 0))
-        | ((flags & 0x0100_0000 != 0) & (flags & 0xC000_0000 != 0) & (flags & 0x28FF_DFFF != 0))
-        | ((flags & 0x0000_2000 != 0) & !(flags & 0xC000_0000 != 0))
-        | ((flags & 0x0400_0000 != 0) & (flags & 0x0000_0001 != 0) & (flags & 0xF8FF_FFFE != 0))
-        | ((flags & 0x0400_0000 != 0) & (flags & 0x0000_0004 != 0) & (flags & 0x0000_0008 != 0))
+    ((flags & protocol::DELETED != 0) & (flags & 0xD8FF_FFFF != 0))
+        | ((flags & protocol::ICON != 0) & (flags & protocol::CACHED_ICON != 0))
+        | ((flags & protocol::WINDOW != 0)
+            & (flags & protocol::ANY_ICON != 0)
+            & (flags & 0x28FF_DFFF != 0))
+        | ((flags & protocol::BIG_ICON != 0) & !(flags & protocol::ANY_ICON != 0))
+        | ((flags & protocol::DESKTOP != 0)
+            & (flags & protocol::DESKTOP_NONE != 0)
+            & (flags & 0xF8FF_FFFE != 0))
+        | ((flags & protocol::DESKTOP != 0)
+            & (flags & protocol::DESKTOP_ARC_COMPLETED != 0)
+            & (flags & protocol::DESKTOP_ARC_BEGAN != 0))
 }

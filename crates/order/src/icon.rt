@@ -178,10 +178,10 @@ pub fn picture(s: &[u8], flags: u32, at: usize, bad: usize) -> Fit
     requires { ⌜ (at ≤ length (now s)) × (bad ≤ length (now s)) ⌝ }
     ensures { λ r. ⌜ (r ≡ pictureFit flags (now (s .entry)) at bad) × Within r (length (now (s .entry))) ⌝ }
 {
-    if flags & 0x4000_0000 != 0 {
+    if flags & protocol::ICON != 0 {
         return icon_fit(s, at, bad);
     }
-    if flags & 0x8000_0000 != 0 {
+    if flags & protocol::CACHED_ICON != 0 {
         return cached_fit(s, at, bad);
     }
     Fit::Ends(at, bad)

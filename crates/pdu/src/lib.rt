@@ -1,6 +1,6 @@
 // The control messages (PDUs) as records, and document 01's rules for their numbers.
-use ids::NotifyIconId;
-use ids::WindowId;
+use protocol::NotifyIconId;
+use protocol::WindowId;
 ghost use mathlib.Core.Path.{_≡_};
 ghost use Rattle.pdu.specs.Rules.{textOk, executeFlagsOk, commands, execResults, executeAllowed, moveSizeAllowed, executeResultAllowed};
 ghost use Rattle.pdu.specs.Layout.{oneOf};

@@ -1,6 +1,4 @@
 // Control messages read from lent bytes: to words, and through them to a record.
-use ids::NotifyIconId;
-use ids::WindowId;
 use pdu::Activate;
 use pdu::ApplicationIdResponse;
 use pdu::ClientInformation;
@@ -16,6 +14,8 @@ use pdu::Span;
 use pdu::SystemCommand;
 use pdu::SystemMenu;
 use pdu::WindowMove;
+use protocol::NotifyIconId;
+use protocol::WindowId;
 ghost use mathlib.Core.Path.{_≡_};
 ghost use Rattle.pdu.specs.Reading.{bodyOf, readOf};
 ghost use Rattle.pdu.specs.RoundTrip.{ReadOutcome};

@@ -1,7 +1,5 @@
 // The record of a P item. Its payload s has the size of the output memory at 0, the type at 2 and
 // the fields from 4 on; the strings stand after the fields.
-use ids::NotifyIconId;
-use ids::WindowId;
 use pdu::Activate;
 use pdu::ApplicationIdResponse;
 use pdu::ClientInformation;
@@ -17,6 +15,8 @@ use pdu::Span;
 use pdu::SystemCommand;
 use pdu::SystemMenu;
 use pdu::WindowMove;
+use protocol::NotifyIconId;
+use protocol::WindowId;
 ghost use Prim.Native.Nat.{_<_};
 use wire::read_u8;
 use wire::read_u16;

@@ -4,10 +4,10 @@ use crate::faults::Lack;
 use crate::show;
 ghost use Prim.Native.Nat.{_≤_};
 ghost use lib.ListN.{length};
-use ids::NotifyIconId;
-use ids::WindowId;
 use libc::STDIN_FILENO;
 use libc::STDOUT_FILENO;
+use protocol::NotifyIconId;
+use protocol::WindowId;
 use session::LookupTarget;
 use session::Reply;
 

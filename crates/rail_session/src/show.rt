@@ -1,10 +1,10 @@
 // Records as text: a name=value for each field.
-use ids::NotifyIconId;
-use ids::WindowId;
 use print::byte;
 use print::field;
 use print::string;
 use print::text;
+use protocol::NotifyIconId;
+use protocol::WindowId;
 use session::LookupTarget;
 use session::Reply;
 use view::DesktopRecord;

@@ -9,8 +9,8 @@ ghost use Rattle.session.specs.Outcome.{replied, CallOutcome};
 ghost use Rattle.model.specs.Wellformed.{emptiedState};
 ghost use Rattle.run.specs.Script.{targetOf, changeOf, callOf, requestOf, blockLength, endsWith, courseOf, RunAs, Runs};
 ghost use Rattle.run.specs.Steps.{Takes, endNumber, Done};
-use ids::NotifyIconId;
-use ids::WindowId;
+use protocol::NotifyIconId;
+use protocol::WindowId;
 use session::LookupTarget;
 use session::Reply;
 

@@ -11,8 +11,8 @@ use Rattle.wire.specs.Numbers.{numAt}
 use Rattle.wire.specs.Parts.{splice}
 use Rattle.wire.proofs.Tests.{both-right}
 use Rattle.order.specs.declared.Row.{Row}
-use Rattle.ids.specs.declared.WindowId.{WindowId}
-use Rattle.ids.specs.declared.NotifyIconId.{NotifyIconId}
+use Rattle.protocol.specs.declared.WindowId.{WindowId}
+use Rattle.protocol.specs.declared.NotifyIconId.{NotifyIconId}
 use Rattle.directory.specs.declared.Found.{Found}
 use Rattle.directory.specs.Slots.{isAt, firstFrom, filledAt}
 use Rattle.directory.specs.Directory.{directoryOf}

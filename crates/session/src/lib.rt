@@ -1,8 +1,8 @@
 // The state calls: a table at the last checkpoint and a journal of the orders since, in four lent memories. A call that
 // cannot change a memory takes it shared; bytes past the needed lengths stay as they were.
-use ids::NotifyIconId;
-use ids::WindowId;
 use journal::JournalExtent;
+use protocol::NotifyIconId;
+use protocol::WindowId;
 
 pub mod calls;
 pub mod lookups;

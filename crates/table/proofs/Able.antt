@@ -30,9 +30,10 @@ use Rattle.body.specs.Stores.{EndsWell}
 use Rattle.body.proofs.Begins.{window-begins, notification-begins, desktop-begins}
 use Rattle.table.specs.Table.{fieldRows, fieldsAt}
 use Rattle.table.specs.Changes.{IconFits, Able}
+use Rattle.protocol.specs.Flags.{flagCachedIcon, flagIcon, flagsIcon}
 
 -- an icon lies within the order
-icon-fits : (s : List ℕ) (flags icon : ℕ) → 7 ≤ icon → pictureFit flags s icon 0 ≡ Ends (length s) 0 → (has flags 0x40000000 ≡ true → cellAt s icon < 12)
+icon-fits : (s : List ℕ) (flags icon : ℕ) → 7 ≤ icon → pictureFit flags s icon 0 ≡ Ends (length s) 0 → (has flags flagIcon ≡ true → cellAt s icon < 12)
     → IconFits s flags icon
 icon-fits s flags icon low e cell =
     let w = laid s icon in
@@ -88,34 +89,34 @@ desktop-able dir s flags e =
 -- ---- the cell that is pointed at
 
 -- either icon flag, in the arithmetic of bits
-icon-bits : (flags : ℕ) → has flags 0x40000000 ≡ false → has flags 0x80000000 ≡ false → has flags 0xC0000000 ≡ false
+icon-bits : (flags : ℕ) → has flags flagIcon ≡ false → has flags flagCachedIcon ≡ false → has flags flagsIcon ≡ false
 icon-bits flags a b =
-    let x : bitAnd flags 0x40000000 ≡ 0 = eqb-true (bitAnd flags 0x40000000) 0 (not-false (eqb (bitAnd flags 0x40000000) 0) a) in
-    let y : bitAnd flags 0x80000000 ≡ 0 = eqb-true (bitAnd flags 0x80000000) 0 (not-false (eqb (bitAnd flags 0x80000000) 0) b) in
-    let u : bitAnd flags 0x40000000 ≡ flags / 0x40000000 % 2 * 0x40000000 = and-high flags 1 30 in
-    let v : bitAnd flags 0x80000000 ≡ flags / 0x80000000 % 2 * 0x80000000 = and-high flags 1 31 in
-    let w : bitAnd flags 0xC0000000 ≡ flags / 0x40000000 % 4 * 0x40000000 = and-high flags 2 30 in
-    let q = flags / 0x40000000 in
-    let d : q / 2 ≡ flags / 0x80000000 = omega arith in
+    let x : bitAnd flags flagIcon ≡ 0 = eqb-true (bitAnd flags flagIcon) 0 (not-false (eqb (bitAnd flags flagIcon) 0) a) in
+    let y : bitAnd flags flagCachedIcon ≡ 0 = eqb-true (bitAnd flags flagCachedIcon) 0 (not-false (eqb (bitAnd flags flagCachedIcon) 0) b) in
+    let u : bitAnd flags flagIcon ≡ flags / flagIcon % 2 * flagIcon = and-high flags 1 30 in
+    let v : bitAnd flags flagCachedIcon ≡ flags / flagCachedIcon % 2 * flagCachedIcon = and-high flags 1 31 in
+    let w : bitAnd flags flagsIcon ≡ flags / flagIcon % 4 * flagIcon = and-high flags 2 30 in
+    let q = flags / flagIcon in
+    let d : q / 2 ≡ flags / flagCachedIcon = omega arith in
     let r : q % 2 ≡ 0 = omega (arith, x, u) in
     let t : q / 2 % 2 ≡ 0 = rw d (omega (arith, y, v)) in
     let m : q % 4 ≡ 0 = four q r t in
-    let z : bitAnd flags 0xC0000000 ≡ 0 = omega (arith, w, m) in
+    let z : bitAnd flags flagsIcon ≡ 0 = omega (arith, w, m) in
     rw z
   where
     four : (q : ℕ) → q % 2 ≡ 0 → q / 2 % 2 ≡ 0 → q % 4 ≡ 0
     four q r t = omega arith
 
-pub pointed-cell : (f : Family) (dir s : List ℕ) (c : Change) → Planned f dir s c → has (c .flags) 0xC0000000 ≡ true → cellAt s (c .icon) < 12
-pointed-cell f dir s c p h = go (has (c .flags) 0x40000000) (has (c .flags) 0x80000000) refl refl
+pub pointed-cell : (f : Family) (dir s : List ℕ) (c : Change) → Planned f dir s c → has (c .flags) flagsIcon ≡ true → cellAt s (c .icon) < 12
+pointed-cell f dir s c p h = go (has (c .flags) flagIcon) (has (c .flags) flagCachedIcon) refl refl
   where
-    go : (a b : Bool) → has (c .flags) 0x40000000 ≡ a → has (c .flags) 0x80000000 ≡ b → cellAt s (c .icon) < 12
+    go : (a b : Bool) → has (c .flags) flagIcon ≡ a → has (c .flags) flagCachedIcon ≡ b → cellAt s (c .icon) < 12
     go true b x y = p .icon x
     go false true x y = p .cached x y .0
     go false false x y = let k : _≡_ {A = Bool} false true = sym (icon-bits (c .flags) x y) ∙ h in let z : _≡_ {A = ℕ} 0 1 = cc in absurd (omega arith)
 
 -- the icon that a planned order carries
-pub planned-icon : (f : Family) (dir s : List ℕ) → Bytes s → (c : Change) → Planned f dir s c → has (c .flags) 0x40000000 ≡ true → AnIcon s (c .icon)
+pub planned-icon : (f : Family) (dir s : List ℕ) → Bytes s → (c : Change) → Planned f dir s c → has (c .flags) flagIcon ≡ true → AnIcon s (c .icon)
 planned-icon windows dir s bytes c p h =
     let g = ordered-window s bytes (record { window = record { id = c .a }; flags = c .flags; icon = c .icon }) (p .judged) in
     an-icon (c .flags) s (c .icon) (omega (arith, g .low)) h (g .picture)

@@ -18,6 +18,7 @@ use Rattle.body.proofs.Marks.{Fine, fine, stored-body, stored-ok, Marked, marke
 use Rattle.body.proofs.Fresh.{prepared-body, prepared-ok, length-prepared, window-room, notification-room, desktop-room}
 use Rattle.table.specs.Table.{fieldRows, fieldsAt, toSecond, bodyAfter, desktopAfter}
 use Rattle.table.specs.Changes.{markOf, slotAfter, desktopSlot, Able}
+use Rattle.protocol.specs.Flags.{desktopArcBegan, desktopArcCompleted, desktopHooked, desktopNone, flagBigIcon, flagsIcon}
 
 -- ---- by family
 
@@ -47,14 +48,14 @@ as-was slot = record { first = refl; second = refl; rest = refl; same = refl }
 
 abbrev pointed : (f : Family) (flags v : ℕ) (slot : List ℕ) → Type 0
 pointed f flags v slot =
-    Marked slot (pointedOf flags (markFor f flags) v slot) (pick (both (has flags 0xC0000000) (not (toSecond f flags))) v (numAt 1 slot 0))
-    (pick (both (has flags 0xC0000000) (toSecond f flags)) v (numAt 1 slot 1))
+    Marked slot (pointedOf flags (markFor f flags) v slot) (pick (both (has flags flagsIcon) (not (toSecond f flags))) v (numAt 1 slot 0))
+    (pick (both (has flags flagsIcon) (toSecond f flags)) v (numAt 1 slot 1))
 
-pointed-is : (f : Family) (flags v : ℕ) (slot : List ℕ) → 2 ≤ length slot → (has flags 0xC0000000 ≡ true → v < 256) → pointed f flags v slot
+pointed-is : (f : Family) (flags v : ℕ) (slot : List ℕ) → 2 ≤ length slot → (has flags flagsIcon ≡ true → v < 256) → pointed f flags v slot
 unfolding pointedOf
-pointed-is windows flags v slot long small = go (has flags 0xC0000000) (has flags 0x00002000) refl refl
+pointed-is windows flags v slot long small = go (has flags flagsIcon) (has flags flagBigIcon) refl refl
   where
-    go : (h t : Bool) → has flags 0xC0000000 ≡ h → has flags 0x00002000 ≡ t → pointed windows flags v slot
+    go : (h t : Bool) → has flags flagsIcon ≡ h → has flags flagBigIcon ≡ t → pointed windows flags v slot
     go true true x y =
         let m = pointed-second slot long v (small x) flags in
         rw (x, y) (rw x at m)
@@ -62,9 +63,9 @@ pointed-is windows flags v slot long small = go (has flags 0xC0000000) (has flag
         let m = pointed-first slot long v (small x) flags in
         rw (x, y) (rw x at m)
     go false t x y = rw x (as-was slot)
-pointed-is notifications flags v slot long small = go (has flags 0xC0000000) refl
+pointed-is notifications flags v slot long small = go (has flags flagsIcon) refl
   where
-    go : (h : Bool) → has flags 0xC0000000 ≡ h → pointed notifications flags v slot
+    go : (h : Bool) → has flags flagsIcon ≡ h → pointed notifications flags v slot
     go true x =
         let m = pointed-first slot long v (small x) flags in
         rw x (rw x at m)
@@ -73,7 +74,7 @@ pointed-is notifications flags v slot long small = go (has flags 0xC0000000) ref
 -- ---- a record's slot
 
 module _ (f : Family) (s : List ℕ) (c : Change) (slot : List ℕ) (long : length slot ≡ 916) (a : Able (fieldRows f) (fieldsAt f) s c)
-    (cell : has (c .flags) 0xC0000000 ≡ true → cellAt s (c .icon) < 12) where
+    (cell : has (c .flags) flagsIcon ≡ true → cellAt s (c .icon) < 12) where
   abbrev ready : List ℕ
   ready = preparedOf (c .fresh) slot
 
@@ -129,26 +130,26 @@ module _ (f : Family) (s : List ℕ) (c : Change) (slot : List ℕ) (long : leng
           go true e = prepared-ok (fieldRows f) slot (omega arith) (family-room f) 12 (secondMost f) (family-placed f)
           go false e = unfold preparedOf in h e
 
-      first-fits : pick (both (has (c .flags) 0xC0000000) (not (toSecond f (c .flags)))) (cellAt s (c .icon) + 1) (numAt 1 ready 0) ≤ 12
-      first-fits = go (has (c .flags) 0xC0000000) (toSecond f (c .flags)) refl
+      first-fits : pick (both (has (c .flags) flagsIcon) (not (toSecond f (c .flags)))) (cellAt s (c .icon) + 1) (numAt 1 ready 0) ≤ 12
+      first-fits = go (has (c .flags) flagsIcon) (toSecond f (c .flags)) refl
         where
-          go : (t u : Bool) → has (c .flags) 0xC0000000 ≡ t → pick (both t (not u)) (cellAt s (c .icon) + 1) (numAt 1 ready 0) ≤ 12
+          go : (t u : Bool) → has (c .flags) flagsIcon ≡ t → pick (both t (not u)) (cellAt s (c .icon) + 1) (numAt 1 ready 0) ≤ 12
           go true false e = omega (arith, cell e)
           go true true e = fine (fieldRows f) 12 (secondMost f) ready ready-ok .first
           go false u e = fine (fieldRows f) 12 (secondMost f) ready ready-ok .first
 
       second-fits : (g : Family) → f ≡ g
-          → pick (both (has (c .flags) 0xC0000000) (toSecond g (c .flags))) (cellAt s (c .icon) + 1) (numAt 1 ready 1) ≤ secondMost g
-      second-fits windows e = go (has (c .flags) 0xC0000000) (has (c .flags) 0x00002000) refl
+          → pick (both (has (c .flags) flagsIcon) (toSecond g (c .flags))) (cellAt s (c .icon) + 1) (numAt 1 ready 1) ≤ secondMost g
+      second-fits windows e = go (has (c .flags) flagsIcon) (has (c .flags) flagBigIcon) refl
         where
           was : numAt 1 ready 1 ≤ 12
           was = rw e at (fine (fieldRows f) 12 (secondMost f) ready ready-ok .second)
 
-          go : (t u : Bool) → has (c .flags) 0xC0000000 ≡ t → pick (both t u) (cellAt s (c .icon) + 1) (numAt 1 ready 1) ≤ 12
+          go : (t u : Bool) → has (c .flags) flagsIcon ≡ t → pick (both t u) (cellAt s (c .icon) + 1) (numAt 1 ready 1) ≤ 12
           go true true x = omega (arith, cell x)
           go true false x = was
           go false u x = was
-      second-fits notifications e = go (has (c .flags) 0xC0000000)
+      second-fits notifications e = go (has (c .flags) flagsIcon)
         where
           was : numAt 1 ready 1 ≤ 0
           was = rw e at (fine (fieldRows f) 12 (secondMost f) ready ready-ok .second)
@@ -171,10 +172,10 @@ module _ (flags : ℕ) (s slot : List ℕ) (long : length slot ≡ 916) (inside 
   abbrev sync : List ℕ
   sync = syncedOf flags hook
 
-  hook-is : Marked slot hook (pick (has flags 0x00000002) 1 (numAt 1 slot 0)) (numAt 1 slot 1)
+  hook-is : Marked slot hook (pick (has flags desktopHooked) 1 (numAt 1 slot 0)) (numAt 1 slot 1)
   hook-is = hooked slot (omega arith) flags
 
-  sync-is : Marked hook sync (numAt 1 hook 0) (pick (has flags 0x00000008) 1 (pick (has flags 0x00000004) 0 (numAt 1 hook 1)))
+  sync-is : Marked hook sync (numAt 1 hook 0) (pick (has flags desktopArcBegan) 1 (pick (has flags desktopArcCompleted) 0 (numAt 1 hook 1)))
   sync-is = synced hook (omega (arith, hook-is .same)) flags
 
   sync-long : length sync ≡ 916
@@ -185,7 +186,7 @@ module _ (flags : ℕ) (s slot : List ℕ) (long : length slot ≡ 916) (inside 
 
   pub desktop-length : length (desktopSlot flags s slot) ≡ 916
   unfolding desktopSlot
-  desktop-length = go (has flags 0x00000001)
+  desktop-length = go (has flags desktopNone)
     where
       go : (t : Bool) → length (pick t (preparedOf true slot) (storeOf desktopFields 2 flags s 7 sync)) ≡ 916
       go true = length-prepared true slot (omega arith) ∙ long
@@ -193,9 +194,9 @@ module _ (flags : ℕ) (s slot : List ℕ) (long : length slot ≡ 916) (inside 
 
   -- what the desktop state becomes
   pub desktop-body : bodyOf desktopFields (desktopSlot flags s slot)
-      ≡ pick (has flags 0x00000001) (emptyBody desktopFields) (desktopAfter flags s (bodyOf desktopFields slot))
+      ≡ pick (has flags desktopNone) (emptyBody desktopFields) (desktopAfter flags s (bodyOf desktopFields slot))
   unfolding desktopSlot desktopAfter bodyOf
-  desktop-body = go (has flags 0x00000001)
+  desktop-body = go (has flags desktopNone)
     where
       fs : fieldsOf desktopFields 2 sync ≡ fieldsOf desktopFields 2 slot
       fs =
@@ -211,13 +212,13 @@ module _ (flags : ℕ) (s slot : List ℕ) (long : length slot ≡ 916) (inside 
 
   pub desktop-ok : bodyOk desktopFields 1 1 slot ≡ true → bodyOk desktopFields 1 1 (desktopSlot flags s slot) ≡ true
   unfolding desktopSlot
-  desktop-ok h = go (has flags 0x00000001)
+  desktop-ok h = go (has flags desktopNone)
     where
       was : Fine desktopFields 1 1 slot
       was = fine desktopFields 1 1 slot h
 
-      first-fits : pick (has flags 0x00000002) 1 (numAt 1 slot 0) ≤ 1
-      first-fits = go (has flags 0x00000002)
+      first-fits : pick (has flags desktopHooked) 1 (numAt 1 slot 0) ≤ 1
+      first-fits = go (has flags desktopHooked)
         where
           go : (t : Bool) → pick t 1 (numAt 1 slot 0) ≤ 1
           go true = omega arith
@@ -229,8 +230,8 @@ module _ (flags : ℕ) (s slot : List ℕ) (long : length slot ≡ 916) (inside 
       held : Fine desktopFields 1 1 hook
       held = fine desktopFields 1 1 hook hook-ok
 
-      second-fits : pick (has flags 0x00000008) 1 (pick (has flags 0x00000004) 0 (numAt 1 hook 1)) ≤ 1
-      second-fits = go (has flags 0x00000008) (has flags 0x00000004)
+      second-fits : pick (has flags desktopArcBegan) 1 (pick (has flags desktopArcCompleted) 0 (numAt 1 hook 1)) ≤ 1
+      second-fits = go (has flags desktopArcBegan) (has flags desktopArcCompleted)
         where
           go : (t u : Bool) → pick t 1 (pick u 0 (numAt 1 hook 1)) ≤ 1
           go true u = omega arith

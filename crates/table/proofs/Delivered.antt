@@ -38,6 +38,7 @@ use Rattle.table.proofs.Bodied.{markFor, slot-length, desktop-length}
 use Rattle.table.proofs.Past.{same-past, marked-past, cleared-past, emptied-past, slot-past, bodies-past, cells-past}
 use Rattle.table.proofs.Joined.{decode-directory, record-decoded, desktop-decoded}
 use Rattle.table.proofs.Sounded.{Sound, table-has, table-is, record-sounded, desktop-sounded, emptied-sounded}
+use Rattle.protocol.specs.Flags.{desktopNone}
 
 -- judging asks the directory alone
 pub decoded-number : (dir bodies cells s : List ℕ) → numberOf (planOf dir s) ≡ number (decode dir bodies cells) s
@@ -103,7 +104,7 @@ module _ (dir bodies cells s : List ℕ) (bytes : Bytes s) (sound : soundTable d
         table = rw (planned-desktop dir s flags e) (desktop-decoded dir bodies cells s flags (good .directory) (good .big) (w .0) (w .1));
         sounded = desktop-sounded dir bodies cells s flags good (w .0) (w .1);
         past = record {
-          dir = cleared-past dir long-dir (has flags 0x00000001);
+          dir = cleared-past dir long-dir (has flags desktopNone);
           bodies =
               slot-past bodies 48 (desktopSlot flags s (slotOf bodies 48)) (good .big) (omega arith)
               (desktop-length flags s (slotOf bodies 48) (length-slot bodies 48 (good .big)) (w .0) (w .1));
@@ -211,7 +212,7 @@ module _ (dir bodies cells s : List ℕ) (bytes : Bytes s) (sound : soundTable d
     unfolding markedBy bodiesBy cellsBy
     notification-delivered c e x y z = rw (x, y, z) (delivered dir bodies cells s bytes sound (ChangeNotification c) (sym judged ∙ e))
 
-    pub desktop-delivered : (flags : ℕ) → r ≡ ChangeDesktop flags → d ≡ pick (has flags 0x00000001) (clearedOf dir) dir
+    pub desktop-delivered : (flags : ℕ) → r ≡ ChangeDesktop flags → d ≡ pick (has flags desktopNone) (clearedOf dir) dir
         → b ≡ splice bodies 43968 (desktopSlot flags s (slotOf bodies 48)) → Delivered dir bodies cells s 0 d b cells
     unfolding markedBy bodiesBy cellsBy
     desktop-delivered flags e x y = rw (x, y) (delivered dir bodies cells s bytes sound (ChangeDesktop flags) (sym judged ∙ e))

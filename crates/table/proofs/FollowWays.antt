@@ -28,6 +28,7 @@ use Rattle.cache.specs.Cells.{cellOf, putOf}
 use Rattle.table.specs.Changes.{markOf, slotAfter, IconFits}
 use Rattle.table.specs.Follow.{beginRecord, beginCell, iconPut, followedWindow, followedNotification, followedDesktop}
 use Rattle.table.proofs.Ways.{lacks, holds}
+use Rattle.protocol.specs.Flags.{flagDeleted, flagIcon}
 
 -- ---- the beginning
 
@@ -91,15 +92,15 @@ module _ (s m : List ℕ) {p : Plan} (c : Change) where
     unfolding followedWindow
     window-other h = rw (e, ne-eqb (c .a) a h)
 
-    pub window-deleted : (bitAnd (c .flags) 0x20000000 ≡ 0 → ⊥) → m ≡ followedWindow a s p m
+    pub window-deleted : (bitAnd (c .flags) flagDeleted ≡ 0 → ⊥) → m ≡ followedWindow a s p m
     unfolding followedWindow
     window-deleted h =
-        rw (e, holds (c .flags) 0x20000000 h) (stays (eqb (c .a) a) (slotAfter windowFields 11 (markOf (c .flags)) s c m) m)
+        rw (e, holds (c .flags) flagDeleted h) (stays (eqb (c .a) a) (slotAfter windowFields 11 (markOf (c .flags)) s c m) m)
 
-    pub window-followed : {mark : ℕ} {x : List ℕ} → c .a ≡ a → bitAnd (c .flags) 0x20000000 ≡ 0 → mark ≡ markOf (c .flags)
+    pub window-followed : {mark : ℕ} {x : List ℕ} → c .a ≡ a → bitAnd (c .flags) flagDeleted ≡ 0 → mark ≡ markOf (c .flags)
         → x ≡ slotAfter windowFields 11 mark s c m → x ≡ followedWindow a s p m
     unfolding followedWindow
-    window-followed h d k f = rw (e, eq-eqb (c .a) a h, lacks (c .flags) 0x20000000 d, ← k) f
+    window-followed h d k f = rw (e, eq-eqb (c .a) a h, lacks (c .flags) flagDeleted d, ← k) f
 
   module _ (a b : ℕ) (e : p ≡ ChangeNotification c) where
     pub notification-other : (c .a ≡ a → ⊥) → m ≡ followedNotification a b s p m
@@ -110,36 +111,36 @@ module _ (s m : List ℕ) {p : Plan} (c : Change) where
     unfolding followedNotification
     notification-second h g = rw (e, eq-eqb (c .a) a h, ne-eqb (c .b) b g)
 
-    pub notification-deleted : (bitAnd (c .flags) 0x20000000 ≡ 0 → ⊥) → m ≡ followedNotification a b s p m
+    pub notification-deleted : (bitAnd (c .flags) flagDeleted ≡ 0 → ⊥) → m ≡ followedNotification a b s p m
     unfolding followedNotification
     notification-deleted h =
-        rw (e, holds (c .flags) 0x20000000 h) (stays (both (eqb (c .a) a) (eqb (c .b) b)) (slotAfter notificationFields 15 0 s c m) m)
+        rw (e, holds (c .flags) flagDeleted h) (stays (both (eqb (c .a) a) (eqb (c .b) b)) (slotAfter notificationFields 15 0 s c m) m)
 
-    pub notification-followed : {x : List ℕ} → c .a ≡ a → c .b ≡ b → bitAnd (c .flags) 0x20000000 ≡ 0 → x ≡ slotAfter notificationFields 15 0 s c m
+    pub notification-followed : {x : List ℕ} → c .a ≡ a → c .b ≡ b → bitAnd (c .flags) flagDeleted ≡ 0 → x ≡ slotAfter notificationFields 15 0 s c m
         → x ≡ followedNotification a b s p m
     unfolding followedNotification
-    notification-followed h g d f = rw (e, eq-eqb (c .a) a h, eq-eqb (c .b) b g, lacks (c .flags) 0x20000000 d) f
+    notification-followed h g d f = rw (e, eq-eqb (c .a) a h, eq-eqb (c .b) b g, lacks (c .flags) flagDeleted d) f
 
 -- ---- a cell
 
 module _ (k : ℕ) (s : List ℕ) (c : Change) (m : List ℕ) where
-  pub icon-deleted : (bitAnd (c .flags) 0x20000000 ≡ 0 → ⊥) → m ≡ iconPut k s c m
+  pub icon-deleted : (bitAnd (c .flags) flagDeleted ≡ 0 → ⊥) → m ≡ iconPut k s c m
   unfolding iconPut
-  icon-deleted h = rw (holds (c .flags) 0x20000000 h)
+  icon-deleted h = rw (holds (c .flags) flagDeleted h)
 
-  module _ (d : bitAnd (c .flags) 0x20000000 ≡ 0) where
-    pub icon-absent : bitAnd (c .flags) 0x40000000 ≡ 0 → m ≡ iconPut k s c m
+  module _ (d : bitAnd (c .flags) flagDeleted ≡ 0) where
+    pub icon-absent : bitAnd (c .flags) flagIcon ≡ 0 → m ≡ iconPut k s c m
     unfolding iconPut
-    icon-absent h = rw (lacks (c .flags) 0x20000000 d, lacks (c .flags) 0x40000000 h)
+    icon-absent h = rw (lacks (c .flags) flagDeleted d, lacks (c .flags) flagIcon h)
 
-    module _ {n : ℕ} (h : bitAnd (c .flags) 0x40000000 ≡ 0 → ⊥) (e : n ≡ cellAt s (c .icon)) where
+    module _ {n : ℕ} (h : bitAnd (c .flags) flagIcon ≡ 0 → ⊥) (e : n ≡ cellAt s (c .icon)) where
       pub icon-other : (n ≡ k → ⊥) → m ≡ iconPut k s c m
       unfolding iconPut
-      icon-other g = rw (lacks (c .flags) 0x20000000 d, holds (c .flags) 0x40000000 h, ← e, ne-eqb n k g)
+      icon-other g = rw (lacks (c .flags) flagDeleted d, holds (c .flags) flagIcon h, ← e, ne-eqb n k g)
 
       pub icon-put : {x : List ℕ} → n ≡ k → x ≡ putOf m s (c .icon) → x ≡ iconPut k s c m
       unfolding iconPut
-      icon-put g f = rw (lacks (c .flags) 0x20000000 d, holds (c .flags) 0x40000000 h, ← e, eq-eqb n k g) f
+      icon-put g f = rw (lacks (c .flags) flagDeleted d, holds (c .flags) flagIcon h, ← e, eq-eqb n k g) f
 
-pub put-fits : (s : List ℕ) (flags icon : ℕ) → (bitAnd flags 0x40000000 ≡ 0 → ⊥) → IconFits s flags icon → (icon + 12 ≤ length s) × (length s ≤ icon + 4238)
-put-fits s flags icon h f = let t = holds flags 0x40000000 h in (f .low t, f .high t)
+pub put-fits : (s : List ℕ) (flags icon : ℕ) → (bitAnd flags flagIcon ≡ 0 → ⊥) → IconFits s flags icon → (icon + 12 ≤ length s) × (length s ≤ icon + 4238)
+put-fits s flags icon h f = let t = holds flags flagIcon h in (f .low t, f .high t)

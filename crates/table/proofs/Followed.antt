@@ -28,6 +28,7 @@ use Rattle.table.specs.Follow.{recordChanged, iconPut}
 use Rattle.table.proofs.Bodied.{markFor, secondMost, slot-length, slot-body, slot-ok, desktop-body, desktop-ok}
 use Rattle.table.proofs.Able.{able, pointed-cell, planned-icon}
 use Rattle.table.proofs.Begun.{HoldsRecord, HoldsCell, HoldsDesktop}
+use Rattle.protocol.specs.Flags.{desktopNone, flagDeleted, flagIcon, flagsIcon}
 
 no : {A : Type 0} → _≡_ {A = Bool} false true → A
 no e = let z : _≡_ {A = ℕ} 0 1 = cc in absurd (omega arith)
@@ -56,14 +57,14 @@ module _ (f : Family) (dir s : List ℕ) (bytes : Bytes s) (c : Change) (p : Pla
   fits : Able (fieldRows f) (fieldsAt f) s c
   fits = able f dir s bytes c p
 
-  cell : has (c .flags) 0xC0000000 ≡ true → cellAt s (c .icon) < 12
+  cell : has (c .flags) flagsIcon ≡ true → cellAt s (c .icon) < 12
   cell = pointed-cell f dir s c p
 
   -- ---- its length
 
   pub record-long : (q : Bool) (m : List ℕ) → length m ≡ 916
       → length (recordChanged (fieldRows f) (fieldsAt f) (markFor f (c .flags)) q s c m) ≡ 916
-  record-long q m long = go (both q (not (has (c .flags) 0x20000000)))
+  record-long q m long = go (both q (not (has (c .flags) flagDeleted)))
     where
       go : (t : Bool) → length (pick t (slotAfter (fieldRows f) (fieldsAt f) (markFor f (c .flags)) s c m) m) ≡ 916
       go true = slot-length f s c m long fits cell
@@ -71,9 +72,9 @@ module _ (f : Family) (dir s : List ℕ) (bytes : Bytes s) (c : Change) (p : Pla
 
   pub icon-long : (k : ℕ) (m : List ℕ) → length m ≡ 4240 → length (iconPut k s c m) ≡ 4240
   unfolding iconPut
-  icon-long k m long = go (has (c .flags) 0x20000000) (has (c .flags) 0x40000000) (eqb (cellAt s (c .icon)) k) refl
+  icon-long k m long = go (has (c .flags) flagDeleted) (has (c .flags) flagIcon) (eqb (cellAt s (c .icon)) k) refl
     where
-      go : (d t u : Bool) → has (c .flags) 0x40000000 ≡ t → length (pick d m (pick (both t u) (putOf m s (c .icon)) m)) ≡ 4240
+      go : (d t u : Bool) → has (c .flags) flagIcon ≡ t → length (pick d m (pick (both t u) (putOf m s (c .icon)) m)) ≡ 4240
       go true t u e = long
       go false true true e = length-put m s (c .icon) long (fits .icon .low e) (fits .icon .high e)
       go false true false e = long
@@ -114,12 +115,12 @@ module _ (f : Family) (dir s : List ℕ) (bytes : Bytes s) (c : Change) (p : Pla
           (λ e. let w = is-some (t .records f (c .a) (c .b)) (listed e) in h (w .body) (w .is) .1)
 
     -- the records of the changed table
-    gone-records : has (c .flags) 0x20000000 ≡ true → (g : Family) (x y : ℕ)
+    gone-records : has (c .flags) flagDeleted ≡ true → (g : Family) (x y : ℕ)
         → changed .records g x y ≡ pick (sameRecord f (c .a) (c .b) g x y) none (t .records g x y)
     unfolding changeRecord
     gone-records e g x y = rw e
 
-    set-records : has (c .flags) 0x20000000 ≡ false → (g : Family) (x y : ℕ)
+    set-records : has (c .flags) flagDeleted ≡ false → (g : Family) (x y : ℕ)
         → changed .records g x y
         ≡ pick (sameRecord f (c .a) (c .b) g x y)
         (some (bodyAfter f (c .flags) s (c .icon) (pick (c .fresh) (emptyBody (fieldRows f)) (bodyIn f (t .records f (c .a) (c .b))))))
@@ -130,12 +131,12 @@ module _ (f : Family) (dir s : List ℕ) (bytes : Bytes s) (c : Change) (p : Pla
     pub record-followed : (a b : ℕ) (m : List ℕ) → length m ≡ 916 → HoldsRecord f a b t m
         → HoldsRecord f a b changed
         (recordChanged (fieldRows f) (fieldsAt f) (markFor f (c .flags)) (both (eqb (c .a) a) (eqb (c .b) b)) s c m)
-    record-followed a b m long h = go (has (c .flags) 0x20000000) (both (eqb (c .a) a) (eqb (c .b) b)) refl refl
+    record-followed a b m long h = go (has (c .flags) flagDeleted) (both (eqb (c .a) a) (eqb (c .b) b)) refl refl
       where
         self : (q : Bool) → both (eqb (c .a) a) (eqb (c .b) b) ≡ q → sameRecord f (c .a) (c .b) f a b ≡ q
         self q e = rw (family-same f) e
 
-        go : (d q : Bool) → has (c .flags) 0x20000000 ≡ d → both (eqb (c .a) a) (eqb (c .b) b) ≡ q
+        go : (d q : Bool) → has (c .flags) flagDeleted ≡ d → both (eqb (c .a) a) (eqb (c .b) b) ≡ q
             → HoldsRecord f a b changed (pick (both q (not d)) (slotAfter (fieldRows f) (fieldsAt f) (markFor f (c .flags)) s c m) m)
         go true true de qe = λ x e.
             let n : changed .records f a b ≡ none = gone-records de f a b ∙ rw (self true qe) in
@@ -156,28 +157,28 @@ module _ (f : Family) (dir s : List ℕ) (bytes : Bytes s) (c : Change) (p : Pla
 
     -- a record of the other family
     pub other-followed : (g : Family) (a b : ℕ) (m : List ℕ) → sameFamily f g ≡ false → HoldsRecord g a b t m → HoldsRecord g a b changed m
-    other-followed g a b m n h = λ x e. h x (sym (go (has (c .flags) 0x20000000) refl) ∙ e)
+    other-followed g a b m n h = λ x e. h x (sym (go (has (c .flags) flagDeleted) refl) ∙ e)
       where
-        go : (d : Bool) → has (c .flags) 0x20000000 ≡ d → changed .records g a b ≡ t .records g a b
+        go : (d : Bool) → has (c .flags) flagDeleted ≡ d → changed .records g a b ≡ t .records g a b
         go true e = gone-records e g a b ∙ rw n
         go false e = set-records e g a b ∙ rw n
 
     -- the cells of the changed table
-    gone-cells : has (c .flags) 0x20000000 ≡ true → (k : ℕ) → changed .cells k ≡ t .cells k
+    gone-cells : has (c .flags) flagDeleted ≡ true → (k : ℕ) → changed .cells k ≡ t .cells k
     unfolding changeRecord
     gone-cells e k = rw e
 
-    set-cells : has (c .flags) 0x20000000 ≡ false → (k : ℕ)
-        → changed .cells k ≡ pick (both (has (c .flags) 0x40000000) (eqb (cellAt s (c .icon)) k)) (some (carriedPicture s (c .icon))) (t .cells k)
+    set-cells : has (c .flags) flagDeleted ≡ false → (k : ℕ)
+        → changed .cells k ≡ pick (both (has (c .flags) flagIcon) (eqb (cellAt s (c .icon)) k)) (some (carriedPicture s (c .icon))) (t .cells k)
     unfolding changeRecord
     set-cells e k = rw e
 
     pub cell-followed : (k : ℕ) (m : List ℕ) → length m ≡ 4240 → HoldsCell k t m → HoldsCell k changed (iconPut k s c m)
     unfolding iconPut
     cell-followed k m long h =
-        go (has (c .flags) 0x20000000) (has (c .flags) 0x40000000) (eqb (cellAt s (c .icon)) k) refl refl refl
+        go (has (c .flags) flagDeleted) (has (c .flags) flagIcon) (eqb (cellAt s (c .icon)) k) refl refl refl
       where
-        go : (d u v : Bool) → has (c .flags) 0x20000000 ≡ d → has (c .flags) 0x40000000 ≡ u → eqb (cellAt s (c .icon)) k ≡ v
+        go : (d u v : Bool) → has (c .flags) flagDeleted ≡ d → has (c .flags) flagIcon ≡ u → eqb (cellAt s (c .icon)) k ≡ v
             → HoldsCell k changed (pick d m (pick (both u v) (putOf m s (c .icon)) m))
         go true u v de ue ve = λ x e. h x (sym (gone-cells de k) ∙ e)
         go false false v de ue ve = λ x e. let n : changed .cells k ≡ t .cells k = set-cells de k ∙ rw ue in h x (sym n ∙ e)
@@ -193,9 +194,9 @@ module _ (f : Family) (dir s : List ℕ) (bytes : Bytes s) (c : Change) (p : Pla
 
     pub desktop-stays : (m : List ℕ) → HoldsDesktop t m → HoldsDesktop changed m
     unfolding changeRecord
-    desktop-stays m h = (h .0 ∙ go (has (c .flags) 0x20000000) refl, h .1)
+    desktop-stays m h = (h .0 ∙ go (has (c .flags) flagDeleted) refl, h .1)
       where
-        go : (d : Bool) → has (c .flags) 0x20000000 ≡ d → t .desktop ≡ changed .desktop
+        go : (d : Bool) → has (c .flags) flagDeleted ≡ d → t .desktop ≡ changed .desktop
         go true e = rw e
         go false e = rw e
 
@@ -208,17 +209,17 @@ module _ (t : Table) (flags : ℕ) (s : List ℕ) where
   -- none leaves no record
   pub record-stays : (f : Family) (a b : ℕ) (m : List ℕ) → HoldsRecord f a b t m → HoldsRecord f a b desk m
   unfolding changeDesktop emptied
-  record-stays f a b m h = go (has flags 0x00000001) refl
+  record-stays f a b m h = go (has flags desktopNone) refl
     where
-      go : (d : Bool) → has flags 0x00000001 ≡ d → HoldsRecord f a b desk m
+      go : (d : Bool) → has flags desktopNone ≡ d → HoldsRecord f a b desk m
       go true de = λ x e. let n : desk .records f a b ≡ none = rw de in none-some (sym n ∙ e)
       go false de = λ x e. let n : desk .records f a b ≡ t .records f a b = rw de in h x (sym n ∙ e)
 
   pub cell-stays : (k : ℕ) (m : List ℕ) → HoldsCell k t m → HoldsCell k desk m
   unfolding changeDesktop
-  cell-stays k m h = λ x e. h x (sym (go (has flags 0x00000001) refl) ∙ e)
+  cell-stays k m h = λ x e. h x (sym (go (has flags desktopNone) refl) ∙ e)
     where
-      go : (d : Bool) → has flags 0x00000001 ≡ d → desk .cells k ≡ t .cells k
+      go : (d : Bool) → has flags desktopNone ≡ d → desk .cells k ≡ t .cells k
       go true e = rw e
       go false e = rw e
 
@@ -226,9 +227,9 @@ module _ (t : Table) (flags : ℕ) (s : List ℕ) where
       → HoldsDesktop desk (desktopSlot flags s m)
   unfolding changeDesktop emptied
   desktop-followed m long inside ends h =
-      (desktop-body flags s m long inside ends ∙ go (has flags 0x00000001) refl, desktop-ok flags s m long inside ends (h .1))
+      (desktop-body flags s m long inside ends ∙ go (has flags desktopNone) refl, desktop-ok flags s m long inside ends (h .1))
     where
-      go : (d : Bool) → has flags 0x00000001 ≡ d
-          → pick (has flags 0x00000001) (emptyBody desktopFields) (desktopAfter flags s (bodyOf desktopFields m)) ≡ desk .desktop
+      go : (d : Bool) → has flags desktopNone ≡ d
+          → pick (has flags desktopNone) (emptyBody desktopFields) (desktopAfter flags s (bodyOf desktopFields m)) ≡ desk .desktop
       go true e = rw e
       go false e = rw e (ap (desktopAfter flags s) (h .0))

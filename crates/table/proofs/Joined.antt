@@ -35,6 +35,7 @@ use Rattle.table.specs.Table.{Table, emptied, there, directory, fieldRow
 use Rattle.table.specs.Memory.{recordIn, cellIn, decode}
 use Rattle.table.specs.Changes.{slotAfter, bodiesAfter, cellsAfter, desktopSlot, Able}
 use Rattle.table.proofs.Bodied.{markFor, slot-length, slot-body, desktop-length, desktop-body}
+use Rattle.protocol.specs.Flags.{desktopNone, flagDeleted, flagIcon, flagsIcon}
 
 -- ---- the directory of what a memory describes
 
@@ -89,7 +90,7 @@ module _ (f : Family) (dir s : List ℕ) (c : Change) (p : Planned f dir s c) (s
           rw (k .0, k .1, k .2) at (p .old t)
       go false e = refl
 
-  find-after : has (c .flags) 0x20000000 ≡ false → (g : Family) (x y : ℕ)
+  find-after : has (c .flags) flagDeleted ≡ false → (g : Family) (x y : ℕ)
       → findIn (markedOf dir s c) g x y ≡ pick (sameRecord f (c .a) (c .b) g x y) (At (c .slot)) (findIn dir g x y)
   unfolding markedOf
   find-after h g x y = rw h (go (c .fresh) refl)
@@ -142,8 +143,8 @@ record-at : (f : Family) (dir bodies : List ℕ) (a b i : ℕ) → firstFrom (mo
 record-at f dir bodies a b i e = rw e
 
 module _ (f : Family) (dir bodies cells s : List ℕ) (c : Change) (p : Planned f dir s c) (sound : soundDirectory dir ≡ true)
-    (a : Able (fieldRows f) (fieldsAt f) s c) (cell : has (c .flags) 0xC0000000 ≡ true → cellAt s (c .icon) < 12)
-    (icon : has (c .flags) 0x40000000 ≡ true → AnIcon s (c .icon)) (big : 44884 ≤ length bodies) (wide : 50880 ≤ length cells) where
+    (a : Able (fieldRows f) (fieldsAt f) s c) (cell : has (c .flags) flagsIcon ≡ true → cellAt s (c .icon) < 12)
+    (icon : has (c .flags) flagIcon ≡ true → AnIcon s (c .icon)) (big : 44884 ≤ length bodies) (wide : 50880 ≤ length cells) where
   abbrev slot : List ℕ
   slot = slotOf bodies (c .slot)
 
@@ -171,7 +172,7 @@ module _ (f : Family) (dir bodies cells s : List ℕ) (c : Change) (p : Planned 
       go true e = refl
       go false e = sym (record-at f dir bodies (c .a) (c .b) (c .slot) (p .old e))
 
-  records-after : has (c .flags) 0x20000000 ≡ false → (g : Family) (x y : ℕ)
+  records-after : has (c .flags) flagDeleted ≡ false → (g : Family) (x y : ℕ)
       → recordIn (markedOf dir s c) (splice bodies (916 * c .slot) after) g x y ≡ pick (sameRecord f (c .a) (c .b) g x y) (some new) (recordIn dir bodies g x y)
   records-after h g x y =
       ap (λ (w : Found). onFound w none (λ j. some (bodyOf (fieldRows g) (slotOf (splice bodies (916 * c .slot) after) j)))) (find-after f dir s c p sound h g x y)
@@ -189,7 +190,7 @@ module _ (f : Family) (dir bodies cells s : List ℕ) (c : Change) (p : Planned 
           ap some (rw (slots-after j, n))
       go false Nothing t e = refl
 
-  records-gone : has (c .flags) 0x20000000 ≡ true → (g : Family) (x y : ℕ)
+  records-gone : has (c .flags) flagDeleted ≡ true → (g : Family) (x y : ℕ)
       → recordIn (markedOf dir s c) bodies g x y ≡ pick (sameRecord f (c .a) (c .b) g x y) none (recordIn dir bodies g x y)
   unfolding markedOf
   records-gone h g x y =
@@ -208,8 +209,8 @@ module _ (f : Family) (dir bodies cells s : List ℕ) (c : Change) (p : Planned 
       → filledAt (markedOf dir s c) k ≡ D.changeRecord (directoryOf dir) f (c .a) (c .b) (c .fresh) (c .flags) s (c .icon) .filled k
   filled-after k = unfold directoryOf in ap (λ (d : Directory). d .filled k) (record-directory f dir s c p sound)
 
-  pub filled-now : (d : Bool) → has (c .flags) 0x20000000 ≡ d → (k : ℕ) → filledAt (markedOf dir s c) k
-      ≡ pick d (filledAt dir k) (either (both (has (c .flags) 0x40000000) (eqb (cellAt s (c .icon)) k)) (filledAt dir k))
+  pub filled-now : (d : Bool) → has (c .flags) flagDeleted ≡ d → (k : ℕ) → filledAt (markedOf dir s c) k
+      ≡ pick d (filledAt dir k) (either (both (has (c .flags) flagIcon) (eqb (cellAt s (c .icon)) k)) (filledAt dir k))
   filled-now true h k = filled-after k ∙ (unfold D.changeRecord directoryOf in rw h)
   filled-now false h k = filled-after k ∙ (unfold D.changeRecord directoryOf in rw h)
 
@@ -218,15 +219,15 @@ module _ (f : Family) (dir bodies cells s : List ℕ) (c : Change) (p : Planned 
   desktop-kept = let n : eqb (c .slot) 48 ≡ false = ne-eqb (c .slot) 48 (λ e. omega (arith, a .slot)) in slots-after 48 ∙ rw n
 
   -- a cell that an icon names is filled with its picture, and every other is as it was
-  cells-filled : has (c .flags) 0x20000000 ≡ false → (k : ℕ)
+  cells-filled : has (c .flags) flagDeleted ≡ false → (k : ℕ)
       → cellIn (markedOf dir s c) (cellsAfter s c cells) k
-      ≡ pick (both (has (c .flags) 0x40000000) (eqb (cellAt s (c .icon)) k)) (some (carriedPicture s (c .icon))) (cellIn dir cells k)
+      ≡ pick (both (has (c .flags) flagIcon) (eqb (cellAt s (c .icon)) k)) (some (carriedPicture s (c .icon))) (cellIn dir cells k)
   unfolding cellsAfter
   cells-filled h k =
       ap (λ (t : Bool). pick t (some (pictureOf (cellOf (cellsAfter s c cells) k))) none) (filled-now false h k)
-      ∙ rw h (go (has (c .flags) 0x40000000) (eqb (cellAt s (c .icon)) k) refl refl)
+      ∙ rw h (go (has (c .flags) flagIcon) (eqb (cellAt s (c .icon)) k) refl refl)
     where
-      go : (t u : Bool) → has (c .flags) 0x40000000 ≡ t → eqb (cellAt s (c .icon)) k ≡ u
+      go : (t u : Bool) → has (c .flags) flagIcon ≡ t → eqb (cellAt s (c .icon)) k ≡ u
           → pick (either (both t u) (filledAt dir k))
           (some (pictureOf (cellOf (pick t (fillOf cells (cellAt s (c .icon)) s (c .icon)) cells) k))) none
           ≡ pick (both t u) (some (carriedPicture s (c .icon))) (pick (filledAt dir k) (some (pictureOf (cellOf cells k))) none)
@@ -241,7 +242,7 @@ module _ (f : Family) (dir bodies cells s : List ℕ) (c : Change) (p : Planned 
           (other-cell cells (cellAt s (c .icon)) s (c .icon) wide (i .cell x) (i .low x) (i .high x) k (eqb-false (cellAt s (c .icon)) k y))
       go false u x y = refl
 
-  cells-kept : has (c .flags) 0x20000000 ≡ true → (k : ℕ) → cellIn (markedOf dir s c) (cellsAfter s c cells) k ≡ cellIn dir cells k
+  cells-kept : has (c .flags) flagDeleted ≡ true → (k : ℕ) → cellIn (markedOf dir s c) (cellsAfter s c cells) k ≡ cellIn dir cells k
   unfolding cellsAfter
   cells-kept h k = rw h (ap (λ (t : Bool). pick t (some (pictureOf (cellOf cells k))) none) (filled-now true h k))
 
@@ -250,14 +251,14 @@ module _ (f : Family) (dir bodies cells s : List ℕ) (c : Change) (p : Planned 
   pub record-decoded : decode (markedOf dir s c) (bodiesAfter (fieldRows f) (fieldsAt f) (markFor f (c .flags)) s c bodies) (cellsAfter s c cells)
       ≡ changeRecord (decode dir bodies cells) f (c .a) (c .b) (c .fresh) (c .flags) s (c .icon)
   unfolding changeRecord decode bodiesAfter
-  record-decoded = go (has (c .flags) 0x20000000) refl
+  record-decoded = go (has (c .flags) flagDeleted) refl
     where
-      many-is : (t : Bool) → has (c .flags) 0x20000000 ≡ t → (g : Family) → manyIn g (markedOf dir s c)
+      many-is : (t : Bool) → has (c .flags) flagDeleted ≡ t → (g : Family) → manyIn g (markedOf dir s c)
           ≡ pick t (pick (sameFamily f g) (manyIn g dir - 1) (manyIn g dir)) (pick (both (c .fresh) (sameFamily f g)) (manyIn g dir + 1) (manyIn g dir))
       many-is true h g = many-after g ∙ (unfold D.changeRecord directoryOf in rw h)
       many-is false h g = many-after g ∙ (unfold D.changeRecord directoryOf in rw h)
 
-      go : (t : Bool) → has (c .flags) 0x20000000 ≡ t
+      go : (t : Bool) → has (c .flags) flagDeleted ≡ t
           → decode (markedOf dir s c) (pick t bodies (splice bodies (916 * c .slot) after)) (cellsAfter s c cells)
           ≡ pick t
           (record {
@@ -270,7 +271,7 @@ module _ (f : Family) (dir bodies cells s : List ℕ) (c : Change) (p : Planned 
             records = λ g x y. pick (sameRecord f (c .a) (c .b) g x y) (some new) (recordIn dir bodies g x y);
             many = λ g. pick (both (c .fresh) (sameFamily f g)) (manyIn g dir + 1) (manyIn g dir);
             cells =
-                λ k. pick (both (has (c .flags) 0x40000000) (eqb (cellAt s (c .icon)) k)) (some (carriedPicture s (c .icon))) (cellIn dir cells k);
+                λ k. pick (both (has (c .flags) flagIcon) (eqb (cellAt s (c .icon)) k)) (some (carriedPicture s (c .icon))) (cellIn dir cells k);
             desktop = bodyOf desktopFields (slotOf bodies 48);
           })
       go true h = λ i. record {
@@ -313,12 +314,12 @@ module _ (dir bodies cells s : List ℕ) (flags : ℕ) (sound : soundDirectory d
       go Nothing h = refl
 
   desk-body : bodyOf desktopFields (slotOf (splice bodies 43968 desk) 48)
-      ≡ pick (has flags 0x00000001) (emptyBody desktopFields) (desktopAfter flags s (bodyOf desktopFields (slotOf bodies 48)))
+      ≡ pick (has flags desktopNone) (emptyBody desktopFields) (desktopAfter flags s (bodyOf desktopFields (slotOf bodies 48)))
   desk-body = ap (bodyOf desktopFields) (desk-slots 48) ∙ desktop-body flags s (slotOf bodies 48) (length-slot bodies 48 big) inside e
 
-  pub desktop-decoded : decode (pick (has flags 0x00000001) (clearedOf dir) dir) (splice bodies 43968 desk) cells ≡ changeDesktop (decode dir bodies cells) flags s
+  pub desktop-decoded : decode (pick (has flags desktopNone) (clearedOf dir) dir) (splice bodies 43968 desk) cells ≡ changeDesktop (decode dir bodies cells) flags s
   unfolding changeDesktop decode emptied
-  desktop-decoded = go (has flags 0x00000001) desk-body
+  desktop-decoded = go (has flags desktopNone) desk-body
     where
       long : 444 ≤ length dir
       long = sound-has dir sound .long

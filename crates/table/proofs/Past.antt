@@ -18,6 +18,7 @@ use Rattle.body.specs.Bodies.{slotOf}
 use Rattle.cache.specs.Cells.{carriedPicture, fillOf}
 use Rattle.table.specs.Changes.{slotAfter, bodiesAfter, cellsAfter, IconFits}
 use Rattle.table.specs.Outcome.{PastKept}
+use Rattle.protocol.specs.Flags.{flagDeleted, flagIcon}
 
 pub same-past : (dir bodies cells : List ℕ) → PastKept dir bodies cells dir bodies cells
 same-past dir bodies cells = record { dir = refl; bodies = refl; cells = refl }
@@ -51,10 +52,10 @@ freed-past dir i long below =
     let l = length-bytes 1 0 in
     drop-splice dir (9 * i) (bytesOf 1 0) (omega arith) 444 (omega arith)
 
-filled-past : (dir s : List ℕ) (flags icon : ℕ) → 444 ≤ length dir → (has flags 0x40000000 ≡ true → cellAt s icon < 12)
+filled-past : (dir s : List ℕ) (flags icon : ℕ) → 444 ≤ length dir → (has flags flagIcon ≡ true → cellAt s icon < 12)
     → drop 444 (filledOf dir s flags icon) ≡ drop 444 dir
 unfolding filledOf
-filled-past dir s flags icon long cell = go (has flags 0x40000000) cell
+filled-past dir s flags icon long cell = go (has flags flagIcon) cell
   where
     go : (t : Bool) → (t ≡ true → cellAt s icon < 12) → drop 444 (pick t (splice dir (432 + cellAt s icon) (bytesOf 1 1)) dir) ≡ drop 444 dir
     go true h =
@@ -63,10 +64,10 @@ filled-past dir s flags icon long cell = go (has flags 0x40000000) cell
         drop-splice dir (432 + cellAt s icon) (bytesOf 1 1) (omega arith) 444 (omega arith)
     go false h = refl
 
-pub marked-past : (dir s : List ℕ) (c : Change) → 444 ≤ length dir → c .slot < 48 → (has (c .flags) 0x40000000 ≡ true → cellAt s (c .icon) < 12)
+pub marked-past : (dir s : List ℕ) (c : Change) → 444 ≤ length dir → c .slot < 48 → (has (c .flags) flagIcon ≡ true → cellAt s (c .icon) < 12)
     → drop 444 (markedOf dir s c) ≡ drop 444 dir
 unfolding markedOf
-marked-past dir s c long below cell = go (has (c .flags) 0x20000000) (c .fresh)
+marked-past dir s c long below cell = go (has (c .flags) flagDeleted) (c .fresh)
   where
     go : (u t : Bool)
         → drop 444 (pick u (freedOf dir (c .slot)) (filledOf (pick t (listedOf dir (c .slot) (c .a) (c .b)) dir) s (c .flags) (c .icon))) ≡ drop 444 dir
@@ -94,7 +95,7 @@ slot-past bodies i x big below size = drop-splice bodies (916 * i) x (omega arit
 pub bodies-past : (rows : List Row) (at mark : ℕ) (s : List ℕ) (c : Change) (bodies : List ℕ) → 44884 ≤ length bodies → c .slot < 48
     → length (slotAfter rows at mark s c (slotOf bodies (c .slot))) ≡ 916 → drop 44884 (bodiesAfter rows at mark s c bodies) ≡ drop 44884 bodies
 unfolding bodiesAfter
-bodies-past rows at mark s c bodies big below size = go (has (c .flags) 0x20000000)
+bodies-past rows at mark s c bodies big below size = go (has (c .flags) flagDeleted)
   where
     go : (t : Bool)
         → drop 44884 (pick t bodies (splice bodies (916 * c .slot) (slotAfter rows at mark s c (slotOf bodies (c .slot))))) ≡ drop 44884 bodies
@@ -113,9 +114,9 @@ fill-past cells k s icon wide below low high =
 pub cells-past : (s : List ℕ) (c : Change) (cells : List ℕ) → 50880 ≤ length cells → IconFits s (c .flags) (c .icon)
     → drop 50880 (cellsAfter s c cells) ≡ drop 50880 cells
 unfolding cellsAfter
-cells-past s c cells wide f = go (has (c .flags) 0x20000000) (has (c .flags) 0x40000000) refl
+cells-past s c cells wide f = go (has (c .flags) flagDeleted) (has (c .flags) flagIcon) refl
   where
-    go : (d t : Bool) → has (c .flags) 0x40000000 ≡ t
+    go : (d t : Bool) → has (c .flags) flagIcon ≡ t
         → drop 50880 (pick d cells (pick t (fillOf cells (cellAt s (c .icon)) s (c .icon)) cells)) ≡ drop 50880 cells
     go true t e = refl
     go false true e = fill-past cells (cellAt s (c .icon)) s (c .icon) wide (f .cell e) (f .low e) (f .high e)

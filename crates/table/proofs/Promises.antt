@@ -19,6 +19,7 @@ use Rattle.body.proofs.Each.{sets-flagged}
 use Rattle.cache.specs.Cells.{carriedPicture}
 use Rattle.table.specs.Table.{Table, emptied, there, directory, number, fieldRows, fieldsAt, bodyAfter, bodyBefore, changeRecord, changeDesktop, desktopAfter, changeOn, after}
 use Rattle.table.specs.Promises.{orderFor, secondOf, freshFor, Updates, Updated, UpdatesKeep, DirectoryAlone}
+use Rattle.protocol.specs.Flags.{desktopNone, flagDeleted, flagIcon}
 
 -- ---- an update
 
@@ -52,11 +53,11 @@ module _ (t : Table) (s : List ℕ) (f : Family) (a b flags icon : ℕ) (u : Upd
   unfolding changeRecord
   desktop-is = rw (u .stays)
 
-  filled-is : has flags 0x40000000 ≡ true → changed .cells (cellAt s icon) ≡ some (carriedPicture s icon)
+  filled-is : has flags flagIcon ≡ true → changed .cells (cellAt s icon) ≡ some (carriedPicture s icon)
   unfolding changeRecord
   filled-is h = rw (u .stays, h, eq-eqb (cellAt s icon) (cellAt s icon) refl)
 
-  cells-are : (c : ℕ) → both (has flags 0x40000000) (eqb (cellAt s icon) c) ≡ false → changed .cells c ≡ t .cells c
+  cells-are : (c : ℕ) → both (has flags flagIcon) (eqb (cellAt s icon) c) ≡ false → changed .cells c ≡ t .cells c
   unfolding changeRecord
   cells-are c e = rw (u .stays, e)
 
@@ -106,14 +107,14 @@ set-record t f a b fresh flags s icon =
     record {
       records = λ g x y. pick (sameRecord f a b g x y) (some (bodyAfter f flags s icon (bodyBefore t f a b fresh))) (t .records g x y);
       many = λ g. pick (both fresh (sameFamily f g)) (t .many g + 1) (t .many g);
-      cells = λ c. pick (both (has flags 0x40000000) (eqb (cellAt s icon) c)) (some (carriedPicture s icon)) (t .cells c);
+      cells = λ c. pick (both (has flags flagIcon) (eqb (cellAt s icon) c)) (some (carriedPicture s icon)) (t .cells c);
       desktop = t .desktop;
     }
 
 record-directory : (t : Table) (f : Family) (a b : ℕ) (fresh : Bool) (flags : ℕ) (s : List ℕ) (icon : ℕ)
     → directory (changeRecord t f a b fresh flags s icon) ≡ D.changeRecord (directory t) f a b fresh flags s icon
 unfolding directory changeRecord D.changeRecord
-record-directory t f a b fresh flags s icon = go (has flags 0x20000000)
+record-directory t f a b fresh flags s icon = go (has flags flagDeleted)
   where
     go : (d : Bool) → directory (pick d (gone t f a b) (set-record t f a b fresh flags s icon))
         ≡ pick d
@@ -125,7 +126,7 @@ record-directory t f a b fresh flags s icon = go (has flags 0x20000000)
         (record {
           listed = λ g x y. pick (sameRecord f a b g x y) true (there (t .records g x y));
           many = λ g. pick (both fresh (sameFamily f g)) (t .many g + 1) (t .many g);
-          filled = λ c. either (both (has flags 0x40000000) (eqb (cellAt s icon) c)) (there (t .cells c));
+          filled = λ c. either (both (has flags flagIcon) (eqb (cellAt s icon) c)) (there (t .cells c));
         })
     go true = λ i. record {
       listed = λ g x y. there-none (sameRecord f a b g x y) (t .records g x y) i;
@@ -136,12 +137,12 @@ record-directory t f a b fresh flags s icon = go (has flags 0x20000000)
       listed =
           λ g x y. there-some (sameRecord f a b g x y) (bodyAfter f flags s icon (bodyBefore t f a b fresh)) (t .records g x y) i;
       many = λ g. pick (both fresh (sameFamily f g)) (t .many g + 1) (t .many g);
-      filled = λ c. there-either (both (has flags 0x40000000) (eqb (cellAt s icon) c)) (carriedPicture s icon) (t .cells c) i;
+      filled = λ c. there-either (both (has flags flagIcon) (eqb (cellAt s icon) c)) (carriedPicture s icon) (t .cells c) i;
     }
 
 desktop-directory : (t : Table) (flags : ℕ) (s : List ℕ) → directory (changeDesktop t flags s) ≡ D.changeDesktop (directory t) flags
 unfolding directory changeDesktop D.changeDesktop emptied
-desktop-directory t flags s = go (has flags 0x00000001)
+desktop-directory t flags s = go (has flags desktopNone)
   where
     go : (d : Bool)
         → directory

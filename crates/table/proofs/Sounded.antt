@@ -34,6 +34,7 @@ use Rattle.table.specs.Memory.{windowOk, notificationOk, filledOk, sound
 use Rattle.table.specs.Changes.{slotAfter, bodiesAfter, cellsAfter, desktopSlot, Able}
 use Rattle.table.proofs.Bodied.{markFor, secondMost, slot-length, slot-ok, desktop-length, desktop-ok}
 use Rattle.table.proofs.Joined.{slots-after, filled-now, desk-slots}
+use Rattle.protocol.specs.Flags.{desktopNone, flagDeleted, flagIcon, flagsIcon}
 
 -- ---- the rule as facts
 
@@ -133,7 +134,7 @@ one-family notifications notifications i v w = refl
 -- ---- after the change of a record
 
 module _ (f : Family) (dir bodies cells s : List ℕ) (c : Change) (p : Planned f dir s c) (a : Able (fieldRows f) (fieldsAt f) s c)
-    (cell : has (c .flags) 0xC0000000 ≡ true → cellAt s (c .icon) < 12) (icon : has (c .flags) 0x40000000 ≡ true → AnIcon s (c .icon))
+    (cell : has (c .flags) flagsIcon ≡ true → cellAt s (c .icon) < 12) (icon : has (c .flags) flagIcon ≡ true → AnIcon s (c .icon))
     (g : Sound dir bodies cells) where
   long : 444 ≤ length dir
   long = sound-has dir (g .directory) .long
@@ -141,15 +142,15 @@ module _ (f : Family) (dir bodies cells s : List ℕ) (c : Change) (p : Planned 
   -- a slot that is used after was so before, unless it is the record's own
   fill-used : (d : List ℕ) → 444 ≤ length d → (j : ℕ) → j < 48 → isUsed (filledOf d s (c .flags) (c .icon)) j ≡ isUsed d j
   unfolding filledOf
-  fill-used d l j u = go (has (c .flags) 0x40000000) refl
+  fill-used d l j u = go (has (c .flags) flagIcon) refl
     where
-      go : (t : Bool) → has (c .flags) 0x40000000 ≡ t → isUsed (pick t (splice d (432 + cellAt s (c .icon)) (bytesOf 1 1)) d) j ≡ isUsed d j
+      go : (t : Bool) → has (c .flags) flagIcon ≡ t → isUsed (pick t (splice d (432 + cellAt s (c .icon)) (bytesOf 1 1)) d) j ≡ isUsed d j
       go true e = same-used d (splice d (432 + cellAt s (c .icon)) (bytesOf 1 1)) j (filled-is d (cellAt s (c .icon)) l (p .icon e) .slots j u)
       go false e = refl
 
   used-after : (j : ℕ) → j < 48 → (j ≡ c .slot → ⊥) → isUsed (markedOf dir s c) j ≡ isUsed dir j
   unfolding markedOf
-  used-after j u ne = go (has (c .flags) 0x20000000) (c .fresh) refl
+  used-after j u ne = go (has (c .flags) flagDeleted) (c .fresh) refl
     where
       listed : Kept dir (listedOf dir (c .slot) (c .a) (c .b)) (c .slot)
       listed = listed-is dir (c .slot) (c .a) (c .b) long (a .slot) (p .first) (second-small f (c .b) (p .second)) .kept
@@ -162,7 +163,7 @@ module _ (f : Family) (dir bodies cells s : List ℕ) (c : Change) (p : Planned 
           ∙ same-used dir (listedOf dir (c .slot) (c .a) (c .b)) j (listed .others j ne)
       go false false e = fill-used dir long j u
 
-  gone : has (c .flags) 0x20000000 ≡ true → isUsed (markedOf dir s c) (c .slot) ≡ false
+  gone : has (c .flags) flagDeleted ≡ true → isUsed (markedOf dir s c) (c .slot) ≡ false
   unfolding markedOf
   gone h = rw h (free-is (freedOf dir (c .slot)) (c .slot) (freed-is dir (c .slot) long (a .slot) .used))
 
@@ -193,11 +194,11 @@ module _ (f : Family) (dir bodies cells s : List ℕ) (c : Change) (p : Planned 
   slots : (j : ℕ) → slotOf spliced j ≡ pick (eqb (c .slot) j) after (slotOf bodies j)
   slots j = slots-after f dir bodies cells s c p (g .directory) a cell icon (g .big) (g .wide) j
 
-  records-ok : (d : Bool) → has (c .flags) 0x20000000 ≡ d → (h : Family) (i : ℕ) → Within h i → isUsed (markedOf dir s c) i ≡ true
+  records-ok : (d : Bool) → has (c .flags) flagDeleted ≡ d → (h : Family) (i : ℕ) → Within h i → isUsed (markedOf dir s c) i ≡ true
       → bodyOk (fieldRows h) 12 (secondMost h) (slotOf (pick d bodies spliced) i) ≡ true
   records-ok d e h i w u = go (eqb (c .slot) i) d refl e
     where
-      go : (t d : Bool) → eqb (c .slot) i ≡ t → has (c .flags) 0x20000000 ≡ d
+      go : (t d : Bool) → eqb (c .slot) i ≡ t → has (c .flags) flagDeleted ≡ d
           → bodyOk (fieldRows h) 12 (secondMost h) (slotOf (pick d bodies spliced) i) ≡ true
       go true true x y = no (sym (gone y) ∙ ap (isUsed (markedOf dir s c)) (eqb-true (c .slot) i x) ∙ u)
       go true false x y =
@@ -210,16 +211,16 @@ module _ (f : Family) (dir bodies cells s : List ℕ) (c : Change) (p : Planned 
           let e : slotOf spliced i ≡ slotOf bodies i = slots i ∙ rw x in
           rw e (g .records h i w (sym (used-after i (within-slots h i w) (λ q. eqb-false (c .slot) i x (sym q))) ∙ u))
 
-  filled-before : (d : Bool) → has (c .flags) 0x20000000 ≡ d → (k : ℕ) → filledAt (markedOf dir s c) k ≡ true
-      → pick d (filledAt dir k) (either (both (has (c .flags) 0x40000000) (eqb (cellAt s (c .icon)) k)) (filledAt dir k)) ≡ true
+  filled-before : (d : Bool) → has (c .flags) flagDeleted ≡ d → (k : ℕ) → filledAt (markedOf dir s c) k ≡ true
+      → pick d (filledAt dir k) (either (both (has (c .flags) flagIcon) (eqb (cellAt s (c .icon)) k)) (filledAt dir k)) ≡ true
   filled-before d e k h = sym (filled-now f dir bodies cells s c p (g .directory) a cell icon (g .big) (g .wide) d e k) ∙ h
 
-  filled-fine : (d : Bool) → has (c .flags) 0x20000000 ≡ d → (k : ℕ) → filledAt (markedOf dir s c) k ≡ true
-      → cellOk (cellOf (pick d cells (pick (has (c .flags) 0x40000000) (fillOf cells (cellAt s (c .icon)) s (c .icon)) cells)) k) ≡ true
+  filled-fine : (d : Bool) → has (c .flags) flagDeleted ≡ d → (k : ℕ) → filledAt (markedOf dir s c) k ≡ true
+      → cellOk (cellOf (pick d cells (pick (has (c .flags) flagIcon) (fillOf cells (cellAt s (c .icon)) s (c .icon)) cells)) k) ≡ true
   filled-fine true e k h = g .filled k (filled-before true e k h)
-  filled-fine false e k h = go (has (c .flags) 0x40000000) (eqb (cellAt s (c .icon)) k) refl refl (filled-before false e k h)
+  filled-fine false e k h = go (has (c .flags) flagIcon) (eqb (cellAt s (c .icon)) k) refl refl (filled-before false e k h)
     where
-      go : (t u : Bool) → has (c .flags) 0x40000000 ≡ t → eqb (cellAt s (c .icon)) k ≡ u → either (both t u) (filledAt dir k) ≡ true
+      go : (t u : Bool) → has (c .flags) flagIcon ≡ t → eqb (cellAt s (c .icon)) k ≡ u → either (both t u) (filledAt dir k) ≡ true
           → cellOk (cellOf (pick t (fillOf cells (cellAt s (c .icon)) s (c .icon)) cells) k) ≡ true
       go true true x y h =
           let i = a .icon in
@@ -232,15 +233,15 @@ module _ (f : Family) (dir bodies cells s : List ℕ) (c : Change) (p : Planned 
 
   pub record-sounded : Sound (markedOf dir s c) (bodiesAfter (fieldRows f) (fieldsAt f) (markFor f (c .flags)) s c bodies) (cellsAfter s c cells)
   unfolding bodiesAfter cellsAfter
-  record-sounded = go (has (c .flags) 0x20000000) refl
+  record-sounded = go (has (c .flags) flagDeleted) refl
     where
-      go : (d : Bool) → has (c .flags) 0x20000000 ≡ d
+      go : (d : Bool) → has (c .flags) flagDeleted ≡ d
           → Sound (markedOf dir s c) (pick d bodies spliced)
-          (pick d cells (pick (has (c .flags) 0x40000000) (fillOf cells (cellAt s (c .icon)) s (c .icon)) cells))
+          (pick d cells (pick (has (c .flags) flagIcon) (fillOf cells (cellAt s (c .icon)) s (c .icon)) cells))
       go d e =
           record {
             big = bodies-long d;
-            wide = cells-long d (has (c .flags) 0x40000000) refl;
+            wide = cells-long d (has (c .flags) flagIcon) refl;
             directory = sound-is (markedOf dir s c) (record-sound f dir s c p (g .directory));
             records = records-ok d e;
             desktop = desk d;
@@ -251,7 +252,7 @@ module _ (f : Family) (dir bodies cells s : List ℕ) (c : Change) (p : Planned 
           bodies-long true = g .big
           bodies-long false = omega (arith, length-bodies bodies (c .slot) after after-long room, g .big)
 
-          cells-long : (d t : Bool) → has (c .flags) 0x40000000 ≡ t
+          cells-long : (d t : Bool) → has (c .flags) flagIcon ≡ t
               → 50880 ≤ length (pick d cells (pick t (fillOf cells (cellAt s (c .icon)) s (c .icon)) cells))
           cells-long true t x = g .wide
           cells-long false true x =
@@ -278,8 +279,8 @@ module _ (dir bodies cells s : List ℕ) (flags : ℕ) (g : Sound dir bodies cel
   desk-at : (j : ℕ) → slotOf (splice bodies 43968 desk) j ≡ pick (eqb 48 j) desk (slotOf bodies j)
   desk-at j = desk-slots dir bodies cells s flags (g .directory) (g .big) inside e j
 
-  pub desktop-sounded : Sound (pick (has flags 0x00000001) (clearedOf dir) dir) (splice bodies 43968 desk) cells
-  desktop-sounded = go (has flags 0x00000001)
+  pub desktop-sounded : Sound (pick (has flags desktopNone) (clearedOf dir) dir) (splice bodies 43968 desk) cells
+  desktop-sounded = go (has flags desktopNone)
     where
       long : 444 ≤ length dir
       long = sound-has dir (g .directory) .long

@@ -22,6 +22,7 @@ use Rattle.body.proofs.Slots.{length-slot, slot-lent, slots-back}
 use Rattle.cache.specs.Cells.{cellOf, cellOk, fillOf}
 use Rattle.table.specs.Changes.{markOf, slotAfter, bodiesAfter, cellsAfter, desktopSlot, IconFits}
 use Rattle.table.specs.Memory.{recordOk, windowOk, notificationOk, filledOk, soundTable}
+use Rattle.protocol.specs.Flags.{flagBigIcon, flagDeleted, flagIcon}
 
 pub lacks : (flags mask : ℕ) → bitAnd flags mask ≡ 0 → has flags mask ≡ false
 lacks flags mask h = rw (eq-eqb (bitAnd flags mask) 0 h)
@@ -53,20 +54,20 @@ slot-back bodies k base n change {x} room at all size e =
 -- ---- the bodies
 
 module _ (rows : List Row) (at mark : ℕ) (s : List ℕ) (c : Change) (bodies : List ℕ) where
-  pub body-kept : (bitAnd (c .flags) 0x20000000 ≡ 0 → ⊥) → bodies ≡ bodiesAfter rows at mark s c bodies
+  pub body-kept : (bitAnd (c .flags) flagDeleted ≡ 0 → ⊥) → bodies ≡ bodiesAfter rows at mark s c bodies
   unfolding bodiesAfter
-  body-kept h = rw (holds (c .flags) 0x20000000 h)
+  body-kept h = rw (holds (c .flags) flagDeleted h)
 
-  pub body-changed : {x : List ℕ} → bitAnd (c .flags) 0x20000000 ≡ 0 → x ≡ splice bodies (916 * c .slot) (slotAfter rows at mark s c (slotOf bodies (c .slot)))
+  pub body-changed : {x : List ℕ} → bitAnd (c .flags) flagDeleted ≡ 0 → x ≡ splice bodies (916 * c .slot) (slotAfter rows at mark s c (slotOf bodies (c .slot)))
       → x ≡ bodiesAfter rows at mark s c bodies
   unfolding bodiesAfter
-  body-changed h e = rw (lacks (c .flags) 0x20000000 h) e
+  body-changed h e = rw (lacks (c .flags) flagDeleted h) e
 
-pub big : (flags : ℕ) → (bitAnd flags 0x00002000 ≡ 0 → ⊥) → (1 ≡ markOf flags) × (1 < 2)
-big flags h = (rw (holds flags 0x00002000 h), omega arith)
+pub big : (flags : ℕ) → (bitAnd flags flagBigIcon ≡ 0 → ⊥) → (1 ≡ markOf flags) × (1 < 2)
+big flags h = (rw (holds flags flagBigIcon h), omega arith)
 
-pub small : (flags : ℕ) → bitAnd flags 0x00002000 ≡ 0 → (0 ≡ markOf flags) × (0 < 2)
-small flags h = (rw (lacks flags 0x00002000 h), omega arith)
+pub small : (flags : ℕ) → bitAnd flags flagBigIcon ≡ 0 → (0 ≡ markOf flags) × (0 < 2)
+small flags h = (rw (lacks flags flagBigIcon h), omega arith)
 
 pub marked : (s : List ℕ) (c : Change) (bodies : List ℕ) {mark : ℕ} {x : List ℕ} → mark ≡ markOf (c .flags) → x ≡ bodiesAfter windowFields 11 mark s c bodies
     → x ≡ bodiesAfter windowFields 11 (markOf (c .flags)) s c bodies
@@ -84,22 +85,22 @@ desktop-fits = omega (arith, desktop-room)
 -- ---- the cells
 
 module _ (s : List ℕ) (c : Change) (cells : List ℕ) where
-  pub cells-deleted : (bitAnd (c .flags) 0x20000000 ≡ 0 → ⊥) → cells ≡ cellsAfter s c cells
+  pub cells-deleted : (bitAnd (c .flags) flagDeleted ≡ 0 → ⊥) → cells ≡ cellsAfter s c cells
   unfolding cellsAfter
-  cells-deleted h = rw (holds (c .flags) 0x20000000 h)
+  cells-deleted h = rw (holds (c .flags) flagDeleted h)
 
-  module _ (h : bitAnd (c .flags) 0x20000000 ≡ 0) where
-    pub cells-kept : bitAnd (c .flags) 0x40000000 ≡ 0 → cells ≡ cellsAfter s c cells
+  module _ (h : bitAnd (c .flags) flagDeleted ≡ 0) where
+    pub cells-kept : bitAnd (c .flags) flagIcon ≡ 0 → cells ≡ cellsAfter s c cells
     unfolding cellsAfter
-    cells-kept g = rw (lacks (c .flags) 0x20000000 h, lacks (c .flags) 0x40000000 g)
+    cells-kept g = rw (lacks (c .flags) flagDeleted h, lacks (c .flags) flagIcon g)
 
-    pub cell-filled : {k : ℕ} {x : List ℕ} → (bitAnd (c .flags) 0x40000000 ≡ 0 → ⊥) → k ≡ cellAt s (c .icon) → x ≡ fillOf cells k s (c .icon) → x ≡ cellsAfter s c cells
+    pub cell-filled : {k : ℕ} {x : List ℕ} → (bitAnd (c .flags) flagIcon ≡ 0 → ⊥) → k ≡ cellAt s (c .icon) → x ≡ fillOf cells k s (c .icon) → x ≡ cellsAfter s c cells
     unfolding cellsAfter
-    cell-filled g e f = rw (lacks (c .flags) 0x20000000 h, holds (c .flags) 0x40000000 g, ← e) f
+    cell-filled g e f = rw (lacks (c .flags) flagDeleted h, holds (c .flags) flagIcon g, ← e) f
 
-pub icon-fits : (s : List ℕ) (flags icon : ℕ) {k : ℕ} → (bitAnd flags 0x40000000 ≡ 0 → ⊥) → k ≡ cellAt s icon → IconFits s flags icon
+pub icon-fits : (s : List ℕ) (flags icon : ℕ) {k : ℕ} → (bitAnd flags flagIcon ≡ 0 → ⊥) → k ≡ cellAt s icon → IconFits s flags icon
     → (k < 12) × (icon + 12 ≤ length s) × (length s ≤ icon + 4238)
-icon-fits s flags icon h e f = let t = holds flags 0x40000000 h in (rw e (f .cell t), f .low t, f .high t)
+icon-fits s flags icon h e f = let t = holds flags flagIcon h in (rw e (f .cell t), f .low t, f .high t)
 
 -- ---- the desktop
 

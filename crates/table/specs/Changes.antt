@@ -14,10 +14,11 @@ use Rattle.directory.specs.Plans.{cellAt}
 use Rattle.body.specs.Bodies.{windowFields, notificationFields, desktopFields, slotOf}
 use Rattle.body.specs.Stores.{storeOf, preparedOf, pointedOf, hookedOf, syncedOf, EndsWell}
 use Rattle.cache.specs.Cells.{fillOf}
+use Rattle.protocol.specs.Flags.{desktopNone, flagBigIcon, flagDeleted, flagIcon}
 
 -- the mark that an icon of a window sets
 abbrev pub markOf : ℕ → ℕ
-markOf flags = pick (has flags 0x00002000) 1 0
+markOf flags = pick (has flags flagBigIcon) 1 0
 
 -- a slot after the order of a change
 unfoldable pub slotAfter : List Row → ℕ → ℕ → List ℕ → Change → List ℕ → List ℕ
@@ -26,18 +27,18 @@ slotAfter rows at mark s c slot =
 
 unfoldable pub bodiesAfter : List Row → ℕ → ℕ → List ℕ → Change → List ℕ → List ℕ
 bodiesAfter rows at mark s c bodies =
-    pick (has (c .flags) 0x20000000) bodies
+    pick (has (c .flags) flagDeleted) bodies
     (splice bodies (916 * c .slot) (slotAfter rows at mark s c (slotOf bodies (c .slot))))
 
 unfoldable pub cellsAfter : List ℕ → Change → List ℕ → List ℕ
 cellsAfter s c cells =
-    pick (has (c .flags) 0x20000000) cells
-    (pick (has (c .flags) 0x40000000) (fillOf cells (cellAt s (c .icon)) s (c .icon)) cells)
+    pick (has (c .flags) flagDeleted) cells
+    (pick (has (c .flags) flagIcon) (fillOf cells (cellAt s (c .icon)) s (c .icon)) cells)
 
 -- the desktop's slot after an order
 unfoldable pub desktopSlot : ℕ → List ℕ → List ℕ → List ℕ
 desktopSlot flags s slot =
-    pick (has flags 0x00000001) (preparedOf true slot)
+    pick (has flags desktopNone) (preparedOf true slot)
     (storeOf desktopFields 2 flags s 7 (syncedOf flags (hookedOf flags slot)))
 
 unfoldable pub bodiesBy : List ℕ → Plan → List ℕ → List ℕ
@@ -56,9 +57,9 @@ cellsBy s (Refuse n) cells = cells
 
 -- an icon's cell and bytes, where one is carried
 pub record IconFits (s : List ℕ) (flags icon : ℕ) : Type 0 where
-  pub cell : has flags 0x40000000 ≡ true → cellAt s icon < 12
-  pub low : has flags 0x40000000 ≡ true → icon + 12 ≤ length s
-  pub high : has flags 0x40000000 ≡ true → length s ≤ icon + 4238
+  pub cell : has flags flagIcon ≡ true → cellAt s icon < 12
+  pub low : has flags flagIcon ≡ true → icon + 12 ≤ length s
+  pub high : has flags flagIcon ≡ true → length s ≤ icon + 4238
 
 pub record Able (rows : List Row) (at : ℕ) (s : List ℕ) (c : Change) : Type 0 where
   pub slot : c .slot < 48

@@ -24,6 +24,7 @@ use Rattle.table.specs.declared.Want.{Want}
 use Rattle.table.specs.declared.Want.the-variants.{Nothing, Window, Notification, Cell, Desktop}
 use Rattle.table.specs.Table.{Table}
 use Rattle.table.specs.Changes.{markOf, slotAfter, desktopSlot, Able}
+use Rattle.protocol.specs.Flags.{flagDeleted, flagIcon}
 
 -- the bytes of the memory: a slot, or a cell, or none
 abbrev pub roomFor : Want → ℕ
@@ -51,7 +52,7 @@ beginOf Desktop dir bodies cells m = splice m 0 (slotOf bodies 48)
 -- ---- one order: a deleted record is left as it is, since only a new one can come after it
 
 abbrev pub recordChanged : List Row → ℕ → ℕ → Bool → List ℕ → Change → List ℕ → List ℕ
-recordChanged rows at mark same s c m = pick (both same (not (has (c .flags) 0x20000000))) (slotAfter rows at mark s c m) m
+recordChanged rows at mark same s c m = pick (both same (not (has (c .flags) flagDeleted))) (slotAfter rows at mark s c m) m
 
 unfoldable pub followedWindow : ℕ → List ℕ → Plan → List ℕ → List ℕ
 followedWindow a s (ChangeWindow c) m = recordChanged windowFields 11 (markOf (c .flags)) (eqb (c .a) a) s c m
@@ -67,8 +68,8 @@ followedNotification a b s (Refuse n) m = m
 
 unfoldable pub iconPut : ℕ → List ℕ → Change → List ℕ → List ℕ
 iconPut k s c m =
-    pick (has (c .flags) 0x20000000) m
-    (pick (both (has (c .flags) 0x40000000) (eqb (cellAt s (c .icon)) k)) (putOf m s (c .icon)) m)
+    pick (has (c .flags) flagDeleted) m
+    (pick (both (has (c .flags) flagIcon) (eqb (cellAt s (c .icon)) k)) (putOf m s (c .icon)) m)
 
 unfoldable pub followedCell : ℕ → List ℕ → Plan → List ℕ → List ℕ
 followedCell k s (ChangeWindow c) m = iconPut k s c m

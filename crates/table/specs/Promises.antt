@@ -14,6 +14,7 @@ use Rattle.directory.specs.Directory.{Family, windows, notifications, sameRecor
 use Rattle.body.specs.Bodies.{Body, SetsFlagged}
 use Rattle.cache.specs.Cells.{carriedPicture}
 use Rattle.table.specs.Table.{Table, directory, number, fieldRows, fieldsAt, bodyBefore, after}
+use Rattle.protocol.specs.Flags.{flagDeleted, flagIcon}
 
 -- an order of a family for the record of the ids a and b
 abbrev pub orderFor : Family → ℕ → ℕ → ℕ → ℕ → Judged
@@ -34,7 +35,7 @@ freshFor notifications flags = freshNotification flags
 pub record Updates (t : Table) (s : List ℕ) (f : Family) (a b flags icon : ℕ) : Type 0 where
   pub judged : judgeOf s ≡ orderFor f a b flags icon
   pub accepted : number t s ≡ 0
-  pub stays : has flags 0x20000000 ≡ false
+  pub stays : has flags flagDeleted ≡ false
 
 -- exactly the flagged fields are set, each to the carried value; no other record and no desktop state changes; only the cell that
 -- a carried icon names is filled, with that icon's picture
@@ -44,8 +45,8 @@ pub record Updated (t : Table) (s : List ℕ) (f : Family) (a b flags icon : ℕ
   pub fields : SetsFlagged (fieldRows f) flags s (fieldsAt f) (bodyBefore t f a (secondOf f b) (freshFor f flags) .fields) (new .fields)
   pub others : (g : Family) (x y : ℕ) → sameRecord f a (secondOf f b) g x y ≡ false → after t s .records g x y ≡ t .records g x y
   pub desktop : after t s .desktop ≡ t .desktop
-  pub filled : has flags 0x40000000 ≡ true → after t s .cells (cellAt s icon) ≡ some (carriedPicture s icon)
-  pub cells : (c : ℕ) → both (has flags 0x40000000) (eqb (cellAt s icon) c) ≡ false → after t s .cells c ≡ t .cells c
+  pub filled : has flags flagIcon ≡ true → after t s .cells (cellAt s icon) ≡ some (carriedPicture s icon)
+  pub cells : (c : ℕ) → both (has flags flagIcon) (eqb (cellAt s icon) c) ≡ false → after t s .cells c ≡ t .cells c
 
 unfoldable pub UpdatesKeep : Type 0
 UpdatesKeep = (t : Table) (s : List ℕ) (f : Family) (a b flags icon : ℕ) → Updates t s f a b flags icon → Updated t s f a b flags icon

@@ -14,6 +14,7 @@ use Rattle.directory.specs.Plans.{freshWindow, freshNotification, cellAt}
 use Rattle.directory.specs.Directory.{Family, windows, notifications, sameFamily, sameRecord, Directory, numberIn}
 use Rattle.body.specs.Bodies.{Body, windowFields, notificationFields, desktopFields, setFlagged, emptyBody}
 use Rattle.cache.specs.Cells.{carriedPicture}
+use Rattle.protocol.specs.Flags.{desktopArcBegan, desktopArcCompleted, desktopHooked, desktopNone, flagBigIcon, flagDeleted, flagIcon, flagsIcon}
 
 -- the records by family and ids, and how many there are; the cells of the icon cache by number; the desktop state
 pub record Table : Type 0 where
@@ -59,15 +60,15 @@ fieldsAt notifications = 15
 
 -- the second mark is meant: a window's big icon
 abbrev pub toSecond : Family → ℕ → Bool
-toSecond windows flags = has flags 0x00002000
+toSecond windows flags = has flags flagBigIcon
 toSecond notifications flags = false
 
 -- a body after an order: flagged fields are set; an icon or a cached icon points at its cell
 unfoldable pub bodyAfter : Family → ℕ → List ℕ → ℕ → Body → Body
 bodyAfter f flags s icon b =
     record {
-      first = pick (both (has flags 0xC0000000) (not (toSecond f flags))) (cellAt s icon + 1) (b .first);
-      second = pick (both (has flags 0xC0000000) (toSecond f flags)) (cellAt s icon + 1) (b .second);
+      first = pick (both (has flags flagsIcon) (not (toSecond f flags))) (cellAt s icon + 1) (b .first);
+      second = pick (both (has flags flagsIcon) (toSecond f flags)) (cellAt s icon + 1) (b .second);
       fields = setFlagged (fieldRows f) flags s (fieldsAt f) (b .fields);
     }
 
@@ -82,7 +83,7 @@ bodyBefore t f a b fresh = pick fresh (emptyBody (fieldRows f)) (bodyIn f (t .re
 unfoldable pub changeRecord : Table → Family → ℕ → ℕ → Bool → ℕ → List ℕ → ℕ → Table
 changeRecord t f a b fresh flags s icon =
     -- deleted: the record goes; cells and the stacking list stay
-    pick (has flags 0x20000000)
+    pick (has flags flagDeleted)
     (record {
       records = λ g x y. pick (sameRecord f a b g x y) none (t .records g x y);
       many = λ g. pick (sameFamily f g) (t .many g - 1) (t .many g);
@@ -93,7 +94,7 @@ changeRecord t f a b fresh flags s icon =
     (record {
       records = λ g x y. pick (sameRecord f a b g x y) (some (bodyAfter f flags s icon (bodyBefore t f a b fresh))) (t .records g x y);
       many = λ g. pick (both fresh (sameFamily f g)) (t .many g + 1) (t .many g);
-      cells = λ c. pick (both (has flags 0x40000000) (eqb (cellAt s icon) c)) (some (carriedPicture s icon)) (t .cells c);
+      cells = λ c. pick (both (has flags flagIcon) (eqb (cellAt s icon) c)) (some (carriedPicture s icon)) (t .cells c);
       desktop = t .desktop;
     })
 
@@ -101,15 +102,15 @@ changeRecord t f a b fresh flags s icon =
 unfoldable pub desktopAfter : ℕ → List ℕ → Body → Body
 desktopAfter flags s b =
     record {
-      first = pick (has flags 0x00000002) 1 (b .first);
-      second = pick (has flags 0x00000008) 1 (pick (has flags 0x00000004) 0 (b .second));
+      first = pick (has flags desktopHooked) 1 (b .first);
+      second = pick (has flags desktopArcBegan) 1 (pick (has flags desktopArcCompleted) 0 (b .second));
       fields = setFlagged desktopFields flags s 7 (b .fields);
     }
 
 unfoldable pub changeDesktop : Table → ℕ → List ℕ → Table
 changeDesktop t flags s =
     -- none: an emptied table with the cells as they were
-    pick (has flags 0x00000001)
+    pick (has flags desktopNone)
     (record { records = emptied .records; many = emptied .many; cells = t .cells; desktop = emptied .desktop })
     (record { records = t .records; many = t .many; cells = t .cells; desktop = desktopAfter flags s (t .desktop) })
 

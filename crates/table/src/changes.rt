@@ -10,6 +10,7 @@ ghost use Rattle.directory.specs.Marks.{markedOf, clearedOf};
 ghost use Rattle.body.specs.Bodies.{windowFields, notificationFields, desktopFields, slotOf};
 ghost use Rattle.body.specs.Stores.{roomAll, EndsWell};
 ghost use Rattle.table.specs.Changes.{markOf, slotAfter, bodiesAfter, cellsAfter, desktopSlot, IconFits, Able};
+ghost use Rattle.protocol.specs.Flags.{desktopNone};
 use directory::Change;
 
 // The pointer at the cell that an icon or cached icon names.
@@ -55,7 +56,7 @@ fn change_body(
     requires { ⌜ Able (rowsFrom low high) at (now s) c ⌝ }
     ensures { λ _. ⌜ now (bodies .exit) ≡ bodiesAfter (rowsFrom low high) at mark (now (s .entry)) c (now (bodies .entry)) ⌝ }
 {
-    if c.flags & 0x2000_0000 != 0 {
+    if c.flags & protocol::DELETED != 0 {
         return;
     }
     let base = 916 * c.slot;
@@ -69,10 +70,10 @@ fn change_cell(cells: &mut [u8], s: &[u8], c: Change)
     ensures { λ _. ⌜ now (cells .exit) ≡ cellsAfter (now (s .entry)) c (now (cells .entry)) ⌝ }
 {
     let flags = c.flags;
-    if flags & 0x2000_0000 != 0 {
+    if flags & protocol::DELETED != 0 {
         return;
     }
-    if flags & 0x4000_0000 == 0 {
+    if flags & protocol::ICON == 0 {
         return;
     }
     let k = directory::places::cell(s, c.icon);
@@ -83,7 +84,7 @@ fn change_cell(cells: &mut [u8], s: &[u8], c: Change)
 pub fn window_mark(flags: u32) -> usize
     ensures { λ r. ⌜ (r ≡ markOf flags) × (r < 2) ⌝ }
 {
-    if flags & 0x0000_2000 != 0 {
+    if flags & protocol::BIG_ICON != 0 {
         return 1;
     }
     0
@@ -120,7 +121,7 @@ pub fn desktop_slot(slot: &mut [u8], s: &[u8], flags: u32)
     requires { ⌜ EndsWell desktopFields flags (now s) 7 ⌝ }
     ensures { λ _. ⌜ now (slot .exit) ≡ desktopSlot flags (now (s .entry)) (now (slot .entry)) ⌝ }
 {
-    if flags & 0x0000_0001 != 0 {
+    if flags & protocol::DESKTOP_NONE != 0 {
         body::prepare(slot, true);
         return;
     }
@@ -132,7 +133,7 @@ pub fn desktop_slot(slot: &mut [u8], s: &[u8], flags: u32)
 pub fn desktop(dir: &mut [u8], bodies: &mut [u8], s: &[u8], flags: u32)
     requires { ⌜ (444 ≤ length (now dir)) × (44884 ≤ length (now bodies)) × (7 ≤ length (now s)) ⌝ }
     requires { ⌜ EndsWell desktopFields flags (now s) 7 ⌝ }
-    ensures { λ _. ⌜ now (dir .exit) ≡ pick (has flags 0x00000001) (clearedOf (now (dir .entry))) (now (dir .entry)) ⌝ }
+    ensures { λ _. ⌜ now (dir .exit) ≡ pick (has flags desktopNone) (clearedOf (now (dir .entry))) (now (dir .entry)) ⌝ }
     ensures { λ _. ⌜ now (bodies .exit) ≡ splice (now (bodies .entry)) 43968 (desktopSlot flags (now (s .entry)) (slotOf (now (bodies .entry)) 48)) ⌝ }
 {
     directory::marks::none(dir, flags);

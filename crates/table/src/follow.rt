@@ -57,7 +57,7 @@ fn follow_window(m: &mut [u8], s: &[u8], p: Plan, a: u32)
     if c.a != a {
         return;
     }
-    if c.flags & 0x2000_0000 != 0 {
+    if c.flags & protocol::DELETED != 0 {
         return;
     }
     let mark = changes::window_mark(c.flags);
@@ -77,7 +77,7 @@ fn follow_notification(m: &mut [u8], s: &[u8], p: Plan, a: u32, b: u32)
     if c.b != b {
         return;
     }
-    if c.flags & 0x2000_0000 != 0 {
+    if c.flags & protocol::DELETED != 0 {
         return;
     }
     changes::change_slot(m, s, c, 0, 15, 16, 22);
@@ -88,10 +88,10 @@ fn put_icon(m: &mut [u8], s: &[u8], c: Change, k: usize)
     requires { ⌜ (length (now m) ≡ 4240) × IconFits (now s) (c .flags) (c .icon) ⌝ }
     ensures { λ _. ⌜ now (m .exit) ≡ iconPut k (now (s .entry)) c (now (m .entry)) ⌝ }
 {
-    if c.flags & 0x2000_0000 != 0 {
+    if c.flags & protocol::DELETED != 0 {
         return;
     }
-    if c.flags & 0x4000_0000 == 0 {
+    if c.flags & protocol::ICON == 0 {
         return;
     }
     let n = directory::places::cell(s, c.icon);

@@ -7,8 +7,8 @@ ghost use lib.ListN.{length};
 ghost use Rattle.table.specs.Memory.{soundTable};
 ghost use Rattle.table.specs.Outcome.{Emptied, Delivered};
 use directory::Plan;
-use ids::NotifyIconId;
-use ids::WindowId;
+use protocol::NotifyIconId;
+use protocol::WindowId;
 
 mod changes;
 pub mod follow;

@@ -15,7 +15,7 @@ use Rattle.wire.specs.Numbers.{numAt, numsAt, total, Bytes}
 use Rattle.wire.specs.Parts.{padded}
 use Rattle.wire.proofs.Parts.{padded-same}
 use Rattle.wire.proofs.Numbers.{nums-same}
-use Rattle.ids.specs.declared.WindowId.{WindowId}
+use Rattle.protocol.specs.declared.WindowId.{WindowId}
 use Rattle.order.specs.declared.Row.{Row}
 use Rattle.order.specs.Rows.{noRow, textRow, rectanglesRow, idsRow, firstOf, lenOf}
 use Rattle.body.specs.Bodies.{Body, windowFields, notificationFields, desktopFields}

@@ -21,7 +21,7 @@ use Rattle.order.specs.Rows.{numbersRow, textRow, rectanglesRow, idsRow, roomOf
 use Rattle.body.specs.Bodies.{fieldIn}
 use Rattle.body.proofs.Placed.{len-place}
 use Rattle.layout.specs.Layouts.{fieldAt}
-use Rattle.ids.specs.declared.WindowId.{WindowId}
+use Rattle.protocol.specs.declared.WindowId.{WindowId}
 use Rattle.view.specs.Views.{windowId, eachOf, pairOf, textOf, rectanglesOf, stackOf, pointerOf}
 
 -- ---- the lesser of two

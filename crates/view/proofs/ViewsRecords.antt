@@ -8,7 +8,7 @@ use lib.Dec.{eqb}
 use lib.ListN.{getD, drop, replicate}
 use Rattle.wire.specs.Numbers.{numAt}
 use Rattle.wire.specs.Parts.{slice, splice, padded}
-use Rattle.ids.specs.declared.WindowId.{WindowId}
+use Rattle.protocol.specs.declared.WindowId.{WindowId}
 use Rattle.order.specs.declared.Row.{Row}
 use Rattle.order.specs.Rows.{noRow, numbersRow, textRow, rectanglesRow, idsRow}
 use Rattle.order.specs.Icons.{tabled}

@@ -7,7 +7,7 @@ use lib.ListN.{getD, drop}
 use Rattle.wire.specs.Tests.{pick}
 use Rattle.wire.specs.Numbers.{numAt}
 use Rattle.wire.specs.Parts.{padded}
-use Rattle.ids.specs.declared.WindowId.{WindowId}
+use Rattle.protocol.specs.declared.WindowId.{WindowId}
 use Rattle.order.specs.Icons.{tabled}
 use Rattle.body.specs.Bodies.{Body}
 use Rattle.view.specs.declared.Pair.{Pair}

@@ -3,7 +3,7 @@
 ghost use mathlib.Core.Path.{_≡_};
 ghost use Rattle.body.specs.Bodies.{windowFields, notificationFields, desktopFields, bodyOf};
 ghost use Rattle.view.specs.Views.{windowOf, notificationOf, desktopOf, pictureView};
-use ids::WindowId;
+use protocol::WindowId;
 
 mod parts;
 

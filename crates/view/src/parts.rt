@@ -14,7 +14,7 @@ use crate::Pointer;
 use crate::Rectangles;
 use crate::Stack;
 use crate::Text;
-use ids::WindowId;
+use protocol::WindowId;
 
 pub fn pair(s: &[u8], at: usize) -> Pair
     requires { ⌜ at ≤ 65535 ⌝ }
