@@ -14,14 +14,14 @@ use Rattle.directory.specs.Directory.{directoryOf}
 use Rattle.directory.specs.Sound.{soundDirectory}
 use Rattle.directory.proofs.Kept.{marked-sound}
 use Rattle.table.specs.declared.Want.{Want}
-use Rattle.table.specs.Table.{Table, directory}
+use Rattle.table.specs.Table.{directory}
 use Rattle.table.specs.Follow.{Holds}
 use Rattle.journal.specs.declared.JournalExtent.{JournalExtent}
 use Rattle.journal.specs.Limits.{journalLength}
 use Rattle.journal.specs.State.{present, run}
 use Rattle.journal.specs.Journal.{logOf}
 use Rattle.journal.specs.View.{Memory, meetsRule, stateOf}
-use Rattle.journal.specs.Replay.{indexAfter, extentOf, Validated, Validation}
+use Rattle.journal.specs.Replay.{indexAfter, extentOf, Validation}
 use Rattle.journal.proofs.Runs.{run-append}
 use Rattle.journal.proofs.Logged.{Logged, markedIn, withJournal, extent-formed, logged-more, logged-low}
 use Rattle.journal.proofs.Replays.{number-on, index-on}

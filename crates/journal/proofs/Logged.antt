@@ -6,7 +6,7 @@ use mathlib.Core.List.{List, [], _∷_, _++_}
 use Prim.Native.Nat.{ℕ, zero, suc, _+_, _-_, _≤_}
 use native.Mathlib.Omega.{arith}
 use lib.Dec.{ltb}
-use lib.ListN.{length, take, drop, length-append}
+use lib.ListN.{length, take, length-append}
 use lib.Seq.{length-take-le}
 use borrow.Author.Tests.{ltb-false, le-ltb, not-true, not-false}
 use Rattle.wire.specs.Tests.{pick, either}
@@ -18,13 +18,13 @@ use Rattle.wire.proofs.Parts.{length-splice, drop-splice}
 use Rattle.table.specs.Table.{Table, number}
 use Rattle.table.specs.Memory.{decode, soundTable}
 use Rattle.journal.specs.declared.JournalExtent.{JournalExtent}
-use Rattle.journal.specs.Limits.{indexLength, bodiesLength, cellsLength, journalLength, mostOrders, mostBytes, logStart}
+use Rattle.journal.specs.Limits.{indexLength, bodiesLength, cellsLength, journalLength, mostOrders, logStart}
 use Rattle.journal.specs.State.{run, bytesIn, allAccepted}
 use Rattle.journal.specs.Journal.{countOf, sizeAt, ordersFrom, endFrom, withinFrom, logOf}
-use Rattle.journal.specs.View.{Memory, memory, tooShort, wellFormed, meetsRule, stateOf, formed, viewOf}
+use Rattle.journal.specs.View.{Memory, memory, Past, tooShort, wellFormed, meetsRule, stateOf, formed, viewOf}
 use Rattle.journal.specs.Replay.{extentOf}
 use Rattle.journal.proofs.Runs.{accepted-more, accepted-take, accepted-order}
-use Rattle.journal.proofs.Stored.{Stored, none, stored, stored-end, stored-room, stored-take, stored-reads, fails, counted, counted-count, counted-length, counted-stored, put-length, put-two, put-stored}
+use Rattle.journal.proofs.Stored.{Stored, none, stored, stored-end, stored-room, stored-take, stored-reads, fails, counted-count, counted-length, counted-stored, put-length, put-two, put-stored}
 
 -- ---- lengths
 
@@ -161,19 +161,30 @@ module _ {m : Memory} {w : JournalExtent} {os : List (List ℕ)} (l : Logged m w
   two = omega (arith, l .long .journal)
 
   -- nothing past the room changes
-  pub past-counted : (k : ℕ) → drop journalLength (splice (m .journal) 0 (bytesOf 2 k)) ≡ drop journalLength (m .journal)
+  pub past-counted : (k : ℕ) → Past m (withJournal m (splice (m .journal) 0 (bytesOf 2 k)))
   past-counted k =
       let n = length-bytes 2 k in
-      drop-splice (m .journal) 0 (bytesOf 2 k) (omega (arith, l .long .journal)) journalLength (omega arith)
+      record {
+        dir = refl;
+        bodies = refl;
+        cells = refl;
+        journal = drop-splice (m .journal) 0 (bytesOf 2 k) (omega (arith, l .long .journal)) journalLength (omega arith);
+      }
 
   pub past-more : (s : List ℕ) → w .end + length s ≤ journalLength
-      → drop journalLength (splice (splice (m .journal) (w .end) s) 0 (bytesOf 2 (w .count + 1))) ≡ drop journalLength (m .journal)
+      → Past m (withJournal m (splice (splice (m .journal) (w .end) s) 0 (bytesOf 2 (w .count + 1))))
   past-more s room =
       let n = length-bytes 2 (w .count + 1) in
       let fits : w .end + length s ≤ length (m .journal) = omega (arith, l .long .journal) in
       let p = length-splice (m .journal) (w .end) s fits in
-      drop-splice (splice (m .journal) (w .end) s) 0 (bytesOf 2 (w .count + 1)) (omega (arith, l .long .journal)) journalLength (omega arith)
-      ∙ drop-splice (m .journal) (w .end) s fits journalLength room
+      record {
+        dir = refl;
+        bodies = refl;
+        cells = refl;
+        journal =
+            drop-splice (splice (m .journal) (w .end) s) 0 (bytesOf 2 (w .count + 1)) (omega (arith, l .long .journal)) journalLength (omega arith)
+            ∙ drop-splice (m .journal) (w .end) s fits journalLength room;
+      }
 
   -- one order more that is accepted
   pub logged-more : (s : List ℕ) → number (run (markedIn m) os) s ≡ 0 → w .count ≤ 127 → w .end + length s ≤ journalLength

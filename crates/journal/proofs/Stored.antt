@@ -11,8 +11,8 @@ use borrow.Author.Tests.{ltb-false, le-ltb}
 use Rattle.wire.specs.Tests.{pick}
 use Rattle.wire.specs.Numbers.{numAt, bytesOf}
 use Rattle.wire.specs.Parts.{slice, splice}
-use Rattle.wire.proofs.Numbers.{num-cong, num-in, num-after, num-put, length-bytes, fits2}
-use Rattle.wire.proofs.Parts.{length-slice, length-splice, slice-splice, slice-splice-before, slice-splice-after, drop-splice}
+use Rattle.wire.proofs.Numbers.{num-cong, num-in, num-put, length-bytes, fits2}
+use Rattle.wire.proofs.Parts.{length-slice, length-splice, slice-splice, slice-splice-before, slice-splice-after}
 use Rattle.table.specs.Table.{Table, after}
 use Rattle.journal.specs.Limits.{logStart, journalLength}
 use Rattle.journal.specs.State.{bytesIn, allAccepted}

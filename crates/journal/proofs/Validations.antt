@@ -6,23 +6,22 @@ use Prim.Native.Nat.{ℕ, _≤_}
 use native.Mathlib.Omega.{arith}
 use lib.Dec.{eqb, ltb}
 use lib.ListN.{length}
-use borrow.Author.Tests.{eqb-true, eqb-false, ltb-false, not-true, ne-eqb}
+use borrow.Author.Tests.{not-true, ne-eqb}
 use Rattle.wire.specs.Tests.{pick, both}
 use Rattle.wire.specs.Parts.{slice, splice}
 use Rattle.wire.proofs.Numbers.{Bytes}
-use Rattle.directory.specs.Directory.{directoryOf}
 use Rattle.directory.specs.Sound.{soundDirectory}
 use Rattle.table.specs.declared.Want.{Want}
 use Rattle.table.specs.declared.Want.the-variants.{Nothing}
 use Rattle.table.specs.Table.{directory}
-use Rattle.table.specs.Memory.{decode, soundTable}
-use Rattle.table.specs.Follow.{roomFor, beginOf, Holds}
+use Rattle.table.specs.Memory.{soundTable}
+use Rattle.table.specs.Follow.{roomFor, beginOf}
 use Rattle.table.proofs.Joined.{decode-directory}
 use Rattle.table.proofs.Sounded.{table-has}
 use Rattle.table.proofs.Following.{begin-holds, begin-length}
 use Rattle.journal.specs.declared.JournalExtent.{JournalExtent}
 use Rattle.journal.specs.Limits.{indexLength, mostOrders, logStart}
-use Rattle.journal.specs.State.{present, run, allAccepted}
+use Rattle.journal.specs.State.{allAccepted}
 use Rattle.journal.specs.Journal.{countOf, ordersFrom, endFrom, withinFrom, logOf}
 use Rattle.journal.specs.View.{Memory, tooShort, wellFormed, meetsRule, stateOf}
 use Rattle.journal.specs.Replay.{Replay, replayFrom, Replayed, extentOf, replayable, validationOf, Validated, Validation}

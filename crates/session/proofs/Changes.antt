@@ -2,7 +2,7 @@
 use mathlib.Core.Path.{_≡_, refl, sym, ap, _∙_}
 use mathlib.Core.Bool.{Bool, true, false}
 use mathlib.Core.List.{List, []}
-use Prim.Native.Nat.{ℕ, _+_, _-_, _≤_, _<_}
+use Prim.Native.Nat.{ℕ, _-_, _≤_, _<_}
 use native.Mathlib.Omega.{arith}
 use lib.Dec.{ltb}
 use lib.ListN.{length, take, drop}
@@ -18,13 +18,13 @@ use Rattle.journal.specs.declared.JournalExtent.{JournalExtent}
 use Rattle.journal.specs.Limits.{cellsLength, journalLength, mostOrders, logStart}
 use Rattle.journal.specs.State.{run}
 use Rattle.journal.specs.Journal.{endFrom, withinFrom}
-use Rattle.journal.specs.View.{Memory, memory, Past, tooShort, wellFormed, formed, viewOf}
+use Rattle.journal.specs.View.{Memory, memory, tooShort, wellFormed, formed, viewOf}
 use Rattle.journal.specs.Replay.{Applied}
-use Rattle.journal.proofs.Logged.{Long, long-has, Logged, markedIn, withJournal, logged-none, logged-take, logged-within, logged-orders, logged-low, logged-high, past-counted}
+use Rattle.journal.proofs.Logged.{Long, Logged, markedIn, withJournal, logged-none, logged-take, logged-within, logged-orders, logged-low, logged-high, past-counted}
 use Rattle.session.specs.declared.Reply.{Reply}
 use Rattle.session.specs.Calls.{Call, reset, checkpoint, undo, nothing, refuse, grant, answer, next, answerView, nextView}
 use Rattle.session.specs.Outcome.{plain, replied, neededFor, bytesFor, replyOf, CallOutcome}
-use Rattle.session.proofs.Outcomes.{stateIn, answer-in, next-in, refused-in, granted}
+use Rattle.session.proofs.Outcomes.{answer-in, next-in, refused-in, granted}
 
 abbrev pub nothingStands : Reply
 nothingStands = record { number = 0; count = 0; bytes = 0 }
@@ -103,4 +103,4 @@ module _ {m : Memory} {w : JournalExtent} {os : List (List ℕ)} (l : Logged m w
           let n : length os - k ≡ w .count - k = omega (arith, l .many) in
           rw put
           (granted (undo k) refl refl left (answer-in l (undo k) ∙ rw (x, n)) (next-in l (undo k) ∙ rw (x, n)) f
-          (record { dir = refl; bodies = refl; cells = refl; journal = past-counted l (w .count - k) }))
+          (past-counted l (w .count - k)))

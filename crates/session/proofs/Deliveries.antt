@@ -16,7 +16,7 @@ use Rattle.directory.specs.Marks.{markedBy}
 use Rattle.table.specs.Table.{number}
 use Rattle.journal.specs.declared.JournalExtent.{JournalExtent}
 use Rattle.journal.specs.Limits.{mostOrders, mostBytes, logStart, journalLength}
-use Rattle.journal.specs.State.{present, run}
+use Rattle.journal.specs.State.{run}
 use Rattle.journal.specs.View.{Memory, formed}
 use Rattle.journal.specs.Replay.{indexAfter}
 use Rattle.journal.proofs.Logged.{Logged, markedIn, withJournal, logged-low, logged-high, logged-bytes, logged-more, past-more}
@@ -149,7 +149,7 @@ module _ {m : Memory} {w : JournalExtent} {d : List ℕ} {os : List (List ℕ)} 
           rw appended-is
           (granted (deliver s) refl refl new (answer-in (i .logged) (deliver s) ∙ answers ∙ rw number-zero) (next-in (i .logged) (deliver s) ∙ ap formed changes ∙ rw number-zero)
           (e ∙ rw extent-is)
-          (record { dir = refl; bodies = refl; cells = refl; journal = past-more (i .logged) s (fits .1) }))
+          (past-more (i .logged) s (fits .1)))
 
       -- the next order is judged on what this one leaves
       pub delivery-again : Bytes s → Indexed (withJournal m j') (r .extent) d' (os ++ (s ∷ []))

@@ -5,37 +5,28 @@ use mathlib.Core.List.{List}
 use mathlib.Core.Option.{Option, none, some}
 use Prim.Native.Nat.{ℕ, _+_, _*_, _-_, _≤_, _<_}
 use native.Mathlib.Omega.{arith}
-use lib.Dec.{eqb, leb, ltb}
 use lib.ListN.{length}
 use borrow.Author.Tests.{lt-ltb, le-ltb}
 use Rattle.wire.specs.Tests.{pick, both}
-use Rattle.wire.specs.Numbers.{numAt}
 use Rattle.wire.specs.Parts.{splice}
 use Rattle.wire.proofs.Tests.{both-left, both-right}
-use Rattle.order.specs.declared.Row.{Row}
-use Rattle.directory.specs.declared.Found.{Found}
-use Rattle.directory.specs.Slots.{isAt, firstFrom, filledAt}
 use Rattle.directory.specs.Directory.{Family, windows, notifications, directoryOf}
-use Rattle.body.specs.Bodies.{Body, windowFields, notificationFields, desktopFields, bodyOf, bodyOk, fieldsOk}
-use Rattle.body.specs.Stores.{roomAll}
-use Rattle.cache.specs.Cells.{pictureOf, cellOk}
-use Rattle.layout.specs.Layouts.{recordBytes, pictureBytes}
 use Rattle.table.specs.Table.{Table, there, directory, recordAt, pictureAt}
-use Rattle.table.specs.Follow.{roomFor, Holds}
+use Rattle.table.specs.Follow.{Holds}
 use Rattle.journal.specs.declared.JournalExtent.{JournalExtent}
 use Rattle.journal.specs.Limits.{logStart}
 use Rattle.journal.specs.State.{run}
-use Rattle.journal.specs.View.{Memory, viewOf, formed}
-use Rattle.journal.proofs.Logged.{Logged, markedIn, logged-view}
+use Rattle.journal.specs.View.{Memory, viewOf}
+use Rattle.journal.proofs.Logged.{markedIn, logged-view}
 use Rattle.journal.proofs.Indexed.{Indexed, Followed}
 use Rattle.session.specs.declared.Reply.{Reply}
 use Rattle.session.specs.declared.LookupTarget.{LookupTarget}
 use Rattle.session.specs.declared.LookupTarget.the-variants.{Window, Notification, Cell, Desktop}
-use Rattle.session.specs.Calls.{look, Payload, nothing, body, picture, Answer, refuse, grant, aBody, aPicture, payloadIn, found, answer, next, answerView, nextView}
-use Rattle.session.specs.Outcome.{lookup, handed, layoutSize, payloadBytes, bytesFor, replyOf, answerWithin, outAfter, responseOf, CallOutcome}
-use Rattle.session.specs.Targets.{inCaches, cellNumber, isFound, wantOf, listedIn, payloadHeld, validHeld}
+use Rattle.session.specs.Calls.{look, nothing, picture, refuse, grant, aPicture, payloadIn, found, answer, next, answerView, nextView}
+use Rattle.session.specs.Outcome.{lookup, handed, layoutSize, payloadBytes, replyOf, answerWithin, outAfter, responseOf, CallOutcome}
+use Rattle.session.specs.Targets.{inCaches, cellNumber, wantOf, listedIn, payloadHeld, validHeld}
 use Rattle.session.proofs.Targets.{cell-inside}
-use Rattle.session.proofs.Outcomes.{stateIn, answer-in, next-in, refused-in, reply-in, stays}
+use Rattle.session.proofs.Outcomes.{answer-in, next-in, refused-in, reply-in, stays}
 
 clash : {A : Type 0} → _≡_ {A = Bool} false true → A
 clash e = let z : _≡_ {A = ℕ} 0 1 = cc in absurd (omega arith)

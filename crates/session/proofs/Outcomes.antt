@@ -8,8 +8,8 @@ use borrow.Author.Tests.{ne-eqb}
 use Rattle.wire.specs.Parts.{splice}
 use Rattle.journal.specs.declared.JournalExtent.{JournalExtent}
 use Rattle.journal.specs.Limits.{logStart}
-use Rattle.journal.specs.State.{State, bytesIn}
-use Rattle.journal.specs.View.{Memory, Past, tooShort, wellFormed, meetsRule, View, short, unformed, formed, viewOf}
+use Rattle.journal.specs.State.{State}
+use Rattle.journal.specs.View.{Memory, Past, tooShort, wellFormed, meetsRule, short, unformed, formed, viewOf}
 use Rattle.journal.proofs.Logged.{Logged, markedIn, logged-view, logged-bytes}
 use Rattle.session.specs.declared.Reply.{Reply}
 use Rattle.session.specs.Calls.{Call, Payload, nothing, Answer, refuse, grant, isReset, answer, next, answerView, nextView}
