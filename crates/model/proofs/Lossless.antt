@@ -17,35 +17,30 @@ use Rattle.session.specs.Outcome.{payloadBytes}
 use Rattle.model.specs.Lossless.{none, window, notification, cell, desktop, LayoutLosesNothing}
 
 -- a record is read back from its bytes, so the bytes tell it; it has some
-module _ {low high m n : ℕ} {b : Body} (v : ValidBody (rowsFrom low high) m n b) where
-  keeps : KeepsRecord (rowsFrom low high) b
-  keeps = keeps-record low high m n b v
-
+module _ (low high m n : ℕ) (b : Body) (v : ValidBody (rowsFrom low high) m n b) where
   some-bytes : recordBytes (rowsFrom low high) b ≡ [] → ⊥
-  some-bytes e = omega (arith, ap length e, keeps .long)
+  some-bytes e = omega (arith, ap (λ (x : List ℕ). length x) e, keeps-record low high m n b v .long)
 
-same-body : {low high m n : ℕ} {b b' : Body} → ValidBody (rowsFrom low high) m n b → ValidBody (rowsFrom low high) m n b'
-    → recordBytes (rowsFrom low high) b ≡ recordBytes (rowsFrom low high) b'
-    → b ≡ b'
-same-body {low} {high} v w e = sym (keeps v .back) ∙ ap (bodyOf (rowsFrom low high)) e ∙ keeps w .back
+  same-body : (c : Body) → ValidBody (rowsFrom low high) m n c → recordBytes (rowsFrom low high) b ≡ recordBytes (rowsFrom low high) c → b ≡ c
+  same-body c w e = sym (keeps-record low high m n b v .back) ∙ ap (bodyOf (rowsFrom low high)) e ∙ keeps-record low high m n c w .back
 
-no-picture : {p : List ℕ} → length (pictureBytes p) ≡ pictureSize → pictureBytes p ≡ [] → ⊥
-no-picture l e = omega (arith, ap length e, l)
+no-picture : (p : List ℕ) → length (pictureBytes p) ≡ pictureSize → pictureBytes p ≡ [] → ⊥
+no-picture p l e = omega (arith, ap (λ (x : List ℕ). length x) e, l)
 
 pub layout-loses-nothing : LayoutLosesNothing
 unfolding LayoutLosesNothing payloadBytes
 layout-loses-nothing target p q none none e = refl
-layout-loses-nothing target p q none (window w) e = absurd (some-bytes w (sym e))
-layout-loses-nothing target p q none (notification w) e = absurd (some-bytes w (sym e))
-layout-loses-nothing target p q none (desktop w) e = absurd (some-bytes w (sym e))
-layout-loses-nothing target p q none (cell s ok l) e = absurd (no-picture (keeps-picture s ok l .long) (sym e))
-layout-loses-nothing target p q (window v) none e = absurd (some-bytes v e)
-layout-loses-nothing target p q (window v) (window w) e = ap body (same-body v w e)
-layout-loses-nothing target p q (notification v) none e = absurd (some-bytes v e)
-layout-loses-nothing target p q (notification v) (notification w) e = ap body (same-body v w e)
-layout-loses-nothing target p q (desktop v) none e = absurd (some-bytes v e)
-layout-loses-nothing target p q (desktop v) (desktop w) e = ap body (same-body v w e)
-layout-loses-nothing target p q (cell s ok l) none e = absurd (no-picture (keeps-picture s ok l .long) e)
+layout-loses-nothing target p q none (window {b = c} w) e = absurd (some-bytes 1 15 12 12 c w (sym e))
+layout-loses-nothing target p q none (notification {b = c} w) e = absurd (some-bytes 16 22 12 0 c w (sym e))
+layout-loses-nothing target p q none (desktop {b = c} w) e = absurd (some-bytes 22 24 1 1 c w (sym e))
+layout-loses-nothing target p q none (cell s ok l) e = absurd (no-picture (pictureOf s) (keeps-picture s ok l .long) (sym e))
+layout-loses-nothing target p q (window {b = b} v) none e = absurd (some-bytes 1 15 12 12 b v e)
+layout-loses-nothing target p q (window {b = b} v) (window {b = c} w) e = ap body (same-body 1 15 12 12 b v c w e)
+layout-loses-nothing target p q (notification {b = b} v) none e = absurd (some-bytes 16 22 12 0 b v e)
+layout-loses-nothing target p q (notification {b = b} v) (notification {b = c} w) e = ap body (same-body 16 22 12 0 b v c w e)
+layout-loses-nothing target p q (desktop {b = b} v) none e = absurd (some-bytes 22 24 1 1 b v e)
+layout-loses-nothing target p q (desktop {b = b} v) (desktop {b = c} w) e = ap body (same-body 22 24 1 1 b v c w e)
+layout-loses-nothing target p q (cell s ok l) none e = absurd (no-picture (pictureOf s) (keeps-picture s ok l .long) e)
 layout-loses-nothing target p q (cell s ok l) (cell s' ok' l') e =
     ap picture
     (sym (keeps-picture s ok l .read) ∙ ap (λ (x : List ℕ). pictureOf (0 ∷ 0 ∷ 0 ∷ x)) e ∙ keeps-picture s' ok' l' .read)
