@@ -172,7 +172,8 @@ fn numbers_of(ids: [WindowId; 64]) -> [u32; 64] {
 
 fn stack(out: &mut [u8], at: usize, s: Stack) -> usize {
     let n = text(out, at, b" stack=");
-    let list = numbers_of(s.ids);
+    let ids = s.ids;
+    let list = numbers_of(ids);
     listed(out, n, &list, s.count as usize)
 }
 

@@ -1,8 +1,8 @@
 -- The loop of a run: the calls done so far, what they leave of the script, and what stands in the memory and the output. Assumes
 -- nothing.
-use Prim.Native.Nat.{ℕ, suc, _+_, _*_, _-_, _/_, _%_, _≤_, _<_}
+use Prim.Native.Nat.{ℕ, suc, _+_, _*_, _-_, _%_, _≤_}
 use mathlib.Core.Path.{_≡_, refl, sym, ap, _∙_, subst}
-use mathlib.Core.Bool.{Bool, true, false}
+use mathlib.Core.Bool.{true, false}
 use mathlib.Core.List.{List, [], _∷_, _++_, append-assoc, append-nil, map, map-append, flatten}
 use native.Mathlib.Omega.{arith}
 use lib.ListN.{length, take, drop, length-append, length-take, length-drop}
@@ -20,15 +20,14 @@ use Rattle.model.specs.Claim.{Calls, none, callsIn, responsesOf, DescribesBook,
 use Rattle.model.specs.Wellformed.{emptiedState, EmptyingGranted, EmptiedMeets}
 use Rattle.model.proofs.Demand3.{as-book, snoc, past-then, calls-past}
 use Rattle.model.proofs.Wellformed.{reset-long, emptying-granted, emptied-meets}
-use Rattle.run.specs.Script.{callOf, firstCall, itemLength, requestOf, blockOf, blockLength, endsWith, Course, endsHere, callFirst, courseFrom, courseOf, packedRun, RunUnpacks, RunAs, Runs}
+use Rattle.run.specs.Script.{callOf, firstCall, itemLength, requestOf, blockOf, blockLength, endsWith, Course, endsHere, callFirst, courseFrom, courseOf, RunUnpacks, RunAs, Runs}
 use Rattle.run.specs.Steps.{Takes, endNumber, Done}
 use Rattle.run.proofs.Ends.{Going, going, number-small, course-end, course-more, size-at, call-at, block-at}
-use Rattle.protocol.specs.Flags.{flagNew}
 
 pub run-unpacks : RunUnpacks
 unfolding RunUnpacks
 run-unpacks p a b =
-    let x : length (p .calls) % flagNew0000000 ≡ length (p .calls) = omega arith in
+    let x : length (p .calls) % 0x100000000000000 ≡ length (p .calls) = omega arith in
     record { number = rw x (omega arith); calls = rw x (omega arith) }
 
 -- ---- lists with one more at the end
@@ -109,11 +108,11 @@ module _ (s out₀ : List ℕ) {m₀ : Memory} {at to n ended : ℕ} {m : Memory
         booked .answers
         ∙ ap (λ (cs : List Call). responsesOf (map requestOf (g .made)) (bookAnswers cs newBook)) (calls-requests (g .made))
 
-    pub ran-end : {r : ℕ} → r ≡ ended + 256 * (n % flagNew0000000) → RunAs (courseOf s (length out₀)) m₀ out₀ r m out
+    pub ran-end : {r : ℕ} → r ≡ ended + 256 * (n % 0x100000000000000) → RunAs (courseOf s (length out₀)) m₀ out₀ r m out
     ran-end e =
         rw course-is
         (record {
-          says = e ∙ ap (λ (k : ℕ). ended + 256 * (k % flagNew0000000)) (sym (g .count));
+          says = e ∙ ap (λ (k : ℕ). ended + 256 * (k % 0x100000000000000)) (sym (g .count));
           answers = g .wrote ∙ ap (λ (rs : List Response). splice out₀ 0 (flatten (blocks rs))) given-is;
           sizes = ap (λ (rs : List Response). map length (blocks rs)) (sym given-is) ∙ g .sizes;
           holds = subst (λ (cs : List Call). DescribesBook m (bookAfter cs newBook)) (calls-requests (g .made)) (booked .holds);

@@ -18,7 +18,6 @@ use Rattle.session.specs.Outcome.{Request, Response, neededFor}
 use Rattle.session.specs.Packed.{packedOf}
 use Rattle.model.specs.Book.{newBook, bookAfter, bookAnswers}
 use Rattle.model.specs.Claim.{responsesOf, DescribesBook}
-use Rattle.protocol.specs.Flags.{flagNew}
 
 -- ---- a script: items, each its kind (1 byte), the size of what it carries (2) and so many bytes; what is missing of a call's
 -- numbers counts 0
@@ -105,7 +104,7 @@ courseOf s room = courseFrom (length s) s room
 
 -- the answer as one number: the number, and 256 times the calls done (modulo 2^56)
 abbrev pub packedRun : Course → ℕ
-packedRun p = p .number + 256 * (length (p .calls) % flagNew0000000)
+packedRun p = p .number + 256 * (length (p .calls) % 0x100000000000000)
 
 -- so a caller takes it apart again
 pub record RunUnpacked (p : Course) : Type 0 where
@@ -113,7 +112,7 @@ pub record RunUnpacked (p : Course) : Type 0 where
   pub calls : packedRun p / 256 ≡ length (p .calls)
 
 unfoldable pub RunUnpacks : Type 0
-RunUnpacks = (p : Course) → p .number < 256 → length (p .calls) < flagNew0000000 → RunUnpacked p
+RunUnpacks = (p : Course) → p .number < 256 → length (p .calls) < 0x100000000000000 → RunUnpacked p
 
 -- its calls are done: the output begins with the blocks of the book's answers, each of its call's size, the memory describes the
 -- book, and the bytes past the needed lengths are as they were
