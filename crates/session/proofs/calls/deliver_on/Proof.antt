@@ -34,7 +34,7 @@ deliver-on-spec =
     (λ c. omega (arith, c .before .before .before .before .before .before .before .before .before .before .before .before .before .before .before .before .before .before .before .pre .few))  -- add-t10
     (λ c.  -- add-t12
     let u = c .before .before .before .before .before .before .before .before .before .before .before .before .before .before .before .before .before .before .before .before in
-    omega (arith, room-has (u .args .w) (now (u .args .s)) (u .pre .low) (c .before .before .before .before .before .before .before .before .before .before .if2 .left) .1))
+    omega (arith, u .pre .high, room-has (u .args .w) (now (u .args .s)) (u .pre .low) (c .before .before .before .before .before .before .before .before .before .before .if2 .left) .1))
     (λ c. search needs)
     (λ c. search needs)
     (λ c.  -- returns-3
