@@ -8,7 +8,7 @@ use Rattle.pdu.specs.declared.Written.{Written}
 use Rattle.pdu.specs.declared.Written.the-variants.{Bytes, Refused}
 use Rattle.pdu.specs.Answers.{writtenSays}
 use Rattle.pdu_write.specs.WordsWritten.{wordsWrittenOf, WordsOutcome}
-use Rattle.rail.specs.States.{packedOf}
+use Rattle.session.specs.Packed.{packedOf}
 use Rattle.rail.specs.Exports.{writtenReply, WriteExport}
 
 module _ {w src out y : List ℕ} {r : Written} (o : WordsOutcome w src out r y) where
