@@ -75,7 +75,7 @@ module _ (s : List ℕ) (ok : Bytes s) where
       subst (λ (q : Pdu). fits q ≡ true) (g .same-record) (one-of (λ (k : ℕ). fits (recordAs k s) ≡ true) types (numAt 2 s 0) (g .kind-known) each-fits)
 
 -- the ladder's numbers
-number-small : (s : List ℕ) → readNumber s < 256
+pub number-small : (s : List ℕ) → readNumber s < 256
 unfolding readNumber bodyNumber
 number-small s =
     let p = recordAs (typeAt s) s in

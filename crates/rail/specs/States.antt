@@ -4,16 +4,17 @@ use mathlib.Core.Path.{_≡_}
 use mathlib.Core.List.{List, [], _∷_}
 use lib.ListN.{getD}
 use Rattle.layout.specs.Layouts.{windowSize, notificationSize, desktopSize, pictureSize}
+use Rattle.chunk.specs.Memory.{memorySize}
 use Rattle.journal.specs.Limits.{indexLength, bodiesLength, cellsLength, journalLength}
 use Rattle.journal.specs.View.{Memory, viewOf, Past}
 use Rattle.session.specs.Calls.{answerView, nextView}
 use Rattle.session.specs.Outcome.{Request, Response, responseOf}
 use Rattle.session.specs.Packed.{packedOf}
 
--- the bytes of the four parts, of the three records, and of a picture
+-- the bytes of the four parts, of the three records, of a picture, and of the chunk memory
 abbrev pub sizes : List ℕ
 sizes =
-    indexLength ∷ bodiesLength ∷ cellsLength ∷ journalLength ∷ windowSize ∷ notificationSize ∷ desktopSize ∷ pictureSize ∷ []
+    indexLength ∷ bodiesLength ∷ cellsLength ∷ journalLength ∷ windowSize ∷ notificationSize ∷ desktopSize ∷ pictureSize ∷ memorySize ∷ []
 
 unfoldable pub sizeOf : ℕ → ℕ
 sizeOf what = getD sizes what 0

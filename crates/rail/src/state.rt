@@ -13,7 +13,7 @@ use session::calls;
 use session::lookups::look;
 use session::packed::packed;
 
-// The bytes of a part of the state memory, or of a record.
+// The bytes of a part of the state memory, of a record, or of the chunk memory.
 #[no_mangle]
 pub extern "C" fn rail_size(what: u32) -> u32
     ensures { λ r. ⌜ r ≡ sizeOf what ⌝ }
@@ -27,6 +27,7 @@ pub extern "C" fn rail_size(what: u32) -> u32
         5 => layout::NOTIFICATION as u32,
         6 => layout::DESKTOP as u32,
         7 => layout::PICTURE as u32,
+        8 => chunk::MEMORY as u32,
         _ => 0,
     }
 }

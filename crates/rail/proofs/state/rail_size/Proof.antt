@@ -1,13 +1,15 @@
 use mathlib.Core.Path.{refl}
-use Rattle.rail.proofs.States.{size-at, size-past}
 use borrow.Author.Needs.{needs}
+use Rattle.rail.proofs.States.{size-at, size-past}
 use Rattle.rail.proofs.state.rail_size.Statement.{statement}
 use Rattle.rail.proofs.state.rail_size.Tie as tie
 
+-- A size for each number of the list, 0 past its end.
 pub rail-size-spec : {M : Type 1} → statement M
 rail-size-spec =
     tie.close
     (tie.spec
+    (λ c. search needs)
     (λ c. search needs)
     (λ c. search needs)
     (λ c. search needs)
@@ -24,4 +26,5 @@ rail-size-spec =
     (λ c. size-at 5 (c .match .keys6) refl)  -- returns-6
     (λ c. size-at 6 (c .match .keys7) refl)  -- returns-7
     (λ c. size-at 7 (c .match .keys8) refl)  -- returns-8
-    (λ c. size-past (c .before .args .what) (c .match .rest)))  -- returns-9
+    (λ c. size-at 8 (c .match .keys9) refl)  -- returns-9
+    (λ c. size-past (c .before .args .what) (c .match .rest)))  -- returns-10

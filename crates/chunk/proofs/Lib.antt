@@ -1,0 +1,9 @@
+pub mod Noted
+pub mod Begun
+pub mod Answers
+pub mod Ways
+pub mod Cutting
+pub mod Sending
+pub mod Calls
+pub mod Laws
+pub mod Tests

@@ -1,0 +1,168 @@
+// Control messages that arrive in chunks (MS-RDPBCGR 2.2.6.1), joined in lent memory: the bytes of
+// the message from its start on, then its total length and how many of its bytes have come. A total
+// of 0 says that nothing is begun.
+use pdu::Read;
+ghost use mathlib.Core.Path.{_≡_};
+ghost use Prim.Native.Nat.{_≤_};
+ghost use lib.ListN.{length};
+ghost use Rattle.wire.specs.Tests.{has};
+ghost use Rattle.chunk.specs.Chunk.{headSize, flagFirst, flagLast, compressed};
+ghost use Rattle.chunk.specs.Memory.{memorySize, fit, startAt, refusesAt, noted};
+ghost use Rattle.chunk.specs.Outcome.{JoinOutcome, TakeOutcome, ResetOutcome};
+
+// The longest message.
+const MOST: u32 = 17052;
+
+// Where its total length and the number of bytes that came stand in the memory, and how much memory is lent.
+const TOTAL_AT: usize = 17052;
+
+const GOT_AT: usize = 17056;
+
+pub const MEMORY: usize = 17060;
+
+// A chunk has its total length at 0, its flags at 4 and its data after them.
+const FLAGS_AT: usize = 4;
+
+const HEAD: usize = 8;
+
+// Of the flags three matter.
+const FLAG_FIRST: u32 = 1;
+
+const FLAG_LAST: u32 = 2;
+
+const COMPRESSED: u32 = 0x0020_0000;
+
+// What joining a chunk gives: more is awaited after so many bytes; a whole message of so many bytes,
+// which stand at the start of the lent memory until the next call; or the number of a refusal.
+pub enum Joined {
+    More(u32),
+    Whole(u32),
+    Refused(u8),
+}
+
+// What a chunk answers: the same, a whole message with what reading it gives. Its strings are places
+// in the lent memory.
+pub enum Taken {
+    More(u32),
+    Whole(u32, Read),
+    Refused(u8),
+}
+
+// Long enough and well formed.
+fn is_fit(memory: &[u8]) -> bool
+    ensures { λ r. ⌜ r ≡ fit (now (memory .entry)) ⌝ }
+{
+    if memory.len() < MEMORY {
+        return false;
+    }
+    let total = wire::read_u32(memory, TOTAL_AT);
+    let got = wire::read_u32(memory, GOT_AT);
+    (total <= MOST) & (got <= total)
+}
+
+fn is_first(flags: u32) -> bool
+    ensures { λ r. ⌜ r ≡ has flags flagFirst ⌝ }
+{
+    flags & FLAG_FIRST != 0
+}
+
+fn is_last(flags: u32) -> bool
+    ensures { λ r. ⌜ r ≡ has flags flagLast ⌝ }
+{
+    flags & FLAG_LAST != 0
+}
+
+fn is_compressed(flags: u32) -> bool
+    ensures { λ r. ⌜ r ≡ has flags compressed ⌝ }
+{
+    flags & COMPRESSED != 0
+}
+
+// Where the data of a chunk goes: a first chunk starts afresh.
+fn start(memory: &[u8], chunk: &[u8]) -> u32
+    ensures { λ r. ⌜ r ≡ startAt (now (memory .entry)) (now (chunk .entry)) ⌝ }
+{
+    if is_first(wire::read_u32(chunk, FLAGS_AT)) {
+        return 0;
+    }
+    wire::read_u32(memory, GOT_AT)
+}
+
+// Refusal 16.
+fn refuses(memory: &[u8], chunk: &[u8]) -> bool
+    requires { ⌜ headSize ≤ length (now chunk) ⌝ }
+    ensures { λ r. ⌜ r ≡ refusesAt (now (memory .entry)) (now (chunk .entry)) ⌝ }
+{
+    let begun = wire::read_u32(memory, TOTAL_AT);
+    let total = wire::read_u32(chunk, 0);
+    let flags = wire::read_u32(chunk, FLAGS_AT);
+    let end = start(memory, chunk) as usize + (chunk.len() - HEAD);
+    is_compressed(flags)
+        | (!is_first(flags) & (begun == 0))
+        | (total == 0)
+        | (MOST < total)
+        | (!is_first(flags) & (total != begun))
+        | ((total as usize) < end)
+        | (is_last(flags) & (end < total as usize))
+}
+
+// Notes the total length of a message and how many of its bytes have come.
+fn note(memory: &mut [u8], total: u32, got: u32)
+    requires { ⌜ memorySize ≤ length (now memory) ⌝ }
+    ensures { λ _. ⌜ now (memory .exit) ≡ noted (now (memory .entry)) total got ⌝ }
+{
+    wire::write_u32(memory, TOTAL_AT, total);
+    wire::write_u32(memory, GOT_AT, got);
+}
+
+// Empties the memory: nothing is begun. 1 where it is too short, else 0.
+pub fn reset(memory: &mut [u8]) -> u8
+    ensures { λ r. ⌜ ResetOutcome (now (memory .entry)) r (now (memory .exit)) ⌝ }
+{
+    if memory.len() < MEMORY {
+        return 1;
+    }
+    note(memory, 0, 0);
+    0
+}
+
+// Joins a chunk to what is begun. The message is not read.
+pub fn join(memory: &mut [u8], chunk: &[u8]) -> Joined
+    ensures { λ r. ⌜ JoinOutcome (now (memory .entry)) (now (chunk .entry)) r (now (memory .exit)) ⌝ }
+{
+    if !is_fit(memory) {
+        return Joined::Refused(1);
+    }
+    if chunk.len() < HEAD {
+        return Joined::Refused(15);
+    }
+    if refuses(memory, chunk) {
+        note(memory, 0, 0);
+        return Joined::Refused(16);
+    }
+    let total = wire::read_u32(chunk, 0);
+    let from = start(memory, chunk);
+    let len = chunk.len() - HEAD;
+    wire::copy_part(memory, from as usize, chunk, HEAD, len);
+    if is_last(wire::read_u32(chunk, FLAGS_AT)) {
+        note(memory, 0, 0);
+        return Joined::Whole(total);
+    }
+    let got = from + len as u32;
+    note(memory, total, got);
+    Joined::More(got)
+}
+
+// Takes one chunk, and reads the message where it is the last.
+pub fn take(memory: &mut [u8], chunk: &[u8]) -> Taken
+    ensures { λ r. ⌜ TakeOutcome (now (memory .entry)) (now (chunk .entry)) r (now (memory .exit)) ⌝ }
+{
+    match join(memory, chunk) {
+        Joined::More(got) => Taken::More(got),
+        Joined::Whole(len) => {
+            let end = len as usize;
+            Taken::Whole(len, pdu_read::read_pdu(&memory[..end]))
+        }
+        Joined::Refused(number) => Taken::Refused(number),
+    }
+}
