@@ -7,9 +7,9 @@ use std::process::ExitCode;
 
 use second::compare::{compare, Scripts};
 use second::coverage::{self, Facts};
-use second::fault::fault_run;
+use second::fault::{chunk_fault_run, fault_run, Tally};
 use second::script::parts::Parts;
-use second::script::session::End;
+use second::script::End;
 use second::{generate, hex, script, support};
 
 const HELP: &str = "\
@@ -20,7 +20,9 @@ usage:
   second session [--parts L0,L1,..] < script > output
       Runs a script of control messages or of state calls, and prints a line for
       each call. An item X, which changes state memory, ends a run with the line
-      `fault` on standard error and the status 3: the state here has no memory.
+      `fault` on standard error and the status 3: the state here has no memory. In a
+      script of control messages only a chunk taken before the change is undone, by the
+      same item or by an emptying, does so.
   second gen-pdu SEED ITEMS > script
   second gen-session SEED ITEMS [--parts L0,L1,..] > script
       Generates a script. The same seed and count give the same bytes.
@@ -34,6 +36,10 @@ usage:
   second compare-session PROGRAM FROM TO ITEMS [--parts L0,L1,..]
       Runs PROGRAM on the same scripts and compares what it prints, two at a time.
       The status is 0 only if scripts were compared and none differs.
+  second fault-pdu PROGRAM FROM TO ITEMS
+      The same with scripts of control messages and faults in the memory of chunks.
+      Once a first chunk is taken, a message is whole or 16 is answered, what is begun
+      is known again, and each line must be that of `second pdu`.
   second fault-session PROGRAM FROM TO ITEMS [--parts L0,L1,..]
       Runs PROGRAM on scripts with items X strewn in, each followed by an emptying
       and the script of the next seed. Each call must answer a number listed for it,
@@ -100,6 +106,9 @@ fn dispatch(arguments: &[&str]) -> Result<ExitCode, String> {
             let parts = parts(options)?;
             compare_session(program, number(from)?, number(to)?, count(items)?, &parts)
         }
+        ["fault-pdu", program, from, to, items] => {
+            fault_pdu(program, number(from)?, number(to)?, count(items)?)
+        }
         ["fault-session", program, from, to, items, options @ ..] => {
             let parts = parts(options)?;
             fault_session(program, number(from)?, number(to)?, count(items)?, &parts)
@@ -132,9 +141,8 @@ fn parts(options: &[&str]) -> Result<Parts, String> {
 
 fn run_pdu() -> Result<ExitCode, String> {
     let script = input()?;
-    to_output(|out| script::pdu::run(&script, out))?;
-    tell_unfit("pdu", support::unfit_pdu(&script));
-    Ok(ExitCode::SUCCESS)
+    let end = to_output(|out| script::pdu::run(&script, out))?;
+    Ok(ended(end, "pdu", || support::unfit_pdu(&script)))
 }
 
 /// Says on standard error why an input is no script.
@@ -166,14 +174,22 @@ fn explain(script: &str) -> Result<ExitCode, String> {
 
 fn run_session(parts: &Parts) -> Result<ExitCode, String> {
     let script = input()?;
-    match to_output(|out| script::session::run(&script, parts, out))? {
+    let end = to_output(|out| script::session::run(&script, parts, out))?;
+    Ok(ended(end, "session", || {
+        support::unfit_session(&script, parts)
+    }))
+}
+
+/// The status of a run; standard error tells what is wrong with its script, or that a fault ended it.
+fn ended(end: End, kind: &str, unfit: impl Fn() -> Option<String>) -> ExitCode {
+    match end {
         End::Done => {
-            tell_unfit("session", support::unfit_session(&script, parts));
-            Ok(ExitCode::SUCCESS)
+            tell_unfit(kind, unfit());
+            ExitCode::SUCCESS
         }
         End::Fault => {
             eprintln!("fault");
-            Ok(ExitCode::from(3))
+            ExitCode::from(3)
         }
     }
 }
@@ -204,7 +220,7 @@ fn compare_pdu(program: &str, from: u64, to: u64, items: usize) -> Result<ExitCo
     let scripts = Scripts {
         make: &|seed| generate::pdu::script(seed, items),
         expected: &|script| written(|out| script::pdu::run(script, out)),
-        silent: b"",
+        silent: script::chunk::SILENT,
     };
     compare_scripts(program, from, to, &scripts)
 }
@@ -257,6 +273,18 @@ fn fault_session(
     let report = |text: &str| println!("{text}");
     let tally = fault_run(Path::new(program), from, to, items, parts, report)
         .map_err(|fault| format!("{program}: {fault}"))?;
+    Ok(told(&tally))
+}
+
+fn fault_pdu(program: &str, from: u64, to: u64, items: usize) -> Result<ExitCode, String> {
+    let report = |text: &str| println!("{text}");
+    let tally = chunk_fault_run(Path::new(program), from, to, items, report)
+        .map_err(|fault| format!("{program}: {fault}"))?;
+    Ok(told(&tally))
+}
+
+/// Prints what a fault run came to.
+fn told(tally: &Tally) -> ExitCode {
     let met = tally.met;
     println!(
         "calls that answered 1: {}, and {} that were lent too little",
@@ -267,7 +295,7 @@ fn fault_session(
         "ran {} scripts, {} items, {} faults: {} wrong",
         tally.scripts, met.items, met.faults, tally.wrong
     );
-    Ok(ExitCode::from(u8::from(!tally.holds())))
+    ExitCode::from(u8::from(!tally.holds()))
 }
 
 fn print_script(kinds: &[u8]) -> Result<ExitCode, String> {

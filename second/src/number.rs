@@ -28,3 +28,7 @@ pub const ROOM_PASSED: u8 = 12;
 pub const TOO_MANY_STEPS: u8 = 13;
 /// The output memory is too small.
 pub const OUTPUT_TOO_SMALL: u8 = 14;
+/// A chunk has fewer bytes than its head.
+pub const CHUNK_TOO_SHORT: u8 = 15;
+/// A chunk is compressed, out of place, or not what its message promised.
+pub const BAD_CHUNK: u8 = 16;

@@ -56,8 +56,10 @@ fn is_fit(memory: &[u8]) -> bool
         return false;
     }
     let total = wire::read_u32(memory, TOTAL_AT);
-    let got = wire::read_u32(memory, GOT_AT);
-    (total <= MOST) & (got <= total)
+    if MOST < total {
+        return false;
+    }
+    wire::read_u32(memory, GOT_AT) <= total
 }
 
 fn is_first(flags: u32) -> bool
@@ -88,7 +90,8 @@ fn start(memory: &[u8], chunk: &[u8]) -> u32
     wire::read_u32(memory, GOT_AT)
 }
 
-// Refusal 16.
+// Refusal 16. A chunk that is not first with nothing begun is among those refused: its total is 0 or
+// differs from the 0 that is noted.
 fn refuses(memory: &[u8], chunk: &[u8]) -> bool
     requires { ⌜ headSize ≤ length (now chunk) ⌝ }
     ensures { λ r. ⌜ r ≡ refusesAt (now (memory .entry)) (now (chunk .entry)) ⌝ }
@@ -98,7 +101,6 @@ fn refuses(memory: &[u8], chunk: &[u8]) -> bool
     let flags = wire::read_u32(chunk, FLAGS_AT);
     let end = start(memory, chunk) as usize + (chunk.len() - HEAD);
     is_compressed(flags)
-        | (!is_first(flags) & (begun == 0))
         | (total == 0)
         | (MOST < total)
         | (!is_first(flags) & (total != begun))
@@ -142,9 +144,10 @@ pub fn join(memory: &mut [u8], chunk: &[u8]) -> Joined
     }
     let total = wire::read_u32(chunk, 0);
     let from = start(memory, chunk);
+    let last = is_last(wire::read_u32(chunk, FLAGS_AT));
     let len = chunk.len() - HEAD;
     wire::copy_part(memory, from as usize, chunk, HEAD, len);
-    if is_last(wire::read_u32(chunk, FLAGS_AT)) {
+    if last {
         note(memory, 0, 0);
         return Joined::Whole(total);
     }

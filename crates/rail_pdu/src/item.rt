@@ -1,5 +1,7 @@
 // The items of a script: each is a kind (1 byte), a length (2) and a payload. A function that ends
 // an item answers whether the run goes on.
+use crate::channel;
+use crate::channel::Turn;
 use crate::line;
 use crate::record;
 use crate::record::Record;
@@ -13,7 +15,7 @@ use pdu::Written;
 // The most output memory that an item can ask for.
 const SIZE_MAX: usize = 17408;
 
-fn bad_item() -> bool {
+pub(crate) fn bad_item() -> bool {
     io::write_all(STDOUT_FILENO, b"bad item\n");
     false
 }
@@ -31,14 +33,16 @@ fn number_of(answer: Read) -> u8 {
     }
 }
 
-// R: reads the message s and prints its record, or the refusal.
-fn read_call(s: &[u8], out: &mut [u8]) -> bool {
+// Reads the message s and prints its record, or the refusal, after the kind of its item.
+pub(crate) fn read_line(kind: &[u8], s: &[u8], out: &mut [u8]) -> bool {
     let answer = pdu_read::read_pdu(s);
     let Read::Message(p) = answer else {
-        let n = line::field1(out, 0, b"R ", number_of(answer));
+        let n = line::text(out, 0, kind);
+        let n = line::field1(out, n, b" ", number_of(answer));
         return line::end(out, n);
     };
     let n = show::message(out, s, p);
+    line::text(out, 0, kind);
     line::end(out, n)
 }
 
@@ -97,31 +101,41 @@ fn write_call(s: &[u8], out: &mut [u8]) -> bool {
     write_to(p, s, &mut memory[0..size], out)
 }
 
-fn call(kind: u8, s: &[u8], out: &mut [u8]) -> bool {
+pub(crate) fn call(kind: u8, s: &[u8], out: &mut [u8]) -> bool {
     match kind {
-        b'R' => read_call(s, out),
+        b'R' => read_line(b"R", s, out),
         b'P' => write_call(s, out),
         _ => bad_item(),
     }
 }
 
+// The end of a run.
+fn no_turn() -> Turn {
+    Turn { on: false, lack: 0 }
+}
+
+fn bad_turn() -> Turn {
+    bad_item();
+    no_turn()
+}
+
 // Reads an item into the payload's memory and runs it, with out as the memory of its line.
-pub(crate) fn next(payload: &mut [u8], out: &mut [u8]) -> bool {
+pub(crate) fn next(memory: &mut [u8], payload: &mut [u8], out: &mut [u8], lack: usize) -> Turn {
     let mut head = [0u8; 3];
     let got = io::read_full(STDIN_FILENO, &mut head);
     if got == 0 {
-        return false;
+        return no_turn();
     }
     if got < 3 {
-        return bad_item();
+        return bad_turn();
     }
     let kind = wire::read_u8(&head, 0);
     let len = wire::read_u16(&head, 1) as usize;
     if len > payload.len() {
-        return bad_item();
+        return bad_turn();
     }
     if io::read_full(STDIN_FILENO, &mut payload[0..len]) < len {
-        return bad_item();
+        return bad_turn();
     }
-    call(kind, &payload[0..len], out)
+    channel::run_item(memory, lack, kind, &payload[0..len], out)
 }

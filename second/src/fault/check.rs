@@ -75,7 +75,7 @@ fn check_each<'a>(
 }
 
 /// Lines with their ends, and what is left of them.
-struct Lines<'a>(&'a [u8]);
+pub(super) struct Lines<'a>(pub &'a [u8]);
 
 impl<'a> Iterator for Lines<'a> {
     type Item = &'a [u8];
@@ -88,7 +88,7 @@ impl<'a> Iterator for Lines<'a> {
 }
 
 /// The number of a line that has its kind and its end. A refusal has no more.
-fn number(line: &[u8], kind: u8) -> Option<u8> {
+pub(super) fn number(line: &[u8], kind: u8) -> Option<u8> {
     let line = std::str::from_utf8(line).ok()?.strip_suffix('\n')?;
     let answer = line.strip_prefix(char::from(kind))?.strip_prefix(' ')?;
     let (number, more) = match answer.split_once(' ') {

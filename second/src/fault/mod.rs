@@ -1,6 +1,7 @@
 //! Runs another program on scripts with faults in its state memory.
 
 mod check;
+pub mod chunk;
 
 pub use check::check;
 
@@ -9,7 +10,7 @@ use std::ops::AddAssign;
 use std::path::Path;
 use std::sync::Mutex;
 
-use crate::generate::fault;
+use crate::generate::{chunk_fault, fault};
 use crate::program::{each_seed, run_program};
 use crate::script::parts::Parts;
 
@@ -67,11 +68,41 @@ pub fn fault_run(
     parts: &Parts,
     report: impl Fn(&str) + Sync,
 ) -> io::Result<Tally> {
+    run_seeds(program, from, to, report, |seed| {
+        let faulty = fault::script(seed, items, parts);
+        let script = faulty.script.clone();
+        (script, move |printed: &[u8]| check(&faulty, parts, printed))
+    })
+}
+
+/// As [`fault_run`], with faults in the memory of chunks.
+pub fn chunk_fault_run(
+    program: &Path,
+    from: u64,
+    to: u64,
+    items: usize,
+    report: impl Fn(&str) + Sync,
+) -> io::Result<Tally> {
+    run_seeds(program, from, to, report, |seed| {
+        let faulty = chunk_fault::script(seed, items);
+        let script = faulty.script.clone();
+        (script, move |printed: &[u8]| chunk::check(&faulty, printed))
+    })
+}
+
+/// Runs the program on the script of each seed and checks what it prints.
+fn run_seeds<C: FnOnce(&[u8]) -> Result<Met, String>>(
+    program: &Path,
+    from: u64,
+    to: u64,
+    report: impl Fn(&str) + Sync,
+    make: impl Fn(u64) -> (Vec<u8>, C) + Sync,
+) -> io::Result<Tally> {
     let tally = Mutex::new(Tally::default());
     each_seed(from, to, |seed| {
-        let faulty = fault::script(seed, items, parts);
-        let printed = run_program(program, &faulty.script)?;
-        let checked = check(&faulty, parts, &printed);
+        let (script, check) = make(seed);
+        let printed = run_program(program, &script)?;
+        let checked = check(&printed);
         let mut tally = tally.lock().expect("no worker panics");
         tally.scripts += 1;
         match checked {

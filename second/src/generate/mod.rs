@@ -1,5 +1,6 @@
 //! Seeded generators: the same seed and count give the same bytes everywhere.
 
+pub mod chunk_fault;
 pub mod fault;
 pub mod pdu;
 pub mod random;

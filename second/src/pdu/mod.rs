@@ -1,5 +1,6 @@
 //! Control messages (PDUs): records, reading and writing.
 
+pub mod chunk;
 mod read;
 pub mod rules;
 mod write;

@@ -1,10 +1,20 @@
 //! Call scripts: a run of items, each a kind letter, a length of 2 and a payload.
 
+pub mod chunk;
 mod lookup;
 pub mod parts;
 pub mod pdu;
 mod print;
 pub mod session;
+
+/// How a run ended.
+#[derive(Clone, Copy, Debug, PartialEq, Eq)]
+pub enum End {
+    /// At the script's end or at a bad item.
+    Done,
+    /// At a call on memory that was changed: the model here keeps no memory.
+    Fault,
+}
 
 /// The most bytes that a payload can have.
 pub const PAYLOAD_LIMIT: usize = u16::MAX as usize;

@@ -1,9 +1,11 @@
-//! Scripts of control messages: items `R` (read) and `P` (write).
+//! Scripts of control messages: items `R` (read) and `P` (write), and those of
+//! [`chunk`].
 
 use std::io;
 
+use super::chunk::{self, Chunks, Outcome};
 use super::print::{push_hex, push_record};
-use super::{take_item, Item};
+use super::{take_item, End, Item};
 use crate::ids::{NotifyIconId, WindowId};
 use crate::pdu::{self, order_type, Record};
 use crate::pdu::{
@@ -12,7 +14,7 @@ use crate::pdu::{
 };
 
 /// The kinds of items.
-pub const KINDS: &[u8] = b"RP";
+pub const KINDS: &[u8] = b"RPKETX";
 
 /// The most output memory that an item can ask for.
 pub const MEMORY_LIMIT: usize = 17_408;
@@ -37,7 +39,7 @@ pub enum Answer<'a> {
 }
 
 /// Runs a script and prints one line for each item.
-pub fn run(script: &[u8], out: &mut (impl io::Write + ?Sized)) -> io::Result<()> {
+pub fn run(script: &[u8], out: &mut (impl io::Write + ?Sized)) -> io::Result<End> {
     run_with(pdu::write, script, out)
 }
 
@@ -46,24 +48,60 @@ pub fn run_with(
     write: WriteFn,
     script: &[u8],
     out: &mut (impl io::Write + ?Sized),
-) -> io::Result<()> {
+) -> io::Result<End> {
     let mut memory = vec![0; MEMORY_LIMIT];
+    let mut chunks = Chunks::default();
     let mut line = Vec::new();
     let mut rest = script;
     while !rest.is_empty() {
-        let (answer, tail) = match take_item(rest) {
-            Some((item, tail)) => (answer_with(write, item, &mut memory), tail),
-            None => (Answer::BadItem, rest),
-        };
         line.clear();
-        let ends = push_answer(&mut line, &answer);
+        let Some((item, tail)) = take_item(rest) else {
+            push_answer(&mut line, &Answer::BadItem);
+            out.write_all(&line)?;
+            break;
+        };
+        let ends = match chunk::call(item).map(|call| chunks.make(call)) {
+            Some(Outcome::Unknown) => return Ok(End::Fault),
+            Some(outcome) => {
+                push_outcome(&mut line, item.kind, &outcome);
+                false
+            }
+            None => push_answer(&mut line, &answer_with(write, item, &mut memory)),
+        };
         out.write_all(&line)?;
         if ends {
             break;
         }
         rest = tail;
     }
-    Ok(())
+    Ok(End::Done)
+}
+
+/// Adds the line of a call on chunks, if it has one.
+pub fn push_outcome(line: &mut Vec<u8>, kind: u8, outcome: &Outcome) {
+    match outcome {
+        Outcome::Message(message) => push_read(line, kind, &pdu::read(message)),
+        Outcome::Number(number) => push_number(line, kind, *number),
+        Outcome::Silent | Outcome::Unknown => return,
+    }
+    line.push(b'\n');
+}
+
+/// Adds what reading a message comes to, after the kind of its item.
+fn push_read(line: &mut Vec<u8>, kind: u8, result: &Result<Record<'_>, u8>) {
+    match result {
+        Ok(record) => {
+            push_number(line, kind, 0);
+            line.push(b' ');
+            push_record(line, record);
+        }
+        Err(number) => push_number(line, kind, *number),
+    }
+}
+
+fn push_number(line: &mut Vec<u8>, kind: u8, number: u8) {
+    line.push(kind);
+    line.extend_from_slice(format!(" {number}").as_bytes());
 }
 
 /// Makes the call of one item. `memory` has at least [`MEMORY_LIMIT`] bytes.
@@ -102,11 +140,7 @@ fn written<'a>(write: WriteFn, record: &Record<'_>, memory: &'a mut [u8]) -> Ans
 /// Adds the answer's line; says whether the run ends with it.
 fn push_answer(line: &mut Vec<u8>, answer: &Answer<'_>) -> bool {
     match answer {
-        Answer::Read(Ok(record)) => {
-            line.extend_from_slice(b"R 0 ");
-            push_record(line, record);
-        }
-        Answer::Read(Err(number)) => line.extend_from_slice(format!("R {number}").as_bytes()),
+        Answer::Read(result) => push_read(line, b'R', result),
         Answer::Written(Ok(bytes)) => {
             line.extend_from_slice(b"P 0 ");
             push_hex(line, bytes);

@@ -4,6 +4,7 @@ use std::io;
 
 use super::lookup::push_found;
 use super::parts::Parts;
+pub use super::End;
 use super::{take_item, Item};
 use crate::book::Book;
 use crate::ids::{NotifyIconId, WindowId};
@@ -38,15 +39,6 @@ pub enum Call<'a> {
     /// No call: the next one is lent memory that is too short.
     Shorten,
     /// No call: a byte of the memory changes.
-    Fault,
-}
-
-/// How a run ended.
-#[derive(Clone, Copy, Debug, PartialEq, Eq)]
-pub enum End {
-    /// At the script's end or at a bad item.
-    Done,
-    /// At an item that changes memory, which the book does not have.
     Fault,
 }
 

@@ -1,7 +1,7 @@
 //! What is wrong with an input that is no script, for those who gave it.
 
 use crate::script::parts::Parts;
-use crate::script::{pdu as pdu_script, session as session_script, take_item, Item};
+use crate::script::{chunk, pdu as pdu_script, session as session_script, take_item, Item};
 
 /// The first item of a script of state calls that is a bad one, in words.
 pub fn session(script: &[u8], parts: &Parts) -> Option<String> {
@@ -20,7 +20,8 @@ pub fn session(script: &[u8], parts: &Parts) -> Option<String> {
 pub fn pdu(script: &[u8]) -> Option<String> {
     let mut memory = vec![0; pdu_script::MEMORY_LIMIT];
     first_bad(script, pdu_script::KINDS, |item| {
-        pdu_script::answer(item, &mut memory) != pdu_script::Answer::BadItem
+        chunk::call(item).is_some()
+            || pdu_script::answer(item, &mut memory) != pdu_script::Answer::BadItem
     })
 }
 

@@ -29,7 +29,11 @@ fn help_names_every_command() {
     ] {
         assert!(help.contains(name), "{name}");
     }
-    for name in ["compare-pdu PROGRAM FROM TO ITEMS", "hex-pdu"] {
+    for name in [
+        "compare-pdu PROGRAM FROM TO ITEMS",
+        "fault-pdu PROGRAM FROM TO ITEMS",
+        "hex-pdu",
+    ] {
         assert!(help.contains(name), "{name}");
     }
 }

@@ -4,6 +4,7 @@ use super::run;
 use second::coverage::pdu::of_seeds;
 use second::generate::pdu::script;
 use second::generate::random::Random;
+use second::script::chunk::{call, SILENT};
 use second::script::take_item;
 
 /// The published first numbers of splitmix64 for the seed 1234567.
@@ -33,13 +34,26 @@ fn the_same_seed_gives_the_same_script() {
 fn each_script_prints_a_line_for_each_item() {
     for seed in 0..120 {
         for items in [0, 1, 50] {
-            let output = run(&script(seed, items));
-            assert_eq!(output.lines().count(), items);
+            let script = script(seed, items);
+            let output = run(&script);
+            assert_eq!(output.lines().count(), items - silent_items(&script));
             let bad = output.lines().filter(|line| *line == "bad item").count();
             let ends_badly = seed % 20 == 19 && items > 0;
             assert_eq!(bad, usize::from(ends_badly), "seed {seed}");
         }
     }
+}
+
+/// Items that print nothing. A bad one prints its line.
+fn silent_items(script: &[u8]) -> usize {
+    let mut count = 0;
+    let mut rest = script;
+    while let Some((item, tail)) = take_item(rest) {
+        let is_silent = SILENT.contains(&item.kind) && call(item).is_some();
+        count += usize::from(is_silent);
+        rest = tail;
+    }
+    count
 }
 
 #[test]
@@ -55,11 +69,14 @@ fn scripts_stay_small() {
 #[test]
 fn bad_ends_differ() {
     let mut kinds = std::collections::BTreeSet::new();
-    for seed in (19..120).step_by(20) {
+    for seed in (19..220).step_by(20) {
         let script = script(seed, 1);
         kinds.insert(match take_item(&script) {
             None if script.len() < 3 => "cut header",
             None => "cut payload",
+            Some((item, _)) if item.kind == b'E' => "emptying",
+            Some((item, _)) if item.kind == b'T' => "too short",
+            Some((item, _)) if item.kind == b'X' => "fault",
             Some((item, _)) if item.kind != b'P' => "unknown kind",
             Some((item, _)) => match item.payload {
                 [low, high, ..] if u16::from_le_bytes([*low, *high]) > 17_408 => "size",
@@ -67,7 +84,7 @@ fn bad_ends_differ() {
             },
         });
     }
-    assert_eq!(kinds.len(), 5);
+    assert_eq!(kinds.len(), 8);
 }
 
 #[test]
@@ -88,6 +105,8 @@ fn what_is_missing_is_named() {
         "P ApplicationIdResponse length=521 8",
         "P MoveSize move_type=12 8",
         "P MinMaxInfo memory-1 14",
+        "K Handshake some",
+        "K short 16",
     ] {
         assert!(missing.contains(&fact), "{fact}");
     }

@@ -3,6 +3,7 @@
 #[path = "../common/mod.rs"]
 mod common;
 
+mod chunks;
 mod command_line;
 mod generator;
 mod layout;

@@ -30,7 +30,7 @@ fn cut_items_are_bad() {
 
 #[test]
 fn unknown_kinds_are_bad() {
-    for kind in (0..=u8::MAX).filter(|kind| !b"RP".contains(kind)) {
+    for kind in (0..=u8::MAX).filter(|kind| !b"RPKE".contains(kind)) {
         let script = [&[kind, 0, 0][..], &hex(HANDSHAKE)].concat();
         assert_eq!(run(&script), "bad item\n");
     }
@@ -140,7 +140,7 @@ fn text_form() {
 fn faults_in_the_text_form_are_told_with_their_line() {
     for (text, line) in [
         ("R 0", 1),
-        ("R 00\nX 00", 2),
+        ("R 00\nZ 00", 2),
         ("\n\nR 0g", 3),
         ("R00", 1),
         ("r 00", 1),

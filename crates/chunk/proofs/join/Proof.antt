@@ -45,18 +45,19 @@ end-of u =
     let e = u .before .before .before in
     omega (arith, u .start .ensures, end-within (memory e) (chunk e) (fits-there e) (long e) (passes e))
 
+lasts : (u : tie.After-is-last) → isLast (chunk (u .before .before .before .before .before)) ≡ u .is-last .result
+lasts u = ap (λ (f : ℕ). has f flagLast) (sym (u .before .read-u322 .ensures)) ∙ sym (u .is-last .ensures)
+
 -- the data stands after what came
-copied : (u : tie.After-copy-part) → u .copy-part .last .0 ≡ joinedAt (memory (u .before .before .before .before .before)) (chunk (u .before .before .before .before .before))
+copied : (u : tie.After-copy-part) → u .copy-part .last .0 ≡ joinedAt (memory (u .before .before .before .before .before .before .before)) (chunk (u .before .before .before .before .before .before .before))
 unfolding joinedAt
 copied u =
-    let e = u .before .before .before .before .before in
-    u .copy-part .ensures ∙ ap (λ (a : ℕ). splice (memory e) a (slice (chunk e) headSize (length (chunk e) - headSize))) (u .before .before .start .ensures)
+    let a = u .before .before .before .before in
+    let e = a .before .before .before in
+    u .copy-part .ensures ∙ ap (λ (x : ℕ). splice (memory e) x (slice (chunk e) headSize (length (chunk e) - headSize))) (a .start .ensures)
 
 copied-room : (u : tie.After-copy-part) → memorySize ≤ length (u .copy-part .last .0)
-copied-room u = omega (arith, ap length (copied u), joined-room (u .before .before .before .before .before))
-
-lasts : (u : tie.After-is-last) → isLast (chunk (u .before .before .before .before .before .before .before .before .before)) ≡ u .is-last .result
-lasts u = ap (λ (f : ℕ). has f flagLast) (sym (u .before .read-u322 .ensures)) ∙ sym (u .is-last .ensures)
+copied-room u = omega (arith, ap length (copied u), joined-room (u .before .before .before .before .before .before .before))
 
 -- Five ways out: unfit memory, a short chunk, a refused one, the last of a message, one before it.
 pub join-spec : {M : Type 1} → statement M
@@ -89,35 +90,35 @@ join-spec =
     refusal (now (b .args .memory)) (now (b .args .chunk)) (fits f) (s .if2 .left) (sym (t .before .refuses .ensures) ∙ t .if3 .taken) _ (n .note .ensures))
     (λ c κs. search needs)
     (λ c κs. search needs)
+    (λ c κs. search needs)
+    (λ c κs. search needs)
     (λ c. search needs)
     (λ c. search needs)
     (λ c κs.
-    let u = c .before in
-    let e = u .before .before .before in
-    (omega (arith, end-of u, fit-long (memory e) (fits-there e)), omega (arith, long e)))
-    (λ c κs. search needs)
-    (λ c κs. search needs)
-    (λ c κs. copied-room (c .before .before .before .before .before .before))
+    let a = c .before .before .before in
+    let e = a .before .before .before in
+    (omega (arith, end-of a, fit-long (memory e) (fits-there e)), omega (arith, long e)))
+    (λ c κs. copied-room (c .before .before .before .before))
     (λ c. search needs)
     (λ c.
     let n = c .before .before in
     let t = n .before .before in
-    let l = t .before in
-    let p = l .before .before .before .before in
-    let a = p .before .before in
+    let p = t .before .before .before in
+    let l = p .before .before in
+    let a = l .before .before in
     let e = a .before .before .before in
     whole (memory e) (chunk e) (fits-there e) (long e) (passes e) (lasts l ∙ t .if4 .taken) _ (a .before .before .read-u32 .ensures)
     _ (n .note2 .ensures ∙ ap (λ (x : List ℕ). noted x 0 0) (copied p)))
     (λ c. omega (arith, end-of (c .before .before .before .before .before .before .before)))
     (λ c. omega (arith, end-of (c .before .before .before .before .before .before .before)))
-    (λ c κs. copied-room (c .before .before .before .before .before .before))
+    (λ c κs. copied-room (c .before .before .before .before))
     (λ c. search needs)
     (λ c.
     let n = c .before .before in
     let t = n .before .before in
-    let l = t .before in
-    let p = l .before .before .before .before in
-    let a = p .before .before in
+    let p = t .before .before .before in
+    let l = p .before .before in
+    let a = l .before .before in
     let e = a .before .before .before in
     let total = a .before .before .read-u32 in
     let got : a .start .result + (length (chunk e) - headSize) ≡ endAt (memory e) (chunk e) = ap (λ (x : ℕ). x + (length (chunk e) - headSize)) (a .start .ensures) in

@@ -46,6 +46,7 @@ pub fn facts() -> Vec<String> {
         facts.push(format!("P {name} memory=0 8"));
     }
     facts.extend(limit_facts());
+    facts.extend(super::chunks::expected());
     facts
 }
 

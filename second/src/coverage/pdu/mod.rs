@@ -1,5 +1,6 @@
 //! What generated scripts of control messages reach.
 
+mod chunks;
 mod expected;
 mod limits;
 
@@ -31,13 +32,17 @@ struct Coverage {
 
 impl Coverage {
     fn add_script(&mut self, script: &[u8]) {
+        let mut watch = chunks::Watch::default();
         let mut rest = script;
         while !rest.is_empty() {
             let Some((item, tail)) = take_item(rest) else {
                 self.add("cut item: bad item".into());
                 return;
             };
-            self.add_item(item);
+            match watch.facts(item) {
+                Some(facts) => facts.into_iter().for_each(|fact| self.add(fact)),
+                None => self.add_item(item),
+            }
             rest = tail;
         }
     }

@@ -1,9 +1,11 @@
 //! Scripts of control messages.
 
+mod chunks;
 mod draft;
 
 use super::random::Random;
 use crate::script::push_item;
+use chunks::Planner;
 use draft::{declare_length, Draft};
 
 /// The most output memory that an item may ask for.
@@ -22,10 +24,13 @@ const BAD_END_EVERY: u64 = 20;
 pub fn script(seed: u64, items: usize) -> Vec<u8> {
     let mut random = Random::new(seed);
     let mut script = Vec::new();
+    let mut planner = Planner::default();
     let bad_end = seed % BAD_END_EVERY == BAD_END_EVERY - 1;
     for left in (0..items).rev() {
         if left == 0 && bad_end {
             push_bad_end(&mut script, seed / BAD_END_EVERY, &mut random);
+        } else if random.chance(40) {
+            planner.push_next(&mut script, &mut random);
         } else if random.chance(50) {
             push_item(&mut script, b'R', &read_payload(&mut random));
         } else {
@@ -188,7 +193,7 @@ fn write_payload(random: &mut Random) -> Vec<u8> {
 fn push_bad_end(script: &mut Vec<u8>, sort: u64, random: &mut Random) {
     let draft = Draft::usual(random);
     let good = draft.payload(MOST_MEMORY);
-    match sort % 6 {
+    match sort % 10 {
         0 => {
             let header = [b'R', 8, 0];
             script.extend_from_slice(&header[..1 + random.below(2)]);
@@ -197,7 +202,7 @@ fn push_bad_end(script: &mut Vec<u8>, sort: u64, random: &mut Random) {
             push_item(script, b'P', &good);
             script.truncate(script.len() - 1 - random.below(good.len()));
         }
-        2 => push_item(script, random.pick(b"ABrpZ\0\xff"), &draft.message()),
+        2 => push_item(script, random.pick(b"ABrpkZ\0\xff"), &draft.message()),
         3 => {
             let mut payload = good;
             payload[2..4].copy_from_slice(&random.pick(&OTHER_TYPES).to_le_bytes());
@@ -211,6 +216,18 @@ fn push_bad_end(script: &mut Vec<u8>, sort: u64, random: &mut Random) {
                 payload.truncate(random.below(payload.len()));
             }
             push_item(script, b'P', &payload);
+        }
+        5 => push_item(script, b'E', &[0]),
+        6 => push_item(script, b'T', &[0, 0]),
+        7 => {
+            let length = random.pick(&[0, 1, 3]);
+            push_item(script, b'T', &[1, 0, 0][..length]);
+        }
+        8 => {
+            let offset = random.pick(&[0x0001_0000, 0x0001_0001, u32::MAX]);
+            let [a, b, c, d] = offset.to_le_bytes();
+            let length = random.pick(&[4, 5, 5, 5, 6]);
+            push_item(script, b'X', &[a, b, c, d, 1, 0][..length]);
         }
         _ => {
             let size = random.pick(&[MOST_MEMORY + 1, MOST_MEMORY + 2, 0x8000, 0xFFFF]);
