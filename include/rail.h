@@ -3,7 +3,8 @@
  *
  * The library keeps the table that a server's windowing orders describe (32 windows, 16 notification icons, an icon cache of
  * 2 x 6 cells and the desktop state) with a history that can be stepped back, and reads and writes the control messages of
- * MS-RDPERP. An order or a message is used whole or refused whole; a refusal changes no byte of what was lent.
+ * MS-RDPERP, whole or in the chunks of the channel. An order or a message is used whole or refused whole; a refusal changes no byte
+ * of what was lent, but for what rail/chunk.h says of an unfinished message.
  *
  * Rules for the caller
  *   Pointers   None may be NULL, also where the length is 0. Bytes need no alignment, words that of uint32_t.
@@ -49,7 +50,8 @@ enum rail_measure {
     RAIL_MEASURE_WINDOW = 4,
     RAIL_MEASURE_NOTIFICATION = 5,
     RAIL_MEASURE_DESKTOP = 6,
-    RAIL_MEASURE_PICTURE = 7
+    RAIL_MEASURE_PICTURE = 7,
+    RAIL_MEASURE_CHUNK = 8
 };
 
 /* ---- Limits of the table and of its history. */
@@ -86,7 +88,9 @@ enum rail_numbers {
     RAIL_NO_CELL = 11,         /* icon with cache id FF, or cached icon naming an empty cell */
     RAIL_HISTORY_FULL = 12,    /* history room would be passed: rail_checkpoint makes room */
     RAIL_TOO_MANY_STEPS = 13,  /* more steps back than stand after the mark */
-    RAIL_OUTPUT_TOO_SMALL = 14 /* output memory too small */
+    RAIL_OUTPUT_TOO_SMALL = 14, /* output memory too small */
+    RAIL_CHUNK_TOO_SHORT = 15, /* chunk under 8 bytes */
+    RAIL_BAD_CHUNK = 16        /* chunk compressed, not first with nothing begun, or not what its total says */
 };
 
 /* ---- Answers, all in one packing: the number; where that is 0, a state call's count of orders that stand after the mark and their
@@ -114,6 +118,8 @@ static inline const char *rail_number_words(uint32_t number) {
         "history room would be passed",
         "more steps back than stand after the mark",
         "output memory too small",
+        "chunk under 8 bytes",
+        "chunk is compressed; not first with nothing begun; a total of 0 or over 17,052; a total differing from the first's; or data past the total or, in a last chunk, short of it",
     };
     return number < sizeof words / sizeof words[0] ? words[number] : "no number of this library";
 }
@@ -206,6 +212,7 @@ uint32_t rail_pdu_write(const uint32_t words[12], const uint8_t *strings, size_t
 }
 #endif
 
+#include "rail/chunk.h"
 #include "rail/messages.h"
 #include "rail/records.h"
 #include "rail/orders.h"

@@ -184,6 +184,7 @@ int main(void) {
     test_decoders();
     test_reading();
     test_writing();
+    test_chunks();
     test_script();
     test_stack();
     printf("%d passed, %d failed\n", passed, failed);

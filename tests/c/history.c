@@ -200,6 +200,8 @@ void test_decoders(void) {
     CHECK(rail_number(RAIL_HISTORY_BYTES_MAX * 65536u + RAIL_HISTORY_ORDERS_MAX * 256u + 14u) == 14);
     CHECK(rail_number(RAIL_MESSAGE_MAX * 65536u) == RAIL_DONE && rail_bytes(RAIL_MESSAGE_MAX * 65536u) == RAIL_MESSAGE_MAX);
     CHECK(strcmp(rail_number_words(RAIL_OUTPUT_TOO_SMALL), "output memory too small") == 0);
+    CHECK(strcmp(rail_number_words(RAIL_CHUNK_TOO_SHORT), "chunk under 8 bytes") == 0);
+    CHECK(strcmp(rail_number_words(RAIL_BAD_CHUNK), rail_number_words(17)) != 0);
     CHECK(strcmp(rail_number_words(RAIL_FLAGS_CLASH), "order flags clash") == 0);
-    CHECK(strcmp(rail_number_words(15), rail_number_words(UINT32_MAX)) == 0);
+    CHECK(strcmp(rail_number_words(17), rail_number_words(UINT32_MAX)) == 0);
 }

@@ -26,6 +26,7 @@ static void *call(void *argument) {
     case 7: rail_checkpoint(NOW); break;
     case 8: rail_reset(NOW); break;
     case 9: rail_pdu_read(order.at, order.size, words); break;
+    case 10: rail_chunk(out, RAIL_CHUNK_SIZE, order.at, order.size, words); break;
     default: rail_pdu_write(handshake, order.at, 0, out, RAIL_PICTURE_SIZE);
     }
     return NULL;
@@ -51,7 +52,8 @@ void test_stack(void) {
     uint8_t *stack = fenced(STACK);
     size_t least;
     int which;
-    out = fenced(RAIL_PICTURE_SIZE);
+    out = fenced(RAIL_CHUNK_SIZE);
+    CHECK(rail_chunk_reset(out, RAIL_CHUNK_SIZE) == RAIL_DONE);
     empty_state();
     begin_window(WINDOW_ORDER_STATE_NEW, 7);
     grant();
@@ -68,6 +70,13 @@ void test_stack(void) {
             put_run(4 + RAIL_APPLICATION_ID_SIZE, 1);
             order.at[2] = 0x10;
             order.at[3] = 0x02;
+        }
+        if (which == 10) { /* the same in one chunk */
+            memmove(order.at + RAIL_CHUNK_HEAD_SIZE, order.at, order.size);
+            order.size = 0;
+            put32(0x210);
+            put32(CHANNEL_FLAG_FIRST | CHANNEL_FLAG_LAST);
+            order.size += 0x210;
         }
         CHECK(used(stack, which) < least + STACK_MAX);
     }

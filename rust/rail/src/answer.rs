@@ -3,7 +3,8 @@
 use core::error::Error;
 use core::fmt;
 
-/// Why a call was refused. A refused call changes nothing.
+/// Why a call was refused. A refused call changes nothing, but for what a
+/// [`Channel`](crate::Channel) has begun.
 ///
 /// Printed, it is its number and document 01's words for it, as the C header has them:
 ///
@@ -44,6 +45,11 @@ pub enum Refusal {
     TooManySteps = 13,
     /// 14: the output memory is too small.
     OutputTooSmall = 14,
+    /// 15: a chunk of fewer than 8 bytes.
+    ChunkTooShort = 15,
+    /// 16: a chunk that is compressed, not first with nothing begun, or not what its
+    /// total says. What was begun is dropped.
+    BadChunk = 16,
 }
 
 impl Refusal {
@@ -63,9 +69,11 @@ impl Refusal {
         Refusal::HistoryFull,
         Refusal::TooManySteps,
         Refusal::OutputTooSmall,
+        Refusal::ChunkTooShort,
+        Refusal::BadChunk,
     ];
 
-    /// Its number in document 01, 1 to 14.
+    /// Its number in documents 01 and 02, 1 to 16.
     pub fn number(self) -> u8 {
         self as u8
     }
@@ -90,6 +98,12 @@ impl Refusal {
             Refusal::HistoryFull => "history room would be passed",
             Refusal::TooManySteps => "more steps back than stand after the mark",
             Refusal::OutputTooSmall => "output memory too small",
+            Refusal::ChunkTooShort => "chunk under 8 bytes",
+            Refusal::BadChunk => {
+                "chunk is compressed; not first with nothing begun; a total of 0 or over 17,052; \
+                 a total differing from the first's; \
+                 or data past the total or, in a last chunk, short of it"
+            }
         }
     }
 }
@@ -211,12 +225,12 @@ mod tests {
     #[test]
     fn numbers_of_refusals() {
         let numbers = Refusal::ALL.iter().map(|refusal| refusal.number());
-        assert!(numbers.eq(1..=14));
+        assert!(numbers.eq(1..=16));
         for &refusal in Refusal::ALL {
             assert_eq!(Refusal::try_from(refusal.number()), Ok(refusal));
             assert_eq!(u8::from(refusal), refusal.number());
         }
-        for number in (15..=255).chain([0]) {
+        for number in (17..=255).chain([0]) {
             assert_eq!(Refusal::try_from(number), Err(UnknownNumber(number)));
         }
     }
@@ -246,8 +260,8 @@ mod tests {
         let error: Box<dyn Error + Send + Sync> = Refusal::FlagsClash.into();
         assert_eq!(error.to_string(), "6: order flags clash");
         assert_eq!(
-            UnknownNumber(15).to_string(),
-            "no refusal has the number 15"
+            UnknownNumber(17).to_string(),
+            "no refusal has the number 17"
         );
     }
 
@@ -279,6 +293,6 @@ mod tests {
     #[test]
     #[should_panic = "listed numbers only"]
     fn a_number_that_is_not_listed() {
-        let _ = state_answer(15);
+        let _ = state_answer(17);
     }
 }

@@ -109,6 +109,14 @@ extern "C" {
         out: *mut u8,
         out_length: usize,
     ) -> u32;
+    fn rail_chunk_reset(memory: *mut u8, memory_length: usize) -> u32;
+    fn rail_chunk(
+        memory: *mut u8,
+        memory_length: usize,
+        chunk: *const u8,
+        chunk_length: usize,
+        words: *mut u32,
+    ) -> u32;
     fn rail_pdu_read(message: *const u8, length: usize, words: *mut u32) -> u32;
     fn rail_pdu_write(
         words: *const u32,
@@ -278,6 +286,25 @@ pub(crate) fn desktop(view: View<'_>, out: &mut [u8]) -> u32 {
     }
 }
 
+pub(crate) fn chunk_reset(memory: &mut [u8]) -> u32 {
+    // SAFETY: the memory is written with its length.
+    unsafe { rail_chunk_reset(memory.as_mut_ptr(), memory.len()) }
+}
+
+pub(crate) fn chunk(memory: &mut [u8], chunk: &[u8], words: &mut Words) -> u32 {
+    // SAFETY: the chunk is read with its length; the memory is written with its own, and
+    // the 12 words are, both borrowed mutably and so apart from each other and the chunk.
+    unsafe {
+        rail_chunk(
+            memory.as_mut_ptr(),
+            memory.len(),
+            chunk.as_ptr(),
+            chunk.len(),
+            words.as_mut_ptr(),
+        )
+    }
+}
+
 pub(crate) fn pdu_read(message: &[u8], words: &mut Words) -> u32 {
     // SAFETY: the message is read with its length, and the 12 words are written,
     // which are borrowed mutably and so apart from it.
@@ -316,7 +343,7 @@ mod tests {
         for (what, expected) in (0..).zip(sizes) {
             assert_eq!(size(what), expected as u32);
         }
-        for what in [8, 9, 255, 256, u32::MAX] {
+        for what in [9, 9, 255, 256, u32::MAX] {
             assert_eq!(size(what), 0);
         }
     }

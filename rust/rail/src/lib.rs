@@ -4,7 +4,8 @@
 //! they make: windows, notification icons, the icon cache and the desktop. An order
 //! is used whole or refused whole, and a [`Refusal`] says why. Orders since the last
 //! checkpoint can be taken back. A [`Message`] is one of the 13 control messages,
-//! read from bytes and written to bytes.
+//! read from bytes and written to bytes; a [`Channel`] hands them out of the chunks that
+//! they arrive in.
 //!
 //! ```
 //! use rail::{Refusal, Session, WindowId};
@@ -26,7 +27,8 @@
 //! ```
 //!
 //! What is proved is the library: every call ends with a number of document 01's
-//! list, a refusal changes no byte of the memory, and a list of calls answers as a
+//! list, a refusal changes no byte of the memory (but for what a [`Channel`] has begun),
+//! and a list of calls answers as a
 //! plain book of the orders does. This crate, which lends it memory and gives names
 //! to the bytes it hands out, is not proved but tested.
 //!
@@ -44,6 +46,7 @@
 extern crate alloc;
 
 mod answer;
+mod channel;
 mod ffi;
 mod ids;
 mod memory;
@@ -56,6 +59,7 @@ mod session;
 mod text;
 
 pub use answer::{Found, Refusal, Standing, UnknownNumber};
+pub use channel::{Channel, CHUNK_SIZE};
 pub use ids::{NotifyIconId, WindowId};
 pub use memory::{
     LentSession, Memory, View, BODIES_SIZE, CELLS_SIZE, DIRECTORY_SIZE, JOURNAL_SIZE,

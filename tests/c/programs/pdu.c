@@ -1,4 +1,4 @@
-/* Runs a script of control messages through rail.h and prints every answer, as the program rail_pdu does. */
+/* Runs a script of control messages and their chunks through rail.h and prints every answer, as the program rail_pdu does. */
 #include <stdio.h>
 
 #include "script.h"
@@ -42,11 +42,11 @@ static const struct kind *kind_of(uint32_t type) {
     return NULL;
 }
 
-static void print_record(const uint8_t *message, const uint32_t words[RAIL_WORDS]) {
+static void print_record(int item, const uint8_t *message, const uint32_t words[RAIL_WORDS]) {
     const struct kind *kind = kind_of(words[RAIL_WORD_TYPE]);
     const struct field *f;
     const uint32_t *w = words + 1;
-    printf("R 0 type=%04x", kind->type);
+    printf("%c 0 type=%04x", item, kind->type);
     for (f = kind->fields; f->name != NULL; f++) {
         printf(" %s=", f->name);
         if (f->width == 's') {
@@ -97,6 +97,11 @@ static int untouched(const uint8_t *memory, size_t from) {
     return 1;
 }
 
+static int bad_item(void) {
+    puts("bad item");
+    return 0;
+}
+
 /* P: writes a record. Whether the run goes on. */
 static int write_record(const struct item *item) {
     static uint8_t memory[MEMORY_MAX];
@@ -104,10 +109,8 @@ static int write_record(const struct item *item) {
     const struct kind *kind = item->size < 4 ? NULL : kind_of(rail_get16(item->payload + 2));
     const size_t size = kind == NULL ? 0 : rail_get16(item->payload);
     const size_t at = kind == NULL || size > MEMORY_MAX ? 0 : take_numbers(kind, item, words);
-    if (at == 0 || !place_strings(kind, item, at, words)) {
-        puts("bad item");
-        return 0;
-    }
+    if (at == 0 || !place_strings(kind, item, at, words))
+        return bad_item();
     words[RAIL_WORD_TYPE] = kind->type;
     memset(memory, 0xEE, sizeof memory);
     answer = rail_pdu_write(words, item->payload, item->size, memory, size);
@@ -127,20 +130,89 @@ static int read_message(const struct item *item) {
     uint32_t words[RAIL_WORDS] = {0};
     const uint32_t number = rail_pdu_read(item->payload, item->size, words);
     if (number == RAIL_DONE)
-        print_record(item->payload, words);
+        print_record('R', item->payload, words);
     else
         printf("R %u", number);
     putchar('\n');
     return 1;
 }
 
+/* The chunk memory, and how much of it the next call on it lacks. */
+static uint8_t chunk_memory[RAIL_CHUNK_SIZE];
+static size_t lack;
+
+static size_t lent(void) {
+    const size_t size = lack < RAIL_CHUNK_SIZE ? RAIL_CHUNK_SIZE - lack : 0;
+    lack = 0;
+    return size;
+}
+
+/* K: takes a chunk. 1 and 15 change no byte, 16 only what says that something is begun. */
+static int take_chunk(const struct item *item) {
+    static uint8_t before[RAIL_CHUNK_SIZE];
+    uint32_t words[RAIL_WORDS] = {0}, answer, number;
+    memcpy(before, chunk_memory, sizeof before);
+    answer = rail_chunk(chunk_memory, lent(), item->payload, item->size, words);
+    number = rail_number(answer);
+    if ((number == RAIL_BAD_STATE || number == RAIL_CHUNK_TOO_SHORT || number == RAIL_BAD_CHUNK) &&
+        memcmp(before, chunk_memory, number == RAIL_BAD_CHUNK ? RAIL_MESSAGE_MAX : RAIL_CHUNK_SIZE) != 0) {
+        puts("chunk memory changed");
+        return 0;
+    }
+    if (number == RAIL_DONE && rail_count(answer) == 1)
+        print_record('K', chunk_memory, words);
+    else
+        printf("K %u", number);
+    putchar('\n');
+    return 1;
+}
+
+/* E: empties the chunk memory. */
+static int empty(const struct item *item) {
+    if (item->size != 0)
+        return bad_item();
+    printf("E %u\n", rail_chunk_reset(chunk_memory, lent()));
+    return 1;
+}
+
+/* T: the next K or E is lent less. */
+static int shorten(const struct item *item) {
+    if (item->size != 2 || rail_get16(item->payload) == 0)
+        return bad_item();
+    lack = rail_get16(item->payload);
+    return 1;
+}
+
+/* X: a byte of the chunk memory changes. */
+static int fault(const struct item *item) {
+    if (item->size != 5 || rail_get32(item->payload) >= RAIL_CHUNK_SIZE)
+        return bad_item();
+    chunk_memory[rail_get32(item->payload)] ^= item->payload[4];
+    return 1;
+}
+
+/* Runs an item. Whether the run goes on. */
+static int run(const struct item *item) {
+    switch (item->kind) {
+    case 'R': return read_message(item);
+    case 'P': return write_record(item);
+    case 'K': return take_chunk(item);
+    case 'E': return empty(item);
+    case 'T': return shorten(item);
+    case 'X': return fault(item);
+    default: return bad_item();
+    }
+}
+
 int main(void) {
     static struct item item;
     int got;
-    while ((got = next_item(&item)) == 1 && (item.kind == 'R' || item.kind == 'P'))
-        if (!(item.kind == 'R' ? read_message(&item) : write_record(&item)))
+    memset(chunk_memory, 0xEE, sizeof chunk_memory);
+    rail_chunk_reset(chunk_memory, sizeof chunk_memory);
+    while ((got = next_item(&item)) == 1)
+        if (!run(&item))
             return 0;
     if (got != 0)
-        puts("bad item");
+        bad_item();
     return 0;
 }

@@ -9,7 +9,8 @@ use alloc::vec::Vec;
 use crate::answer::{refused, written_answer, Refusal};
 use crate::ffi;
 use crate::ids::{NotifyIconId, WindowId};
-use words::{message_of, words_of};
+pub(crate) use words::message_of;
+use words::words_of;
 
 /// The most bytes of a message that can be written or read.
 pub const MESSAGE_LIMIT: usize = 12 + 520 + 520 + 16_000;

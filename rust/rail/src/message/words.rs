@@ -26,7 +26,7 @@ const EXECUTE_RESULT: u32 = 0x80;
 const STRING_LIMIT: usize = u16::MAX as usize;
 
 /// The message of words that were read from these bytes.
-pub(super) fn message_of<'a>(words: &Words, bytes: &'a [u8]) -> Message<'a> {
+pub(crate) fn message_of<'a>(words: &Words, bytes: &'a [u8]) -> Message<'a> {
     let mut from = Fields {
         words: &words[1..],
         bytes,
