@@ -343,7 +343,7 @@ mod tests {
         for (what, expected) in (0..).zip(sizes) {
             assert_eq!(size(what), expected as u32);
         }
-        for what in [9, 9, 255, 256, u32::MAX] {
+        for what in [9, 10, 255, 256, u32::MAX] {
             assert_eq!(size(what), 0);
         }
     }
