@@ -4,6 +4,7 @@
 mod call;
 mod callgrind;
 mod check;
+mod chunks;
 mod inputs;
 mod instructions;
 mod kinds;
@@ -19,7 +20,7 @@ use std::process::ExitCode;
 const HELP: &str = "\
 bench: the proved code beside the plain Rust of `second`
 
-  bench                check, time, instructions, orders and state, in turn
+  bench                check, time, instructions, chunks, orders and state, in turn
   bench check          compare the two sides' answers, words and bytes on every
                        benchmark message and on generated ones
   bench time           print nanoseconds per call as a Markdown table
@@ -28,6 +29,11 @@ bench: the proved code beside the plain Rust of `second`
   bench one MESSAGE SIDE JOB N
                        make N calls and print nothing, for callgrind.
                        SIDE: proved, plain or empty; JOB: read or write
+  bench chunks         print instructions of a message in one chunk beside reading it
+                       where it lies and its copy, as a Markdown table
+  bench chunk-one MESSAGE CALL N
+                       make N calls and print nothing, for callgrind.
+                       CALL: read, whole, first or no-data
   bench messages       list the benchmark messages
   bench orders         print instructions per delivery of an order, and per mark
                        that brings it into the table, as a Markdown table,
@@ -62,6 +68,8 @@ fn main() -> ExitCode {
         ["time"] => time::run(),
         ["instructions"] => instructions::run(),
         ["one", message, side, job, calls] => instructions::one(message, side, job, calls),
+        ["chunks"] => chunks::run(),
+        ["chunk-one", message, call, calls] => chunks::one(message, call, calls),
         ["messages"] => list_messages(),
         ["orders"] => orders::run(),
         ["state"] => state::run(None),
@@ -94,6 +102,8 @@ fn everything() -> Result<(), String> {
     time::run()?;
     println!();
     instructions::run()?;
+    println!();
+    chunks::run()?;
     println!();
     orders::run()?;
     println!();

@@ -19,7 +19,7 @@ use Rattle.chunk.specs.declared.Joined.{Joined}
 use Rattle.chunk.specs.declared.Joined.the-variants as J
 use Rattle.chunk.specs.declared.Taken.{Taken}
 use Rattle.chunk.specs.declared.Taken.the-variants as T
-use Rattle.chunk.proofs.Begun.{Accepted, accepted-in}
+use Rattle.chunk.proofs.Begun.{accepted-in}
 
 -- ---- any fact of a step's answer, from that of its four ways
 

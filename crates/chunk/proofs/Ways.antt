@@ -7,10 +7,9 @@ use native.Mathlib.Omega.{arith}
 use lib.ListN.{length, take, drop}
 use lib.Dec.{eqb, leb, ltb}
 use borrow.Author.Tests.{le-leb, le-ltb, lt-ltb, ltb-false, ne-eqb}
-use Rattle.wire.specs.Tests.{pick}
-use Rattle.chunk.specs.Chunk.{State, nothing, begun, Answer, awaited, message, refused, Step, most, headSize, totalIn, isLast, assembled, refuses15, refuses16, chunkStep}
+use Rattle.chunk.specs.Chunk.{State, nothing, begun, Answer, awaited, message, refused, Step, most, headSize, totalIn, isLast, assembled, chunkStep}
 use Rattle.chunk.specs.Memory.{memorySize, wellFormed, stateAt, View, tooShort, unformed, formed, viewOf, answerOn, viewAfter, fit, endAt, refusesAt, joinedAt, noted, emptied}
-use Rattle.chunk.specs.Outcome.{joinedAs, Held, Served, JoinOutcome, ResetOutcome}
+use Rattle.chunk.specs.Outcome.{joinedAs, Held, JoinOutcome, ResetOutcome}
 use Rattle.chunk.specs.declared.Joined.{Joined}
 use Rattle.chunk.specs.declared.Joined.the-variants.{More, Whole, Refused}
 use Rattle.chunk.proofs.Noted.{length-noted, drop-noted, view-noted, length-emptied, take-emptied, drop-emptied, view-emptied}

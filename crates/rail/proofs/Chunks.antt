@@ -1,19 +1,19 @@
 -- The answer to a chunk at the C boundary, from what joining it and reading the message give. Assumes nothing.
-use mathlib.Core.Path.{_≡_, refl, sym, ap, subst, _∙_}
-use mathlib.Core.Bool.{Bool, true, false, not}
+use mathlib.Core.Path.{_≡_, refl, sym, ap, _∙_}
+use mathlib.Core.Bool.{Bool, true, false}
 use mathlib.Core.List.{List}
-use Prim.Native.Nat.{ℕ, _+_, _*_, _%_, _≤_, _<_}
+use Prim.Native.Nat.{ℕ, _+_, _*_, _%_, _≤_}
 use native.Mathlib.Omega.{arith}
 use lib.ListN.{length, take}
-use lib.Dec.{eqb, ltb}
-use borrow.Author.Tests.{eq-eqb, ne-eqb, eqb-true}
+use lib.Dec.{eqb}
+use borrow.Author.Tests.{ne-eqb, eqb-true}
 use Rattle.wire.specs.Tests.{pick}
 use Rattle.pdu.specs.Reading.{readNumber, readOf}
 use Rattle.pdu_read.specs.Told.{Told}
 use Rattle.pdu_read.proofs.Answers.{number-small}
 use Rattle.chunk.specs.Chunk.{Answer, awaited, message, refused, most}
-use Rattle.chunk.specs.Memory.{View, viewOf, answerOn}
-use Rattle.chunk.specs.Outcome.{takenAs, takenNumber, takeNumber, Served, JoinOutcome}
+use Rattle.chunk.specs.Memory.{viewOf, answerOn}
+use Rattle.chunk.specs.Outcome.{takenAs, takenNumber, Served, JoinOutcome}
 use Rattle.chunk.specs.declared.Joined.{Joined}
 use Rattle.chunk.specs.declared.Joined.the-variants as J
 use Rattle.chunk.proofs.Answers.{Small, small, number-read, take-number, told, more-is, more-small, whole-is, whole-length, whole-small, refused-is}

@@ -56,7 +56,7 @@ fn the_longest_message() {
     let message = vec![7; LONGEST];
     let mut assembly = Assembly::default();
     for (index, piece) in message.chunks(1_600).enumerate() {
-        let flags = u32::from(index == 0) | 2 * u32::from(index == 10);
+        let flags = u32::from(index == 0) | (2 * u32::from(index == 10));
         let taken = assembly.take(&chunk(LONGEST, flags, piece));
         assert_eq!(taken, Ok((index == 10).then(|| message.clone())));
     }
@@ -184,7 +184,7 @@ fn unfit_memory_stays_unfit() {
     };
     let handshake = "K 0 type=0005 build=7601\n";
     for (lines, holds) in [
-        (format!("K 1\nK 1\nE 0\n"), true),
+        ("K 1\nK 1\nE 0\n".into(), true),
         (format!("{handshake}{handshake}E 0\n"), true),
         (format!("K 1\n{handshake}E 0\n"), false),
         (format!("{handshake}K 1\nE 0\n"), false),
