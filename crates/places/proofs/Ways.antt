@@ -1,0 +1,194 @@
+-- The laws that the functions' proofs cite, one for each way through them. Assumes nothing.
+use mathlib.Core.Path.{_≡_, refl, sym, ap, _∙_, fun-ext}
+use mathlib.Core.Bool.{Bool, true, false}
+use mathlib.Core.List.{List, [], _∷_, _++_, append-nil}
+use Prim.Native.Nat.{ℕ, suc, _+_, _-_, _≤_, _<_}
+use native.Mathlib.Omega.{arith}
+use lib.Dec.{eqb, ltb}
+use lib.ListN.{length, getD, set, drop, replicate, length-set, length-replicate, List·getD-eq-default}
+use lib.Seq.{getD-set-same, getD-set-other, drop-length}
+use borrow.Author.Tests.{eqb-true, eqb-false, eq-eqb, ne-eqb, ltb-true, ltb-false}
+use Rattle.wire.specs.Tests.{pick}
+use Rattle.wire.specs.Parts.{slice, splice}
+use Rattle.wire.proofs.Parts.{length-slice, splice-start}
+use Rattle.wire.proofs.Numbers.{num1-is, num-slice, num-zeros}
+use Rattle.places.specs.declared.Found.{Found}
+use Rattle.places.specs.declared.Found.the-variants.{At, Nothing}
+use Rattle.places.specs.Counts.{one, countBelow, firstFrom, onFound}
+use Rattle.places.specs.Sharing.{isOne, full}
+use Rattle.places.specs.Memory.{placesOf, pointerAt, countAt, isFree, decode, valid}
+use Rattle.places.specs.Marks.{Marked}
+use Rattle.places.specs.Changes.{put, letGo, pointTo, pointAll, freePlace, takeOf, shareOf, releaseOf, releaseRecordsOf}
+use Rattle.places.proofs.Counting.{count-last, first-cong}
+use Rattle.places.proofs.Pointers.{put-put}
+use Rattle.places.proofs.Bytes.{inside, letGo-is}
+use Rattle.places.proofs.Validity.{Valid, valid-has}
+use Rattle.places.proofs.Meaning.{holders, full-means, found-free}
+
+-- ---- the marks
+
+pub marks-none : (ptr : ℕ → ℕ) → Marked ptr 0 (replicate 65 0)
+unfolding countAt countBelow
+marks-none ptr v l = eq-eqb (getD (replicate 65 0) v 0) 0 (num1-is (replicate 65 0) v ∙ num-zeros 1 65 v)
+
+pub marks-next : (ptr : ℕ → ℕ) (ms : List ℕ) (n x : ℕ) → length ms ≡ 65 → ptr n ≡ x → x < 65 → Marked ptr n ms → Marked ptr (n + 1) (set ms x 1)
+unfolding countAt
+marks-next ptr ms n x long at-n small before v l = rw (count-last n (λ h. eqb (ptr h) v), at-n) (go (eqb x v) refl)
+  where
+    go : (t : Bool) → eqb x v ≡ t → eqb (getD (set ms x 1) v 0) 0 ≡ eqb (countBelow n (λ h. eqb (ptr h) v) + one t) 0
+    go true e =
+        let y : getD (set ms v 1) v 0 ≡ 1 = getD-set-same ms v 1 0 (omega arith) in
+        rw (eqb-true x v e, y) (sym (ne-eqb (countBelow n (λ h. eqb (ptr h) v) + 1) 0 (λ z. omega arith)))
+    go false e =
+        let y : getD (set ms x 1) v 0 ≡ getD ms v 0 = getD-set-other ms x v 1 0 (λ z. eqb-false x v e (sym z)) in
+        let z : countBelow n (λ h. eqb (ptr h) v) + 0 ≡ countBelow n (λ h. eqb (ptr h) v) = omega arith in
+        rw (y, z) (before v l)
+
+-- ---- the search
+
+pub first-start : (test : ℕ → Bool) (n : ℕ) → firstFrom n 0 test ≡ firstFrom (n - 0) 0 test
+first-start test n = let e : n - 0 ≡ n = omega arith in rw e
+
+module _ (test : ℕ → Bool) (end i : ℕ) where
+  module _ (more : i < end) where
+    pub first-here : test i ≡ true → firstFrom (end - i) i test ≡ At i
+    unfolding firstFrom
+    first-here t = let n : end - i ≡ suc (end - (i + 1)) = omega arith in rw (n, t)
+
+    pub first-next : test i ≡ false → firstFrom (end - i) i test ≡ firstFrom (end - (i + 1)) (i + 1) test
+    unfolding firstFrom
+    first-next t = let n : end - i ≡ suc (end - (i + 1)) = omega arith in rw (n, t)
+
+  pub first-none : end ≤ i → firstFrom (end - i) i test ≡ Nothing
+  unfolding firstFrom
+  first-none over = let n : end - i ≡ 0 = omega arith in rw n
+
+-- ---- the pointers that are left
+
+set-put : (l : List ℕ) (h v : ℕ) → h < length l → _≡_ {A = ℕ → ℕ} (λ k. getD (set l h v) k 0) (put (λ k. getD l k 0) h v)
+set-put l h v below = fun-ext (λ k. go k (eqb k h) refl)
+  where
+    go : (k : ℕ) (t : Bool) → eqb k h ≡ t → getD (set l h v) k 0 ≡ pick t v (getD l k 0)
+    go k true e = rw (eqb-true k h e) (getD-set-same l h v 0 below)
+    go k false e = getD-set-other l h k v 0 (eqb-false k h e)
+
+module _ (b : List ℕ) (long : 157 ≤ length b) where
+  pointers : _≡_ {A = ℕ → ℕ} (λ k. getD (slice b 1 156) k 0) (pointerAt b)
+  unfolding pointerAt
+  pointers = fun-ext (λ k. go k (ltb k 156) refl)
+    where
+      part : (k : ℕ) → k < 156 → getD (slice b 1 156) k 0 ≡ getD b (k + 1) 0
+      part k l = num1-is (slice b 1 156) k ∙ num-slice 1 b 1 156 k (omega arith) ∙ sym (num1-is b (1 + k)) ∙ (let e : 1 + k ≡ k + 1 = omega arith in rw e)
+
+      go : (k : ℕ) (t : Bool) → ltb k 156 ≡ t → getD (slice b 1 156) k 0 ≡ pick t (getD b (k + 1) 0) 0
+      go k true e = part k (ltb-true k 156 e)
+      go k false e =
+          let n = length-slice b 1 156 (omega arith) in
+          let m = ltb-false k 156 e in
+          List·getD-eq-default (slice b 1 156) 0 (omega arith)
+
+  -- all of it copied into an array of zeros
+  pub copied : {x : List ℕ} → x ≡ splice (replicate 156 0) 0 (slice b 1 156) → x ≡ slice b 1 156
+  copied e =
+      let z = replicate {A = ℕ} 156 0 in
+      let m = length-slice b 1 156 (omega arith) in
+      let n = length-replicate {A = ℕ} 156 0 in
+      let d : drop (length (slice b 1 156)) z ≡ [] = ap (λ (k : ℕ). drop k z) (m ∙ sym n) ∙ drop-length z in
+      e ∙ splice-start z (slice b 1 156) ∙ ap (λ (l : List ℕ). slice b 1 156 ++ l) d ∙ append-nil (slice b 1 156)
+
+  module _ {x : List ℕ} (e : x ≡ slice b 1 156) (c q : ℕ) (lc : c < 156) (lq : q < 156) where
+    pub length-left : length (set (set x c 0) q 0) ≡ 156
+    length-left = length-set (set x c 0) q 0 ∙ length-set x c 0 ∙ ap length e ∙ length-slice b 1 156 (omega arith)
+
+    pub left-is : _≡_ {A = ℕ → ℕ} (λ k. getD (set (set x c 0) q 0) k 0) (letGo (c ∷ q ∷ []) (pointerAt b))
+    left-is =
+        let m = length-slice b 1 156 (omega arith) in
+        let lx : length x ≡ 156 = ap length e ∙ m in
+        let ly : length (set x c 0) ≡ 156 = length-set x c 0 ∙ lx in
+        set-put (set x c 0) q 0 (omega arith)
+        ∙ ap (λ (f : ℕ → ℕ). put f q 0) (set-put x c 0 (omega arith))
+        ∙ ap (λ (l : List ℕ). put (put (λ k. getD l k 0) c 0) q 0) e
+        ∙ ap (λ (f : ℕ → ℕ). put (put f c 0) q 0) pointers
+
+    pub left-small : valid b ≡ true → (h : ℕ) → getD (set (set x c 0) q 0) h 0 < 65
+    left-small ok h =
+        let v = valid-has b ok in
+        let s : getD (set (set x c 0) q 0) h 0 ≡ pick (isOne eqb (c ∷ q ∷ []) h) 0 (pointerAt b h) =
+        ap (λ (f : ℕ → ℕ). f h) left-is ∙ ap (λ (f : ℕ → ℕ). f h) (letGo-is (c ∷ q ∷ []) (pointerAt b)) in
+        rw s (go v (isOne eqb (c ∷ q ∷ []) h))
+      where
+        go : Valid b → (t : Bool) → pick t 0 (pointerAt b h) < 65
+        go v true = omega arith
+        go v false = omega (arith, v .within h, v .many)
+
+    -- the search over the marks is the search for a free place
+    pub free-found : valid b ≡ true → (ms : List ℕ) → Marked (λ h. getD (set (set x c 0) q 0) h 0) (length (set (set x c 0) q 0)) ms → {r : Found}
+        → r ≡ firstFrom (getD b 0 0) 0 (λ p. eqb (getD ms (p + 1) 0) 0) → r ≡ freePlace b (c ∷ q ∷ [])
+    unfolding freePlace placesOf isFree
+    free-found ok ms marked s =
+        let v = valid-has b ok in
+        s
+        ∙ first-cong (getD b 0 0) 0 (λ p. eqb (getD ms (p + 1) 0) 0) (isFree 156 (letGo (c ∷ q ∷ []) (pointerAt b)))
+        (λ p l u. marked (p + 1) (omega (arith, v .many)) ∙ rw (length-left, left-is))
+
+-- ---- 17
+
+module _ (b : List ℕ) (ok : valid b ≡ true) (c q : ℕ) (lc : c < 156) (lq : q < 156) {f : Found} (e : f ≡ freePlace b (c ∷ q ∷ [])) where
+  pub not-full : {p : ℕ} → f ≡ At p → false ≡ full eqb (c ∷ q ∷ []) (decode b)
+  not-full {p} g = ap (λ (w : Found). onFound w true (λ j. false)) (sym g ∙ e) ∙ full-means b ok (c ∷ q ∷ []) (holders c q lc lq)
+
+  pub is-full : f ≡ Nothing → true ≡ full eqb (c ∷ q ∷ []) (decode b)
+  is-full g = ap (λ (w : Found). onFound w true (λ j. false)) (sym g ∙ e) ∙ full-means b ok (c ∷ q ∷ []) (holders c q lc lq)
+
+-- ---- an icon
+
+-- one holder lets go once
+pub free-once : (b : List ℕ) (q : ℕ) {f : Found} → f ≡ freePlace b (q ∷ q ∷ []) → f ≡ freePlace b (q ∷ [])
+unfolding freePlace
+free-once b q e = e ∙ ap (λ (r : ℕ → ℕ). firstFrom (placesOf b) 0 (isFree 156 r)) (put-put (pointerAt b) q 0 0)
+
+module _ (b hs : List ℕ) {f : Found} (e : f ≡ freePlace b hs) where
+  pub refused-take : f ≡ Nothing → (Nothing ≡ freePlace b hs) × (b ≡ takeOf b hs)
+  unfolding takeOf
+  refused-take g = (sym g ∙ e, rw (← e, g))
+
+  pub place-small : {p : ℕ} → valid b ≡ true → f ≡ At p → p < 64
+  place-small {p} ok g =
+      let r = found-free b hs p (sym e ∙ g) in
+      let v = valid-has b ok in
+      omega (arith, r .low, v .many)
+
+  pub granted-take : {p : ℕ} {y : List ℕ} → f ≡ At p → y ≡ pointAll b hs (p + 1) → (At p ≡ freePlace b hs) × (y ≡ takeOf b hs)
+  unfolding takeOf
+  granted-take g h = (sym g ∙ e, rw (← e, g) h)
+
+pub two-points : (b : List ℕ) (c q v : ℕ) → set (set b (c + 1) v) (q + 1) v ≡ pointAll b (c ∷ q ∷ []) v
+unfolding pointTo
+two-points b c q v = refl
+
+pub one-point : (b : List ℕ) (q v : ℕ) → set b (q + 1) v ≡ pointAll b (q ∷ []) v
+unfolding pointTo
+one-point b q v = refl
+
+-- ---- a cached icon, and holders that let go
+
+pub shared : (b : List ℕ) (q c : ℕ) → c < 156 → set b (q + 1) (getD b (c + 1) 0) ≡ shareOf b q c
+unfolding shareOf pointTo
+shared b q c l = rw (inside b c l)
+
+pub released : (b : List ℕ) (h : ℕ) → set b (h + 1) 0 ≡ releaseOf b h
+unfolding releaseOf pointTo
+released b h = refl
+
+pub records-released : (b : List ℕ) {x : List ℕ} → x ≡ splice b 13 (replicate 144 0) → x ≡ releaseRecordsOf b
+unfolding releaseRecordsOf
+records-released b e = e
+
+-- ---- what the rule says of the bytes
+
+pub valid-long : (b : List ℕ) → valid b ≡ true → 157 ≤ length b
+valid-long b ok = valid-has b ok .long
+
+pub valid-first : (b : List ℕ) → valid b ≡ true → getD b 0 0 ≤ 64
+unfolding placesOf
+valid-first b ok = let v = valid-has b ok in v .many

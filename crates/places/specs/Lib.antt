@@ -1,0 +1,8 @@
+pub mod Sizes
+pub mod Counts
+pub mod Sharing
+pub mod Memory
+pub mod Changes
+pub mod Marks
+pub mod Keyed
+pub mod Holder

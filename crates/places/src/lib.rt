@@ -1,0 +1,230 @@
+// Holders of pictures and the places they point at: 12 cells of the icon cache (holders 0 to 11) and 144 icons of records
+// (holders 12 to 155). The memory: byte 0 the number of places, byte 1 + h the pointer of holder h, 0 for none, else place + 1.
+ghost use mathlib.Core.Path.{_≡_};
+ghost use mathlib.Core.Bool.{true};
+ghost use mathlib.Core.List.{_∷_, []};
+ghost use Prim.Native.Nat.{ℕ, _+_, _<_, _≤_};
+ghost use lib.Dec.{eqb, ltb};
+ghost use lib.ListN.{length, getD};
+ghost use Rattle.places.specs.Counts.{firstFrom};
+ghost use Rattle.places.specs.Sharing.{full};
+ghost use Rattle.wire.specs.Tests.{pick};
+ghost use Rattle.places.specs.Memory.{pointerAt, decode, cellsApart, valid};
+ghost use Rattle.places.specs.Marks.{Marked, Most};
+ghost use Rattle.places.specs.Changes.{pointAll, freePlace, takeOf, shareOf, releaseOf, releaseRecordsOf};
+
+// Cells of the icon cache.
+pub const CELLS: usize = 12;
+
+// Icons of a record: small or its own, big, overlay.
+pub const ICONS_EACH: usize = 3;
+
+// Icons of the 48 records.
+pub const ICONS: usize = 144;
+
+// Cells and icons.
+pub const HOLDERS: usize = 156;
+
+// The bytes of the memory.
+pub const LENGTH: usize = 157;
+
+// Where the pointers of icons begin.
+const ICONS_AT: usize = 13;
+
+// The number of places.
+pub const FEWEST: u8 = 12;
+
+pub const MOST: u8 = 64;
+
+// Pointers that there may be: none, or one of the places.
+const POINTERS: usize = 65;
+
+// The records that have icons.
+pub enum Family {
+    Windows,
+    Notifications,
+}
+
+pub enum Found {
+    At(usize),
+    Nothing,
+}
+
+// A mark for each pointer that stands among some, 0 where none has it.
+fn marks_of(pointers: &[u8]) -> [u8; POINTERS]
+    requires { ⌜ ((h : ℕ) → getD (now pointers) h 0 < 65) ⌝ }
+    ensures { λ r. ⌜ Marked (λ h. getD (now (pointers .entry)) h 0) (length (now (pointers .entry))) r ⌝ }
+{
+    let mut marks = [0u8; POINTERS];
+    let mut h = 0;
+    while h < pointers.len() {
+        let v = pointers[h] as usize;
+        marks[v] = 1;
+        h += 1;
+    }
+    marks
+}
+
+// The first of n places whose pointer has no mark.
+fn first_unmarked(marks: &[u8; POINTERS], n: u8) -> Found
+    requires { ⌜ n ≤ 64 ⌝ }
+    ensures { λ r. ⌜ r ≡ firstFrom n 0 (λ p. eqb (getD (now (marks .entry)) (p + 1) 0) 0) ⌝ }
+{
+    let end = n as usize;
+    let mut p = 0;
+    while p < end {
+        if marks[p + 1] == 0 {
+            return Found::At(p);
+        }
+        p += 1;
+    }
+    Found::Nothing
+}
+
+fn larger(a: u8, b: u8) -> u8
+    ensures { λ r. ⌜ r ≡ pick (ltb a b) b a ⌝ }
+{
+    if a < b { b } else { a }
+}
+
+// The largest pointer.
+fn most(bytes: &[u8]) -> u8
+    requires { ⌜ 157 ≤ length (now bytes) ⌝ }
+    ensures { λ r. ⌜ Most (pointerAt (now (bytes .entry))) 156 r ⌝ }
+{
+    let mut m = 0;
+    let mut h = 0;
+    while h < HOLDERS {
+        m = larger(m, bytes[h + 1]);
+        h += 1;
+    }
+    m
+}
+
+// No two cells point at one place.
+fn cells_apart(bytes: &[u8]) -> bool
+    requires { ⌜ (157 ≤ length (now bytes)) × ((h : ℕ) → pointerAt (now bytes) h < 65) ⌝ }
+    ensures { λ r. ⌜ r ≡ cellsApart (pointerAt (now (bytes .entry))) ⌝ }
+{
+    let mut marks = [0u8; POINTERS];
+    let mut c = 0;
+    while c < CELLS {
+        let v = bytes[c + 1] as usize;
+        if (v != 0) & (marks[v] != 0) {
+            return false;
+        }
+        marks[v] = 1;
+        c += 1;
+    }
+    true
+}
+
+// The memory describes holders and places.
+pub fn is_valid(bytes: &[u8]) -> bool
+    ensures { λ r. ⌜ r ≡ valid (now (bytes .entry)) ⌝ }
+{
+    if bytes.len() < LENGTH {
+        return false;
+    }
+    let n = bytes[0];
+    if n < FEWEST {
+        return false;
+    }
+    if MOST < n {
+        return false;
+    }
+    if n < most(bytes) {
+        return false;
+    }
+    cells_apart(bytes)
+}
+
+// The first place that nobody but these two points at.
+pub fn free_place(bytes: &[u8], cell: usize, pointer: usize) -> Found
+    requires { ⌜ (valid (now bytes) ≡ true) × (cell < 156) × (pointer < 156) ⌝ }
+    ensures { λ r. ⌜ r ≡ freePlace (now (bytes .entry)) (cell ∷ pointer ∷ []) ⌝ }
+{
+    let mut left = [0u8; HOLDERS];
+    wire::copy_part(&mut left, 0, bytes, 1, HOLDERS);
+    left[cell] = 0;
+    left[pointer] = 0;
+    let marks = marks_of(&left);
+    first_unmarked(&marks, bytes[0])
+}
+
+// Refusal 17 of an icon: every place is still pointed at once its cell and its pointer have let go.
+pub fn is_full(bytes: &[u8], cell: usize, pointer: usize) -> bool
+    requires { ⌜ (valid (now bytes) ≡ true) × (cell < 156) × (pointer < 156) ⌝ }
+    ensures { λ r. ⌜ r ≡ full eqb (cell ∷ pointer ∷ []) (decode (now (bytes .entry))) ⌝ }
+{
+    let f = free_place(bytes, cell, pointer);
+    match f {
+        Found::At(_) => false,
+        Found::Nothing => true,
+    }
+}
+
+// An icon's cell and its pointer take a place that is free once they let go.
+pub fn take_at(bytes: &mut [u8], cell: usize, pointer: usize, place: usize)
+    requires { ⌜ (157 ≤ length (now bytes)) × (cell < 156) × (pointer < 156) × (place < 64) ⌝ }
+    ensures { λ _. ⌜ now (bytes .exit) ≡ pointAll (now (bytes .entry)) (cell ∷ pointer ∷ []) (place + 1) ⌝ }
+{
+    let to = (place + 1) as u8;
+    bytes[cell + 1] = to;
+    bytes[pointer + 1] = to;
+}
+
+// An icon: its cell and its pointer let go and take the first place that is then free; where there is none, nothing changes.
+pub fn take(bytes: &mut [u8], cell: usize, pointer: usize) -> Found
+    requires { ⌜ (valid (now bytes) ≡ true) × (cell < 156) × (pointer < 156) ⌝ }
+    ensures { λ r. ⌜ r ≡ freePlace (now (bytes .entry)) (cell ∷ pointer ∷ []) ⌝ }
+    ensures { λ _. ⌜ now (bytes .exit) ≡ takeOf (now (bytes .entry)) (cell ∷ pointer ∷ []) ⌝ }
+{
+    let f = free_place(bytes, cell, pointer);
+    let Found::At(p) = f else {
+        return Found::Nothing;
+    };
+    let v = (p + 1) as u8;
+    bytes[cell + 1] = v;
+    bytes[pointer + 1] = v;
+    Found::At(p)
+}
+
+// An icon with no cell.
+pub fn take_one(bytes: &mut [u8], pointer: usize) -> Found
+    requires { ⌜ (valid (now bytes) ≡ true) × (pointer < 156) ⌝ }
+    ensures { λ r. ⌜ r ≡ freePlace (now (bytes .entry)) (pointer ∷ []) ⌝ }
+    ensures { λ _. ⌜ now (bytes .exit) ≡ takeOf (now (bytes .entry)) (pointer ∷ []) ⌝ }
+{
+    let f = free_place(bytes, pointer, pointer);
+    let Found::At(p) = f else {
+        return Found::Nothing;
+    };
+    bytes[pointer + 1] = (p + 1) as u8;
+    Found::At(p)
+}
+
+// A cached icon: its pointer shares its cell's place.
+pub fn share(bytes: &mut [u8], pointer: usize, cell: usize)
+    requires { ⌜ (157 ≤ length (now bytes)) × (cell < 156) × (pointer < 156) ⌝ }
+    ensures { λ _. ⌜ now (bytes .exit) ≡ shareOf (now (bytes .entry)) pointer cell ⌝ }
+{
+    bytes[pointer + 1] = bytes[cell + 1];
+}
+
+// A holder lets its place go.
+pub fn release(bytes: &mut [u8], holder: usize)
+    requires { ⌜ (157 ≤ length (now bytes)) × (holder < 156) ⌝ }
+    ensures { λ _. ⌜ now (bytes .exit) ≡ releaseOf (now (bytes .entry)) holder ⌝ }
+{
+    bytes[holder + 1] = 0;
+}
+
+// Every icon of a record lets its place go; the cells keep theirs.
+pub fn release_records(bytes: &mut [u8])
+    requires { ⌜ 157 ≤ length (now bytes) ⌝ }
+    ensures { λ _. ⌜ now (bytes .exit) ≡ releaseRecordsOf (now (bytes .entry)) ⌝ }
+{
+    let zeros = [0u8; ICONS];
+    wire::copy_at(bytes, ICONS_AT, &zeros);
+}
