@@ -1,7 +1,6 @@
 // The items of chunks: K and E are calls on the lent chunk memory, T lends it shorter to the next of
 // them, X changes a byte of it.
 use crate::item;
-use crate::line;
 use chunk::Joined;
 ghost use Prim.Native.Nat.{_≤_};
 
@@ -23,8 +22,8 @@ fn number_of(answer: Joined) -> u8 {
 fn chunk_call(memory: &mut [u8], s: &[u8], out: &mut [u8]) -> bool {
     let answer = chunk::join(memory, s);
     let Joined::Whole(len) = answer else {
-        let n = line::field1(out, 0, b"K ", number_of(answer));
-        return line::end(out, n);
+        let n = print::text(out, 0, b"K");
+        return item::number_line(out, n, number_of(answer));
     };
     let end = len as usize;
     if end > memory.len() {
@@ -38,8 +37,9 @@ fn reset_call(memory: &mut [u8], s: &[u8], out: &mut [u8]) -> bool {
     if s.len() != 0 {
         return item::bad_item();
     }
-    let n = line::field1(out, 0, b"E ", chunk::reset(memory));
-    line::end(out, n)
+    let number = chunk::reset(memory);
+    let n = print::text(out, 0, b"E");
+    item::number_line(out, n, number)
 }
 
 // How many of len bytes are lent.

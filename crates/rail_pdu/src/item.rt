@@ -2,7 +2,6 @@
 // an item answers whether the run goes on.
 use crate::channel;
 use crate::channel::Turn;
-use crate::line;
 use crate::record;
 use crate::record::Record;
 use crate::show;
@@ -33,17 +32,25 @@ fn number_of(answer: Read) -> u8 {
     }
 }
 
+pub(crate) fn number_line(out: &mut [u8], at: usize, number: u8) -> bool {
+    let n = print::field(out, at, b" ", number as u64);
+    print::end_line(out, n)
+}
+
+fn record_line(out: &mut [u8], at: usize, s: &[u8], p: Pdu) -> bool {
+    let n = print::text(out, at, b" 0 type=");
+    let n = show::message(out, n, s, p);
+    print::end_line(out, n)
+}
+
 // Reads the message s and prints its record, or the refusal, after the kind of its item.
 pub(crate) fn read_line(kind: &[u8], s: &[u8], out: &mut [u8]) -> bool {
+    let n = print::text(out, 0, kind);
     let answer = pdu_read::read_pdu(s);
     let Read::Message(p) = answer else {
-        let n = line::text(out, 0, kind);
-        let n = line::field1(out, n, b" ", number_of(answer));
-        return line::end(out, n);
+        return number_line(out, n, number_of(answer));
     };
-    let n = show::message(out, s, p);
-    line::text(out, 0, kind);
-    line::end(out, n)
+    record_line(out, n, s, p)
 }
 
 // Whether each byte from index at on is EE still.
@@ -63,8 +70,8 @@ fn refused(memory: &[u8], number: u8, out: &mut [u8]) -> bool {
     if !is_kept(memory, 0) {
         return memory_changed();
     }
-    let n = line::field1(out, 0, b"P ", number);
-    line::end(out, n)
+    let n = print::text(out, 0, b"P");
+    number_line(out, n, number)
 }
 
 // The line of a granted write of n bytes, which has to leave the memory past them as it was.
@@ -75,9 +82,9 @@ fn granted(memory: &[u8], n: usize, out: &mut [u8]) -> bool {
     if !is_kept(memory, n) {
         return memory_changed();
     }
-    let at = line::text(out, 0, b"P 0 ");
-    let at = line::hex(out, at, &memory[0..n]);
-    line::end(out, at)
+    let at = print::text(out, 0, b"P 0 ");
+    let at = print::hex(out, at, &memory[0..n]);
+    print::end_line(out, at)
 }
 
 // Writes the record p, whose strings stand in s, to the memory lent.

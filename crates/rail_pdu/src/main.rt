@@ -2,7 +2,6 @@
 // call answers.
 mod channel;
 mod item;
-mod line;
 mod record;
 mod show;
 

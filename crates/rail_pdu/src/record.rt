@@ -191,23 +191,22 @@ fn execute_result(s: &[u8]) -> Pdu {
     })
 }
 
-// The record of a payload that has it whole.
-fn of_kind(s: &[u8], kind: u16) -> Record {
+// The record of a payload that has it whole. Its type is listed.
+fn of_kind(s: &[u8], kind: u16) -> Pdu {
     match kind {
-        0x01 => Record::Whole(execute(s)),
-        0x02 => Record::Whole(activate(s)),
-        0x04 => Record::Whole(system_command(s)),
-        0x05 => Record::Whole(handshake(s)),
-        0x06 => Record::Whole(notify_event(s)),
-        0x08 => Record::Whole(window_move(s)),
-        0x09 => Record::Whole(move_size(s)),
-        0x0A => Record::Whole(min_max_info(s)),
-        0x0B => Record::Whole(client_information(s)),
-        0x0C => Record::Whole(system_menu(s)),
-        0x0E => Record::Whole(get_application_id(s)),
-        0x0F => Record::Whole(application_id_response(s)),
-        0x80 => Record::Whole(execute_result(s)),
-        _ => Record::Bad,
+        0x01 => execute(s),
+        0x02 => activate(s),
+        0x04 => system_command(s),
+        0x05 => handshake(s),
+        0x06 => notify_event(s),
+        0x08 => window_move(s),
+        0x09 => move_size(s),
+        0x0A => min_max_info(s),
+        0x0B => client_information(s),
+        0x0C => system_menu(s),
+        0x0E => get_application_id(s),
+        0x0F => application_id_response(s),
+        _ => execute_result(s),
     }
 }
 
@@ -215,8 +214,8 @@ fn of_kind(s: &[u8], kind: u16) -> Record {
 pub(crate) fn read(s: &[u8]) -> Record {
     let kind = read_u16(s, 2);
     let len = fields_end(kind) + strings_len(s, kind);
-    if len as usize != s.len() {
+    if (len == 0) | (len as usize != s.len()) {
         return Record::Bad;
     }
-    of_kind(s, kind)
+    Record::Whole(of_kind(s, kind))
 }

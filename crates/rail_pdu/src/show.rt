@@ -1,127 +1,102 @@
-// A record as text: its type and a name=value for each field. s is the message's bytes.
-use crate::line::field1;
-use crate::line::field2;
-use crate::line::field4;
-use crate::line::string;
-use pdu::Activate;
-use pdu::ApplicationIdResponse;
-use pdu::ClientInformation;
-use pdu::Execute;
-use pdu::ExecuteResult;
-use pdu::GetApplicationId;
-use pdu::Handshake;
-use pdu::MinMaxInfo;
-use pdu::MoveSize;
-use pdu::NotifyEvent;
+// A record as text: a template for each type, in which `#` stands for the next word of the record as a decimal, and `$` for the
+// bytes in hex of the string whose place in s and length the next two words are.
 use pdu::Pdu;
-use pdu::SystemCommand;
-use pdu::SystemMenu;
-use pdu::WindowMove;
 
-fn execute(out: &mut [u8], s: &[u8], e: Execute) -> usize {
-    let n = field2(out, 0, b"R 0 type=0001 flags=", e.flags);
-    let n = string(out, n, b" program=", s, e.exe_or_file);
-    let n = string(out, n, b" directory=", s, e.working_dir);
-    string(out, n, b" arguments=", s, e.arguments)
+// Word k, if there is one.
+fn word(words: &[u32; 12], k: usize) -> u32 {
+    if k < 12 { words[k] } else { 0 }
 }
 
-fn activate(out: &mut [u8], e: Activate) -> usize {
-    let n = field4(out, 0, b"R 0 type=0002 window=", e.window_id.id);
-    field1(out, n, b" enabled=", e.enabled)
-}
-
-fn system_command(out: &mut [u8], e: SystemCommand) -> usize {
-    let n = field4(out, 0, b"R 0 type=0004 window=", e.window_id.id);
-    field2(out, n, b" command=", e.command)
-}
-
-fn handshake(out: &mut [u8], e: Handshake) -> usize {
-    field4(out, 0, b"R 0 type=0005 build=", e.build_number)
-}
-
-fn notify_event(out: &mut [u8], e: NotifyEvent) -> usize {
-    let n = field4(out, 0, b"R 0 type=0006 window=", e.window_id.id);
-    let n = field4(out, n, b" icon=", e.notify_icon_id.id);
-    field4(out, n, b" message=", e.message)
-}
-
-fn window_move(out: &mut [u8], e: WindowMove) -> usize {
-    let n = field4(out, 0, b"R 0 type=0008 window=", e.window_id.id);
-    let n = field2(out, n, b" left=", e.left);
-    let n = field2(out, n, b" top=", e.top);
-    let n = field2(out, n, b" right=", e.right);
-    field2(out, n, b" bottom=", e.bottom)
-}
-
-fn yes_number(b: bool) -> u8 {
-    if b { 1 } else { 0 }
-}
-
-fn move_size(out: &mut [u8], e: MoveSize) -> usize {
-    let n = field4(out, 0, b"R 0 type=0009 window=", e.window_id.id);
-    let n = field1(out, n, b" start=", yes_number(e.is_start));
-    let n = field2(out, n, b" move_type=", e.move_size_type);
-    let n = field2(out, n, b" x=", e.pos_x);
-    field2(out, n, b" y=", e.pos_y)
-}
-
-fn track_sizes(out: &mut [u8], at: usize, e: MinMaxInfo) -> usize {
-    let n = field2(out, at, b" min_track_width=", e.min_track_width);
-    let n = field2(out, n, b" min_track_height=", e.min_track_height);
-    let n = field2(out, n, b" max_track_width=", e.max_track_width);
-    field2(out, n, b" max_track_height=", e.max_track_height)
-}
-
-fn min_max_info(out: &mut [u8], e: MinMaxInfo) -> usize {
-    let n = field4(out, 0, b"R 0 type=000a window=", e.window_id.id);
-    let n = field2(out, n, b" max_width=", e.max_width);
-    let n = field2(out, n, b" max_height=", e.max_height);
-    let n = field2(out, n, b" max_x=", e.max_pos_x);
-    let n = field2(out, n, b" max_y=", e.max_pos_y);
-    track_sizes(out, n, e)
-}
-
-fn client_information(out: &mut [u8], e: ClientInformation) -> usize {
-    field4(out, 0, b"R 0 type=000b flags=", e.flags)
-}
-
-fn system_menu(out: &mut [u8], e: SystemMenu) -> usize {
-    let n = field4(out, 0, b"R 0 type=000c window=", e.window_id.id);
-    let n = field2(out, n, b" left=", e.left);
-    field2(out, n, b" top=", e.top)
-}
-
-fn get_application_id(out: &mut [u8], e: GetApplicationId) -> usize {
-    field4(out, 0, b"R 0 type=000e window=", e.window_id.id)
-}
-
-fn application_id_response(out: &mut [u8], s: &[u8], e: ApplicationIdResponse) -> usize {
-    let n = field4(out, 0, b"R 0 type=000f window=", e.window_id.id);
-    string(out, n, b" string=", s, e.application_id)
-}
-
-fn execute_result(out: &mut [u8], s: &[u8], e: ExecuteResult) -> usize {
-    let n = field2(out, 0, b"R 0 type=0080 flags=", e.flags);
-    let n = field2(out, n, b" result=", e.exec_result);
-    let n = field4(out, n, b" raw=", e.raw_result);
-    string(out, n, b" string=", s, e.exe_or_file)
-}
-
-// Lays the line of a granted read, without its line feed, and answers its length.
-pub(crate) fn message(out: &mut [u8], s: &[u8], p: Pdu) -> usize {
-    match p {
-        Pdu::Execute(e) => execute(out, s, e),
-        Pdu::Activate(e) => activate(out, e),
-        Pdu::SystemCommand(e) => system_command(out, e),
-        Pdu::Handshake(e) => handshake(out, e),
-        Pdu::NotifyEvent(e) => notify_event(out, e),
-        Pdu::WindowMove(e) => window_move(out, e),
-        Pdu::MoveSize(e) => move_size(out, e),
-        Pdu::MinMaxInfo(e) => min_max_info(out, e),
-        Pdu::ClientInformation(e) => client_information(out, e),
-        Pdu::SystemMenu(e) => system_menu(out, e),
-        Pdu::GetApplicationId(e) => get_application_id(out, e),
-        Pdu::ApplicationIdResponse(e) => application_id_response(out, s, e),
-        Pdu::ExecuteResult(e) => execute_result(out, s, e),
+// Lays what the byte b of a template stands for, k being the number of the next word.
+fn stand_for(out: &mut [u8], at: usize, s: &[u8], words: &[u32; 12], k: usize, b: u8) -> usize {
+    match b {
+        b'#' => print::decimal(out, at, word(words, k) as u64),
+        b'$' => {
+            let from = word(words, k) as usize;
+            let len = word(words, after(k, b'#')) as usize;
+            print::string(out, at, b"", s, from, len)
+        }
+        _ => print::byte(out, at, b),
     }
+}
+
+// The number of the word after those that the byte b of a template takes.
+fn after(k: usize, b: u8) -> usize {
+    if k > 11 {
+        return k;
+    }
+    match b {
+        b'#' => k + 1,
+        b'$' => k + 2,
+        _ => k,
+    }
+}
+
+fn fill(out: &mut [u8], at: usize, s: &[u8], words: &[u32; 12], template: &[u8]) -> usize {
+    let mut n = at;
+    let mut k = 1;
+    let mut i = 0;
+    while i < template.len() {
+        let b = template[i];
+        n = stand_for(out, n, s, words, k, b);
+        k = after(k, b);
+        i += 1;
+    }
+    n
+}
+
+// The types that tell what is to be done with a window.
+fn of_a_window(out: &mut [u8], at: usize, s: &[u8], words: &[u32; 12]) -> usize {
+    match words[0] {
+        0x02 => fill(out, at, s, words, b"0002 window=# enabled=#"),
+        0x04 => fill(out, at, s, words, b"0004 window=# command=#"),
+        0x06 => fill(out, at, s, words, b"0006 window=# icon=# message=#"),
+        0x08 => fill(
+            out,
+            at,
+            s,
+            words,
+            b"0008 window=# left=# top=# right=# bottom=#",
+        ),
+        0x09 => fill(
+            out,
+            at,
+            s,
+            words,
+            b"0009 window=# start=# move_type=# x=# y=#",
+        ),
+        0x0A => fill(
+            out,
+            at,
+            s,
+            words,
+            b"000a window=# max_width=# max_height=# max_x=# max_y=# min_track_width=# min_track_height=# max_track_width=# max_track_height=#",
+        ),
+        _ => fill(out, at, s, words, b"000c window=# left=# top=#"),
+    }
+}
+
+fn by_type(out: &mut [u8], at: usize, s: &[u8], words: &[u32; 12]) -> usize {
+    match words[0] {
+        0x01 => fill(
+            out,
+            at,
+            s,
+            words,
+            b"0001 flags=# program=$ directory=$ arguments=$",
+        ),
+        0x05 => fill(out, at, s, words, b"0005 build=#"),
+        0x0B => fill(out, at, s, words, b"000b flags=#"),
+        0x0E => fill(out, at, s, words, b"000e window=#"),
+        0x0F => fill(out, at, s, words, b"000f window=# string=$"),
+        0x80 => fill(out, at, s, words, b"0080 flags=# result=# raw=# string=$"),
+        _ => of_a_window(out, at, s, words),
+    }
+}
+
+// Lays the record p of the message s and answers the index after it.
+pub(crate) fn message(out: &mut [u8], at: usize, s: &[u8], p: Pdu) -> usize {
+    let mut words = [0u32; 12];
+    pdu_words::words_of(&mut words, p);
+    by_type(out, at, s, &words)
 }
