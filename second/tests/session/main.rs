@@ -12,6 +12,7 @@ mod judging;
 mod lookups;
 mod scripts;
 mod sets;
+mod side_by_side;
 mod table_rules;
 mod vectors;
 

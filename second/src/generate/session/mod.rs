@@ -4,9 +4,11 @@
 mod draft;
 mod faults;
 mod good;
+mod pair;
 mod slot;
 
 use good::Maker;
+pub use pair::{may_change_places, pair, pair_for_one};
 use slot::{pool_icon_id, pool_id};
 
 use super::random::Random;
