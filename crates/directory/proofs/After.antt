@@ -107,72 +107,72 @@ module _ (f : Family) (dir s : List ℕ) (c : Change) (p : Planned f dir s c) (s
   long : 444 ≤ length dir
   long = sound-has dir sound .long
 
-  small : c .b < 4294967296
-  small = second-small f (c .b) (p .second)
+  small : c .notify .id < 4294967296
+  small = second-small f (c .notify .id) (p .second)
 
   -- of a record that is listed already
-  same-listed : c .fresh ≡ false → (g : Family) (x y : ℕ) → isThere g dir x y ≡ pick (sameRecord f (c .a) (c .b) g x y) true (isThere g dir x y)
-  same-listed t g x y = go (sameFamily f g) (eqb (c .a) x) (eqb (c .b) y) refl refl refl
+  same-listed : c .fresh ≡ false → (g : Family) (x y : ℕ) → isThere g dir x y ≡ pick (sameRecord f (c .window .id) (c .notify .id) g x y) true (isThere g dir x y)
+  same-listed t g x y = go (sameFamily f g) (eqb (c .window .id) x) (eqb (c .notify .id) y) refl refl refl
     where
-      here : isThere f dir (c .a) (c .b) ≡ true
+      here : isThere f dir (c .window .id) (c .notify .id) ≡ true
       here = rw (p .old t)
 
-      go : (u v w : Bool) → sameFamily f g ≡ u → eqb (c .a) x ≡ v → eqb (c .b) y ≡ w → isThere g dir x y ≡ pick (both u (both v w)) true (isThere g dir x y)
-      go true true true d e r = rw (← same-family f g d, ← eqb-true (c .a) x e, ← eqb-true (c .b) y r) here
+      go : (u v w : Bool) → sameFamily f g ≡ u → eqb (c .window .id) x ≡ v → eqb (c .notify .id) y ≡ w → isThere g dir x y ≡ pick (both u (both v w)) true (isThere g dir x y)
+      go true true true d e r = rw (← same-family f g d, ← eqb-true (c .window .id) x e, ← eqb-true (c .notify .id) y r) here
       go true true false d e r = refl
       go true false w d e r = refl
       go false v w d e r = refl
 
-  deleted-directory : has (c .flags) flagDeleted ≡ true → directoryOf (freedOf dir (c .slot)) ≡ without (directoryOf dir) f (c .a) (c .b)
+  deleted-directory : has (c .flags) flagDeleted ≡ true → directoryOf (freedOf dir (c .slot)) ≡ without (directoryOf dir) f (c .window .id) (c .notify .id)
   unfolding directoryOf
   deleted-directory t =
       let e = p .old (p .deleted t) in
-      same-directory (directoryOf (freedOf dir (c .slot))) (without (directoryOf dir) f (c .a) (c .b))
+      same-directory (directoryOf (freedOf dir (c .slot))) (without (directoryOf dir) f (c .window .id) (c .notify .id))
       (λ g x y.
-      ap there (freed-find f dir (c .slot) (c .a) (c .b) sound e g x y)
-      ∙ there-gone (sameRecord f (c .a) (c .b) g x y) (firstFrom (most g) (start g) (isAt dir x y)))
-      (freed-many f dir (c .slot) (c .a) (c .b) sound e)
-      (freed-filled f dir (c .slot) (c .a) (c .b) sound e)
+      ap there (freed-find f dir (c .slot) (c .window .id) (c .notify .id) sound e g x y)
+      ∙ there-gone (sameRecord f (c .window .id) (c .notify .id) g x y) (firstFrom (most g) (start g) (isAt dir x y)))
+      (freed-many f dir (c .slot) (c .window .id) (c .notify .id) sound e)
+      (freed-filled f dir (c .slot) (c .window .id) (c .notify .id) sound e)
 
   new-directory : c .fresh ≡ true
-      → directoryOf (filledOf (listedOf dir (c .slot) (c .a) (c .b)) s (c .flags) (c .icon))
-      ≡ with-record (directoryOf dir) f (c .a) (c .b) true (c .flags) s (c .icon)
+      → directoryOf (filledOf (listedOf dir (c .slot) (c .window .id) (c .notify .id)) s (c .flags) (c .icon))
+      ≡ with-record (directoryOf dir) f (c .window .id) (c .notify .id) true (c .flags) s (c .icon)
   unfolding directoryOf
   new-directory t =
-      let z = listedOf dir (c .slot) (c .a) (c .b) in
+      let z = listedOf dir (c .slot) (c .window .id) (c .notify .id) in
       let n = p .new t in
-      let l = length-listed f dir (c .slot) (c .a) (c .b) long (p .slot) (n .1) (p .first) small in
+      let l = length-listed f dir (c .slot) (c .window .id) (c .notify .id) long (p .slot) (n .1) (p .first) small in
       let lz : 444 ≤ length z = omega (arith, l, long) in
-      same-directory (directoryOf (filledOf z s (c .flags) (c .icon))) (with-record (directoryOf dir) f (c .a) (c .b) true (c .flags) s (c .icon))
+      same-directory (directoryOf (filledOf z s (c .flags) (c .icon))) (with-record (directoryOf dir) f (c .window .id) (c .notify .id) true (c .flags) s (c .icon))
       (λ g x y.
       ap there
       (fill-find z s (c .flags) (c .icon) lz (p .icon) g x y
-      ∙ listed-find f dir (c .slot) (c .a) (c .b) long (p .slot) (n .1) (p .first) small (n .0) g x y)
-      ∙ there-at (sameRecord f (c .a) (c .b) g x y) (c .slot) (firstFrom (most g) (start g) (isAt dir x y)))
+      ∙ listed-find f dir (c .slot) (c .window .id) (c .notify .id) long (p .slot) (n .1) (p .first) small (n .0) g x y)
+      ∙ there-at (sameRecord f (c .window .id) (c .notify .id) g x y) (c .slot) (firstFrom (most g) (start g) (isAt dir x y)))
       (λ g.
       fill-many z s (c .flags) (c .icon) lz (p .icon) g
-      ∙ listed-many f dir (c .slot) (c .a) (c .b) long (p .slot) (n .1) (p .first) small g)
+      ∙ listed-many f dir (c .slot) (c .window .id) (c .notify .id) long (p .slot) (n .1) (p .first) small g)
       (λ k.
       fill-filled z s (c .flags) (c .icon) lz (p .icon) k
       ∙ ap (λ (t : Bool). either (both (has (c .flags) flagIcon) (eqb (cellAt s (c .icon)) k)) t)
-      (listed-filled f dir (c .slot) (c .a) (c .b) long (p .slot) (n .1) (p .first) small k))
+      (listed-filled f dir (c .slot) (c .window .id) (c .notify .id) long (p .slot) (n .1) (p .first) small k))
 
   old-directory : c .fresh ≡ false
-      → directoryOf (filledOf dir s (c .flags) (c .icon)) ≡ with-record (directoryOf dir) f (c .a) (c .b) false (c .flags) s (c .icon)
+      → directoryOf (filledOf dir s (c .flags) (c .icon)) ≡ with-record (directoryOf dir) f (c .window .id) (c .notify .id) false (c .flags) s (c .icon)
   unfolding directoryOf
   old-directory t =
-      same-directory (directoryOf (filledOf dir s (c .flags) (c .icon))) (with-record (directoryOf dir) f (c .a) (c .b) false (c .flags) s (c .icon))
+      same-directory (directoryOf (filledOf dir s (c .flags) (c .icon))) (with-record (directoryOf dir) f (c .window .id) (c .notify .id) false (c .flags) s (c .icon))
       (λ g x y. ap there (fill-find dir s (c .flags) (c .icon) long (p .icon) g x y) ∙ same-listed t g x y)
       (fill-many dir s (c .flags) (c .icon) long (p .icon))
       (fill-filled dir s (c .flags) (c .icon) long (p .icon))
 
-  pub record-directory : directoryOf (markedOf dir s c) ≡ changeRecord (directoryOf dir) f (c .a) (c .b) (c .fresh) (c .flags) s (c .icon)
+  pub record-directory : directoryOf (markedOf dir s c) ≡ changeRecord (directoryOf dir) f (c .window .id) (c .notify .id) (c .fresh) (c .flags) s (c .icon)
   unfolding markedOf changeRecord
   record-directory = go (has (c .flags) flagDeleted) (c .fresh) refl refl
     where
       go : (u t : Bool) → has (c .flags) flagDeleted ≡ u → c .fresh ≡ t
-          → directoryOf (pick u (freedOf dir (c .slot)) (filledOf (pick t (listedOf dir (c .slot) (c .a) (c .b)) dir) s (c .flags) (c .icon)))
-          ≡ pick u (without (directoryOf dir) f (c .a) (c .b)) (with-record (directoryOf dir) f (c .a) (c .b) t (c .flags) s (c .icon))
+          → directoryOf (pick u (freedOf dir (c .slot)) (filledOf (pick t (listedOf dir (c .slot) (c .window .id) (c .notify .id)) dir) s (c .flags) (c .icon)))
+          ≡ pick u (without (directoryOf dir) f (c .window .id) (c .notify .id)) (with-record (directoryOf dir) f (c .window .id) (c .notify .id) t (c .flags) s (c .icon))
       go true t d e = deleted-directory d
       go false true d e = new-directory e
       go false false d e = old-directory e
@@ -214,7 +214,7 @@ marked-directory dir s bytes sound = rw (← judged-number dir s) (go (planOf di
         → directoryOf (markedBy dir s p) ≡ pick (eqb (numberOf p) 0) (changeOn (directoryOf dir) s (judgeOf s)) (directoryOf dir)
     go (ChangeWindow c) e =
         let p = planned dir s bytes windows c e in
-        let b : c .b ≡ 0 = window-second dir s c p in
+        let b : c .notify .id ≡ 0 = window-second dir s c p in
         rw (p .judged) (record-directory windows dir s c p sound ∙ rw (p .fresh, b))
     go (ChangeNotification c) e =
         let p = planned dir s bytes notifications c e in

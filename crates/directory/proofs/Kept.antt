@@ -200,12 +200,12 @@ record-sound f dir s c p sound = go (has (c .flags) flagDeleted) (c .fresh) refl
     d = sound-has dir sound
 
     go : (u t : Bool) → has (c .flags) flagDeleted ≡ u → c .fresh ≡ t
-        → Sound (pick u (freedOf dir (c .slot)) (filledOf (pick t (listedOf dir (c .slot) (c .a) (c .b)) dir) s (c .flags) (c .icon)))
-    go true t x y = freed-sound f dir (c .slot) (c .a) (c .b) sound (p .old (p .deleted x))
+        → Sound (pick u (freedOf dir (c .slot)) (filledOf (pick t (listedOf dir (c .slot) (c .window .id) (c .notify .id)) dir) s (c .flags) (c .icon)))
+    go true t x y = freed-sound f dir (c .slot) (c .window .id) (c .notify .id) sound (p .old (p .deleted x))
     go false true x y =
         let n = p .new y in
-        fill-sound (listedOf dir (c .slot) (c .a) (c .b)) s (c .flags) (c .icon) (p .icon)
-        (listed-sound f dir (c .slot) (c .a) (c .b) d (p .slot) (n .1) (p .first) (p .second) (n .0))
+        fill-sound (listedOf dir (c .slot) (c .window .id) (c .notify .id)) s (c .flags) (c .icon) (p .icon)
+        (listed-sound f dir (c .slot) (c .window .id) (c .notify .id) d (p .slot) (n .1) (p .first) (p .second) (n .0))
     go false false x y = fill-sound dir s (c .flags) (c .icon) (p .icon) d
 
 pub marked-sound : (dir s : List ℕ) → Bytes s → soundDirectory dir ≡ true → soundDirectory (markedBy dir s (planOf dir s)) ≡ true
@@ -239,14 +239,14 @@ length-record f dir s c p sound = go (has (c .flags) flagDeleted) (c .fresh) (ha
     go : (u t v : Bool) → has (c .flags) flagDeleted ≡ u → c .fresh ≡ t → has (c .flags) flagIcon ≡ v
         → length
         (pick u (freedOf dir (c .slot))
-        (pick v (splice (pick t (listedOf dir (c .slot) (c .a) (c .b)) dir) (432 + cellAt s (c .icon)) (bytesOf 1 1))
-        (pick t (listedOf dir (c .slot) (c .a) (c .b)) dir)))
+        (pick v (splice (pick t (listedOf dir (c .slot) (c .window .id) (c .notify .id)) dir) (432 + cellAt s (c .icon)) (bytesOf 1 1))
+        (pick t (listedOf dir (c .slot) (c .window .id) (c .notify .id)) dir)))
         ≡ length dir
-    go true t v x y z = length-freed f dir (c .slot) (c .a) (c .b) sound (p .old (p .deleted x))
+    go true t v x y z = length-freed f dir (c .slot) (c .window .id) (c .notify .id) sound (p .old (p .deleted x))
     go false true v x y z =
         let n = p .new y in
-        let l = length-listed f dir (c .slot) (c .a) (c .b) (d .long) (p .slot) (n .1) (p .first) (second-small f (c .b) (p .second)) in
-        fill v (listedOf dir (c .slot) (c .a) (c .b)) (omega (arith, l, d .long)) (λ k. p .icon (z ∙ k)) ∙ l
+        let l = length-listed f dir (c .slot) (c .window .id) (c .notify .id) (d .long) (p .slot) (n .1) (p .first) (second-small f (c .notify .id) (p .second)) in
+        fill v (listedOf dir (c .slot) (c .window .id) (c .notify .id)) (omega (arith, l, d .long)) (λ k. p .icon (z ∙ k)) ∙ l
     go false false v x y z = fill v dir (d .long) (λ k. p .icon (z ∙ k))
 
 pub length-marked : (dir s : List ℕ) → Bytes s → soundDirectory dir ≡ true → length (markedBy dir s (planOf dir s)) ≡ length dir

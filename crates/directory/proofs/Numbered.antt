@@ -68,12 +68,12 @@ judged-number dir s = go (judgeOf s)
     go : (j : Judged) → numberOf (planOn dir s j) ≡ numberOn (directoryOf dir) s j
     go (Window o) =
         place-number windows dir (freshWindow (o .flags)) (o .window .id) 0 (o .flags) s (o .icon)
-        (λ i. ChangeWindow (record { slot = i; fresh = freshWindow (o .flags); a = o .window .id; b = 0; flags = o .flags; icon = o .icon })) (λ i. refl)
+        (λ i. ChangeWindow (record { slot = i; fresh = freshWindow (o .flags); window = o .window; notify = record { id = 0 }; flags = o .flags; icon = o .icon })) (λ i. refl)
     go (Notification o) =
         place-number notifications dir (freshNotification (o .flags)) (o .window .id) (o .notify .id) (o .flags) s (o .icon)
         (λ i.
         ChangeNotification
-        (record { slot = i; fresh = freshNotification (o .flags); a = o .window .id; b = o .notify .id; flags = o .flags; icon = o .icon })) (λ i. refl)
+        (record { slot = i; fresh = freshNotification (o .flags); window = o .window; notify = o .notify; flags = o .flags; icon = o .icon })) (λ i. refl)
     go (Desktop o) = refl
     go (Refused r) = refl
 
@@ -129,12 +129,12 @@ refused-number dir s n e h = go (judgeOf s) refl e
     go (Window o) j e =
         let i = iconNumber (filledAt dir) (o .flags) s (o .icon) in
         not-window (placeOf dir 0 32 (freshWindow (o .flags)) (o .window .id) 0 i)
-        (λ i. record { slot = i; fresh = freshWindow (o .flags); a = o .window .id; b = 0; flags = o .flags; icon = o .icon })
+        (λ i. record { slot = i; fresh = freshWindow (o .flags); window = o .window; notify = record { id = 0 }; flags = o .flags; icon = o .icon })
         (place-not dir 0 32 (freshWindow (o .flags)) (o .window .id) 0 i) e
     go (Notification o) j e =
         let i = iconNumber (filledAt dir) (o .flags) s (o .icon) in
         not-notification (placeOf dir 32 16 (freshNotification (o .flags)) (o .window .id) (o .notify .id) i)
-        (λ i. record { slot = i; fresh = freshNotification (o .flags); a = o .window .id; b = o .notify .id; flags = o .flags; icon = o .icon })
+        (λ i. record { slot = i; fresh = freshNotification (o .flags); window = o .window; notify = o .notify; flags = o .flags; icon = o .icon })
         (place-not dir 32 16 (freshNotification (o .flags)) (o .window .id) (o .notify .id) i) e
     go (Desktop o) j e = let k : _≡_ {A = ℕ} 0 1 = cc in omega arith
     go (Refused r) j e = let k : r .number ≡ n = cc in refusal-number s r j (k ∙ h)
@@ -155,10 +155,10 @@ planned-desktop dir s flags e = go (judgeOf s) refl e
     go (Window o) j e =
         absurd
         (no-window (placeOf dir 0 32 (freshWindow (o .flags)) (o .window .id) 0 (iconNumber (filledAt dir) (o .flags) s (o .icon)))
-        (λ i. record { slot = i; fresh = freshWindow (o .flags); a = o .window .id; b = 0; flags = o .flags; icon = o .icon }) e)
+        (λ i. record { slot = i; fresh = freshWindow (o .flags); window = o .window; notify = record { id = 0 }; flags = o .flags; icon = o .icon }) e)
     go (Notification o) j e =
         absurd
         (no-notification (placeOf dir 32 16 (freshNotification (o .flags)) (o .window .id) (o .notify .id) (iconNumber (filledAt dir) (o .flags) s (o .icon)))
-        (λ i. record { slot = i; fresh = freshNotification (o .flags); a = o .window .id; b = o .notify .id; flags = o .flags; icon = o .icon }) e)
+        (λ i. record { slot = i; fresh = freshNotification (o .flags); window = o .window; notify = o .notify; flags = o .flags; icon = o .icon }) e)
     go (Desktop o) j e = let k : o .flags ≡ flags = cc in j ∙ ap (λ (x : ℕ). Desktop (record { flags = x })) k
     go (Refused r) j e = let k : _≡_ {A = ℕ} 0 1 = cc in absurd (omega arith)

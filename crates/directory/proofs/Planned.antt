@@ -218,12 +218,12 @@ cached-cell filled flags s icon low p n h g =
 
 pub record Planned (f : Family) (dir s : List ℕ) (c : Change) : Type 0 where
   pub slot : Within f (c .slot)
-  pub first : c .a < 4294967296
-  pub second : c .b ≤ highest f
+  pub first : c .window .id < 4294967296
+  pub second : c .notify .id ≤ highest f
   pub fresh : c .fresh ≡ freshOf f (c .flags)
-  pub judged : judgeOf s ≡ judgedOf f (c .a) (c .b) (c .flags) (c .icon)
-  pub new : c .fresh ≡ true → (firstFrom (most f) (start f) (isAt dir (c .a) (c .b)) ≡ Nothing) × (isFree dir (c .slot) ≡ true)
-  pub old : c .fresh ≡ false → firstFrom (most f) (start f) (isAt dir (c .a) (c .b)) ≡ At (c .slot)
+  pub judged : judgeOf s ≡ judgedOf f (c .window .id) (c .notify .id) (c .flags) (c .icon)
+  pub new : c .fresh ≡ true → (firstFrom (most f) (start f) (isAt dir (c .window .id) (c .notify .id)) ≡ Nothing) × (isFree dir (c .slot) ≡ true)
+  pub old : c .fresh ≡ false → firstFrom (most f) (start f) (isAt dir (c .window .id) (c .notify .id)) ≡ At (c .slot)
   pub deleted : has (c .flags) flagDeleted ≡ true → c .fresh ≡ false
   pub icon : has (c .flags) flagIcon ≡ true → cellAt s (c .icon) < 12
   pub cached : has (c .flags) flagIcon ≡ false → has (c .flags) flagCachedIcon ≡ true
@@ -235,7 +235,7 @@ not-fresh notifications flags e = e
 
 build : (f : Family) (dir s : List ℕ) (a b flags icon i : ℕ) → Ordered f s a b flags icon
     → Placed f dir (freshOf f flags) a b (iconNumber (filledAt dir) flags s icon) i
-    → Planned f dir s (record { slot = i; fresh = freshOf f flags; a = a; b = b; flags = flags; icon = icon })
+    → Planned f dir s (record { slot = i; fresh = freshOf f flags; window = record { id = a }; notify = record { id = b }; flags = flags; icon = icon })
 build f dir s a b flags icon i o p =
     record {
       slot = p .slot;
@@ -277,7 +277,7 @@ module _ (dir s : List ℕ) (bytes : Bytes s) where
   unfolding planWindow
   window-planned c o j e =
       let p = placeOf dir 0 32 (freshWindow (o .flags)) (o .window .id) 0 (iconNumber (filledAt dir) (o .flags) s (o .icon)) in
-      let k : (ℕ → Change) = λ i. record { slot = i; fresh = freshWindow (o .flags); a = o .window .id; b = 0; flags = o .flags; icon = o .icon } in
+      let k : (ℕ → Change) = λ i. record { slot = i; fresh = freshWindow (o .flags); window = o .window; notify = record { id = 0 }; flags = o .flags; icon = o .icon } in
       let w = slotted-window p k c e in
       subst (Planned windows dir s) (w .is)
       (build windows dir s (o .window .id) 0 (o .flags) (o .icon) (w .slot) (ordered-window s bytes o j)
@@ -289,7 +289,7 @@ module _ (dir s : List ℕ) (bytes : Bytes s) where
   notification-planned c o j e =
       let p = placeOf dir 32 16 (freshNotification (o .flags)) (o .window .id) (o .notify .id) (iconNumber (filledAt dir) (o .flags) s (o .icon)) in
       let k : (ℕ → Change) =
-      λ i. record { slot = i; fresh = freshNotification (o .flags); a = o .window .id; b = o .notify .id; flags = o .flags; icon = o .icon } in
+      λ i. record { slot = i; fresh = freshNotification (o .flags); window = o .window; notify = o .notify; flags = o .flags; icon = o .icon } in
       let w = slotted-notification p k c e in
       subst (Planned notifications dir s) (w .is)
       (build notifications dir s (o .window .id) (o .notify .id) (o .flags) (o .icon) (w .slot) (ordered-notification s bytes o j)
@@ -303,11 +303,11 @@ module _ (dir s : List ℕ) (bytes : Bytes s) where
   planned-on windows c (Notification o) j e =
       absurd
       (no-window (placeOf dir 32 16 (freshNotification (o .flags)) (o .window .id) (o .notify .id) (iconNumber (filledAt dir) (o .flags) s (o .icon)))
-      (λ i. record { slot = i; fresh = freshNotification (o .flags); a = o .window .id; b = o .notify .id; flags = o .flags; icon = o .icon }) c e)
+      (λ i. record { slot = i; fresh = freshNotification (o .flags); window = o .window; notify = o .notify; flags = o .flags; icon = o .icon }) c e)
   planned-on notifications c (Window o) j e =
       absurd
       (no-notification (placeOf dir 0 32 (freshWindow (o .flags)) (o .window .id) 0 (iconNumber (filledAt dir) (o .flags) s (o .icon)))
-      (λ i. record { slot = i; fresh = freshWindow (o .flags); a = o .window .id; b = 0; flags = o .flags; icon = o .icon }) c e)
+      (λ i. record { slot = i; fresh = freshWindow (o .flags); window = o .window; notify = record { id = 0 }; flags = o .flags; icon = o .icon }) c e)
   planned-on windows c (Desktop o) j e = let k : _≡_ {A = ℕ} 0 1 = cc in absurd (omega arith)
   planned-on notifications c (Desktop o) j e = let k : _≡_ {A = ℕ} 0 1 = cc in absurd (omega arith)
   planned-on windows c (Refused o) j e = let k : _≡_ {A = ℕ} 0 1 = cc in absurd (omega arith)
@@ -318,7 +318,7 @@ module _ (dir s : List ℕ) (bytes : Bytes s) where
   planned f c e = planned-on f c (judgeOf s) refl e
 
 -- a window has no second id
-pub window-second : (dir s : List ℕ) (c : Change) → Planned windows dir s c → c .b ≡ 0
+pub window-second : (dir s : List ℕ) (c : Change) → Planned windows dir s c → c .notify .id ≡ 0
 window-second dir s c p = omega (arith, p .second)
 
 -- any second id is a number of 4 bytes

@@ -204,7 +204,7 @@ module _ (dir s : List ℕ) (o : WindowOrder) {n : ℕ} (e : n ≡ iconNumber (f
   window-refused g = rw (← e, ← f, g)
 
   pub window-changes : {i : ℕ} → p ≡ Slot i
-      → ChangeWindow (record { slot = i; fresh = freshWindow (o .flags); a = o .window .id; b = 0; flags = o .flags; icon = o .icon }) ≡ planWindow dir s o
+      → ChangeWindow (record { slot = i; fresh = freshWindow (o .flags); window = o .window; notify = record { id = 0 }; flags = o .flags; icon = o .icon }) ≡ planWindow dir s o
   unfolding planWindow
   window-changes g = rw (← e, ← f, g)
 
@@ -215,7 +215,7 @@ module _ (dir s : List ℕ) (o : NotificationOrder) {n : ℕ} (e : n ≡ iconNum
   notification-refused g = rw (← e, ← f, g)
 
   pub notification-changes : {i : ℕ} → p ≡ Slot i
-      → ChangeNotification (record { slot = i; fresh = freshNotification (o .flags); a = o .window .id; b = o .notify .id; flags = o .flags; icon = o .icon }) ≡ planNotification dir s o
+      → ChangeNotification (record { slot = i; fresh = freshNotification (o .flags); window = o .window; notify = o .notify; flags = o .flags; icon = o .icon }) ≡ planNotification dir s o
   unfolding planNotification
   notification-changes g = rw (← e, ← f, g)
 
@@ -262,7 +262,7 @@ module _ (dir s : List ℕ) (c : Change) {x : List ℕ} where
   mark-deleted h g = rw (ne-eqb (bitAnd (c .flags) flagDeleted) 0 h) g
 
   module _ (h : bitAnd (c .flags) flagDeleted ≡ 0) where
-    pub mark-new : {y : List ℕ} → c .fresh ≡ true → y ≡ listedOf dir (c .slot) (c .a) (c .b) → x ≡ filledOf y s (c .flags) (c .icon) → x ≡ markedOf dir s c
+    pub mark-new : {y : List ℕ} → c .fresh ≡ true → y ≡ listedOf dir (c .slot) (c .window .id) (c .notify .id) → x ≡ filledOf y s (c .flags) (c .icon) → x ≡ markedOf dir s c
     unfolding markedOf
     mark-new t e g = rw (eq-eqb (bitAnd (c .flags) flagDeleted) 0 h, t, ← e) g
 

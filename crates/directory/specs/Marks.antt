@@ -27,7 +27,7 @@ filledOf dir s flags icon = pick (has flags flagIcon) (splice dir (432 + cellAt 
 unfoldable pub markedOf : List ℕ → List ℕ → Change → List ℕ
 markedOf dir s c =
     pick (has (c .flags) flagDeleted) (freedOf dir (c .slot))
-    (filledOf (pick (c .fresh) (listedOf dir (c .slot) (c .a) (c .b)) dir) s (c .flags) (c .icon))
+    (filledOf (pick (c .fresh) (listedOf dir (c .slot) (c .window .id) (c .notify .id)) dir) s (c .flags) (c .icon))
 
 -- no record listed
 unfoldable pub clearedOf : List ℕ → List ℕ

@@ -54,14 +54,14 @@ onPlace (Not n) change = Refuse n
 unfoldable pub planWindow : List ℕ → List ℕ → WindowOrder → Plan
 planWindow dir s o =
     onPlace (placeOf dir 0 32 (freshWindow (o .flags)) (o .window .id) 0 (iconNumber (filledAt dir) (o .flags) s (o .icon)))
-    (λ i. ChangeWindow (record { slot = i; fresh = freshWindow (o .flags); a = o .window .id; b = 0; flags = o .flags; icon = o .icon }))
+    (λ i. ChangeWindow (record { slot = i; fresh = freshWindow (o .flags); window = o .window; notify = record { id = 0 }; flags = o .flags; icon = o .icon }))
 
 unfoldable pub planNotification : List ℕ → List ℕ → NotificationOrder → Plan
 planNotification dir s o =
     onPlace (placeOf dir 32 16 (freshNotification (o .flags)) (o .window .id) (o .notify .id) (iconNumber (filledAt dir) (o .flags) s (o .icon)))
     (λ i.
     ChangeNotification
-    (record { slot = i; fresh = freshNotification (o .flags); a = o .window .id; b = o .notify .id; flags = o .flags; icon = o .icon }))
+    (record { slot = i; fresh = freshNotification (o .flags); window = o .window; notify = o .notify; flags = o .flags; icon = o .icon }))
 
 abbrev pub planOn : List ℕ → List ℕ → Judged → Plan
 planOn dir s (Window o) = planWindow dir s o

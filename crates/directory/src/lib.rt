@@ -8,6 +8,8 @@ ghost use Rattle.directory.specs.Sound.{soundDirectory};
 use order::Judged;
 use order::NotificationOrder;
 use order::WindowOrder;
+use protocol::NotifyIconId;
+use protocol::WindowId;
 
 pub mod marks;
 pub mod places;
@@ -25,13 +27,13 @@ pub enum Place {
     Not(u8),
 }
 
-// What an order changes that is not refused: the record of the ids a and b (0 for a window), in its slot; for a new record,
+// What an order changes that is not refused: the record of the ids (notify-icon id 0 for a window), in its slot; for a new record,
 // in the first free slot.
 pub struct Change {
     pub slot: usize,
     pub fresh: bool,
-    pub a: u32,
-    pub b: u32,
+    pub window: WindowId,
+    pub notify: NotifyIconId,
     pub flags: u32,
     pub icon: u32,
 }
@@ -49,17 +51,18 @@ fn plan_window(dir: &[u8], s: &[u8], o: WindowOrder) -> Plan
 {
     let flags = o.flags;
     let icon = o.icon;
-    let a = o.window.id;
+    let window = o.window;
+    let notify = NotifyIconId { id: 0 };
     let n = places::icon_number(dir, s, flags, icon);
     let fresh = (flags & protocol::NEW != 0) & !(flags & protocol::ANY_ICON != 0);
-    let p = places::slot_for(dir, 0, 32, fresh, a, 0, n);
+    let p = places::slot_for(dir, 0, 32, fresh, window, notify, n);
     match p {
         Place::Not(number) => Plan::Refuse(number),
         Place::Slot(slot) => Plan::ChangeWindow(Change {
             slot,
             fresh,
-            a,
-            b: 0,
+            window,
+            notify,
             flags,
             icon,
         }),
@@ -71,18 +74,18 @@ fn plan_notification(dir: &[u8], s: &[u8], o: NotificationOrder) -> Plan
 {
     let flags = o.flags;
     let icon = o.icon;
-    let a = o.window.id;
-    let b = o.notify.id;
+    let window = o.window;
+    let notify = o.notify;
     let n = places::icon_number(dir, s, flags, icon);
     let fresh = flags & protocol::NEW != 0;
-    let p = places::slot_for(dir, 32, 16, fresh, a, b, n);
+    let p = places::slot_for(dir, 32, 16, fresh, window, notify, n);
     match p {
         Place::Not(number) => Plan::Refuse(number),
         Place::Slot(slot) => Plan::ChangeNotification(Change {
             slot,
             fresh,
-            a,
-            b,
+            window,
+            notify,
             flags,
             icon,
         }),

@@ -45,7 +45,7 @@ pub fn mark(dir: &mut [u8], s: &[u8], c: Change)
         return;
     }
     if c.fresh {
-        list(dir, c.slot, c.a, c.b);
+        list(dir, c.slot, c.window.id, c.notify.id);
         fill(dir, s, flags, c.icon);
         return;
     }

@@ -6,6 +6,8 @@ ghost use Rattle.directory.specs.Plans.{cellAt, iconNumber, placeOf, bes
 use crate::Found;
 use crate::Place;
 use crate::slots;
+use protocol::NotifyIconId;
+use protocol::WindowId;
 
 // The cell that an icon or cached icon at index icon names.
 pub fn cell(s: &[u8], icon: u32) -> usize
@@ -49,11 +51,19 @@ fn besides_icon(i: usize, n: u8) -> Place
 }
 
 // The slot of a record that is new, and must not be listed, or that must be; n is the number of its icon.
-pub fn slot_for(dir: &[u8], first: usize, count: usize, fresh: bool, a: u32, b: u32, n: u8) -> Place
+pub fn slot_for(
+    dir: &[u8],
+    first: usize,
+    count: usize,
+    fresh: bool,
+    window: WindowId,
+    notify: NotifyIconId,
+    n: u8,
+) -> Place
     requires { ⌜ first + count ≤ 48 ⌝ }
-    ensures { λ r. ⌜ r ≡ placeOf (now (dir .entry)) first count fresh a b n ⌝ }
+    ensures { λ r. ⌜ r ≡ placeOf (now (dir .entry)) first count fresh (window .id) (notify .id) n ⌝ }
 {
-    let f = slots::find(dir, first, count, a, b);
+    let f = slots::find(dir, first, count, window, notify);
     match f {
         Found::At(i) => {
             if fresh {

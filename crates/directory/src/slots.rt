@@ -5,6 +5,8 @@ ghost use Prim.Native.Nat.{_+_, _*_, _<_, _≤_};
 ghost use lib.ListN.{length};
 ghost use Rattle.directory.specs.Slots.{isUsed, isFree, isAt, firstFrom, filledAt};
 use crate::Found;
+use protocol::NotifyIconId;
+use protocol::WindowId;
 
 pub const SLOTS: usize = 48;
 
@@ -82,15 +84,15 @@ fn find_whole(dir: &[u8], first: usize, count: usize, a: u32, b: u32) -> Found
     Found::Nothing
 }
 
-// The first of count slots that has the record of the ids a and b.
-pub fn find(dir: &[u8], first: usize, count: usize, a: u32, b: u32) -> Found
+// The first of count slots that has the record of a window, whose notify-icon id is 0, or of a notification icon.
+pub fn find(dir: &[u8], first: usize, count: usize, window: WindowId, notify: NotifyIconId) -> Found
     requires { ⌜ first + count ≤ 48 ⌝ }
-    ensures { λ r. ⌜ r ≡ firstFrom count first (isAt (now (dir .entry)) a b) ⌝ }
+    ensures { λ r. ⌜ r ≡ firstFrom count first (isAt (now (dir .entry)) (window .id) (notify .id)) ⌝ }
 {
     if dir.len() < LENGTH {
-        return find_any(dir, first, count, a, b);
+        return find_any(dir, first, count, window.id, notify.id);
     }
-    find_whole(dir, first, count, a, b)
+    find_whole(dir, first, count, window.id, notify.id)
 }
 
 // The first of count slots that has no record.

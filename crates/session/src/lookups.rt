@@ -16,6 +16,8 @@ use crate::replies::granted;
 use crate::replies::refused;
 use directory::Found;
 use directory::slots;
+use protocol::NotifyIconId;
+use protocol::WindowId;
 use table::Want;
 
 // The cell of a cache and an entry, 12 for one outside the caches.
@@ -40,11 +42,11 @@ fn want_of(target: LookupTarget) -> Want
     }
 }
 
-fn found(d: &[u8], first: usize, count: usize, a: u32, b: u32) -> bool
+fn found(d: &[u8], first: usize, count: usize, window: WindowId, notify: NotifyIconId) -> bool
     requires { ⌜ first + count ≤ 48 ⌝ }
-    ensures { λ r. ⌜ r ≡ isFound (firstFrom count first (isAt (now (d .entry)) a b)) ⌝ }
+    ensures { λ r. ⌜ r ≡ isFound (firstFrom count first (isAt (now (d .entry)) (window .id) (notify .id))) ⌝ }
 {
-    let f = slots::find(d, first, count, a, b);
+    let f = slots::find(d, first, count, window, notify);
     match f {
         Found::At(_) => true,
         Found::Nothing => false,
@@ -56,8 +58,8 @@ fn listed(d: &[u8], target: LookupTarget) -> bool
     ensures { λ r. ⌜ r ≡ listedIn target (directoryOf (now (d .entry))) ⌝ }
 {
     match target {
-        LookupTarget::Window(w) => found(d, 0, 32, w.id, 0),
-        LookupTarget::Notification(w, n) => found(d, 32, 16, w.id, n.id),
+        LookupTarget::Window(w) => found(d, 0, 32, w, NotifyIconId { id: 0 }),
+        LookupTarget::Notification(w, n) => found(d, 32, 16, w, n),
         LookupTarget::Cell(cache, entry) => slots::is_filled(d, cell_number(cache, entry)),
         LookupTarget::Desktop => true,
     }

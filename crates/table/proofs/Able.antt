@@ -46,7 +46,7 @@ icon-fits s flags icon low e cell =
 module _ (dir s : List ℕ) (bytes : Bytes s) (c : Change) where
   window-able : Planned windows dir s c → Able windowFields 11 s c
   window-able p =
-      let o : WindowOrder = record { window = record { id = c .a }; flags = c .flags; icon = c .icon } in
+      let o : WindowOrder = record { window = c .window; flags = c .flags; icon = c .icon } in
       let w = a-window s o (p .judged) in
       let g = ordered-window s bytes o (p .judged) in
       let f : c .flags ≡ flagsOf s = ap (λ (o : WindowOrder). o .flags) (w .is) in
@@ -61,7 +61,7 @@ module _ (dir s : List ℕ) (bytes : Bytes s) (c : Change) where
 
   notification-able : Planned notifications dir s c → Able notificationFields 15 s c
   notification-able p =
-      let o : NotificationOrder = record { window = record { id = c .a }; notify = record { id = c .b }; flags = c .flags; icon = c .icon } in
+      let o : NotificationOrder = record { window = c .window; notify = c .notify; flags = c .flags; icon = c .icon } in
       let w = a-notification s o (p .judged) in
       let g = ordered-notification s bytes o (p .judged) in
       let f : c .flags ≡ flagsOf s = ap (λ (o : NotificationOrder). o .flags) (w .is) in
@@ -118,8 +118,8 @@ pointed-cell f dir s c p h = go (has (c .flags) flagIcon) (has (c .flags) flagCa
 -- the icon that a planned order carries
 pub planned-icon : (f : Family) (dir s : List ℕ) → Bytes s → (c : Change) → Planned f dir s c → has (c .flags) flagIcon ≡ true → AnIcon s (c .icon)
 planned-icon windows dir s bytes c p h =
-    let g = ordered-window s bytes (record { window = record { id = c .a }; flags = c .flags; icon = c .icon }) (p .judged) in
+    let g = ordered-window s bytes (record { window = c .window; flags = c .flags; icon = c .icon }) (p .judged) in
     an-icon (c .flags) s (c .icon) (omega (arith, g .low)) h (g .picture)
 planned-icon notifications dir s bytes c p h =
-    let g = ordered-notification s bytes (record { window = record { id = c .a }; notify = record { id = c .b }; flags = c .flags; icon = c .icon }) (p .judged) in
+    let g = ordered-notification s bytes (record { window = c .window; notify = c .notify; flags = c .flags; icon = c .icon }) (p .judged) in
     an-icon (c .flags) s (c .icon) (omega (arith, g .low)) h (g .picture)

@@ -79,7 +79,7 @@ module _ (dir bodies cells s : List ℕ) (bytes : Bytes s) (sound : soundTable d
       let a = able windows dir s bytes c p in
       let cell = pointed-cell windows dir s c p in
       let icon = planned-icon windows dir s bytes c p in
-      let b : c .b ≡ 0 = window-second dir s c p in
+      let b : c .notify .id ≡ 0 = window-second dir s c p in
       record {
         table =
             rw (p .judged)

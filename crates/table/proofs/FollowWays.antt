@@ -88,38 +88,38 @@ stays false x m = refl
 
 module _ (s m : List ℕ) {p : Plan} (c : Change) where
   module _ (a : ℕ) (e : p ≡ ChangeWindow c) where
-    pub window-other : (c .a ≡ a → ⊥) → m ≡ followedWindow a s p m
+    pub window-other : (c .window .id ≡ a → ⊥) → m ≡ followedWindow a s p m
     unfolding followedWindow
-    window-other h = rw (e, ne-eqb (c .a) a h)
+    window-other h = rw (e, ne-eqb (c .window .id) a h)
 
     pub window-deleted : (bitAnd (c .flags) flagDeleted ≡ 0 → ⊥) → m ≡ followedWindow a s p m
     unfolding followedWindow
     window-deleted h =
-        rw (e, holds (c .flags) flagDeleted h) (stays (eqb (c .a) a) (slotAfter windowFields 11 (markOf (c .flags)) s c m) m)
+        rw (e, holds (c .flags) flagDeleted h) (stays (eqb (c .window .id) a) (slotAfter windowFields 11 (markOf (c .flags)) s c m) m)
 
-    pub window-followed : {mark : ℕ} {x : List ℕ} → c .a ≡ a → bitAnd (c .flags) flagDeleted ≡ 0 → mark ≡ markOf (c .flags)
+    pub window-followed : {mark : ℕ} {x : List ℕ} → c .window .id ≡ a → bitAnd (c .flags) flagDeleted ≡ 0 → mark ≡ markOf (c .flags)
         → x ≡ slotAfter windowFields 11 mark s c m → x ≡ followedWindow a s p m
     unfolding followedWindow
-    window-followed h d k f = rw (e, eq-eqb (c .a) a h, lacks (c .flags) flagDeleted d, ← k) f
+    window-followed h d k f = rw (e, eq-eqb (c .window .id) a h, lacks (c .flags) flagDeleted d, ← k) f
 
   module _ (a b : ℕ) (e : p ≡ ChangeNotification c) where
-    pub notification-other : (c .a ≡ a → ⊥) → m ≡ followedNotification a b s p m
+    pub notification-other : (c .window .id ≡ a → ⊥) → m ≡ followedNotification a b s p m
     unfolding followedNotification
-    notification-other h = rw (e, ne-eqb (c .a) a h)
+    notification-other h = rw (e, ne-eqb (c .window .id) a h)
 
-    pub notification-second : c .a ≡ a → (c .b ≡ b → ⊥) → m ≡ followedNotification a b s p m
+    pub notification-second : c .window .id ≡ a → (c .notify .id ≡ b → ⊥) → m ≡ followedNotification a b s p m
     unfolding followedNotification
-    notification-second h g = rw (e, eq-eqb (c .a) a h, ne-eqb (c .b) b g)
+    notification-second h g = rw (e, eq-eqb (c .window .id) a h, ne-eqb (c .notify .id) b g)
 
     pub notification-deleted : (bitAnd (c .flags) flagDeleted ≡ 0 → ⊥) → m ≡ followedNotification a b s p m
     unfolding followedNotification
     notification-deleted h =
-        rw (e, holds (c .flags) flagDeleted h) (stays (both (eqb (c .a) a) (eqb (c .b) b)) (slotAfter notificationFields 15 0 s c m) m)
+        rw (e, holds (c .flags) flagDeleted h) (stays (both (eqb (c .window .id) a) (eqb (c .notify .id) b)) (slotAfter notificationFields 15 0 s c m) m)
 
-    pub notification-followed : {x : List ℕ} → c .a ≡ a → c .b ≡ b → bitAnd (c .flags) flagDeleted ≡ 0 → x ≡ slotAfter notificationFields 15 0 s c m
+    pub notification-followed : {x : List ℕ} → c .window .id ≡ a → c .notify .id ≡ b → bitAnd (c .flags) flagDeleted ≡ 0 → x ≡ slotAfter notificationFields 15 0 s c m
         → x ≡ followedNotification a b s p m
     unfolding followedNotification
-    notification-followed h g d f = rw (e, eq-eqb (c .a) a h, eq-eqb (c .b) b g, lacks (c .flags) flagDeleted d) f
+    notification-followed h g d f = rw (e, eq-eqb (c .window .id) a h, eq-eqb (c .notify .id) b g, lacks (c .flags) flagDeleted d) f
 
 -- ---- a cell
 

@@ -84,59 +84,59 @@ module _ (f : Family) (dir s : List ℕ) (bytes : Bytes s) (c : Change) (p : Pla
 
   module _ (t : Table) (same : directory t ≡ directoryOf dir) where
     abbrev changed : Table
-    changed = changeRecord t f (c .a) (c .b) (c .fresh) (c .flags) s (c .icon)
+    changed = changeRecord t f (c .window .id) (c .notify .id) (c .fresh) (c .flags) s (c .icon)
 
     -- a record that is not new is there
-    listed : c .fresh ≡ false → there (t .records f (c .a) (c .b)) ≡ true
+    listed : c .fresh ≡ false → there (t .records f (c .window .id) (c .notify .id)) ≡ true
     unfolding directory directoryOf
     listed e =
-        ap (λ (d : Directory). d .listed f (c .a) (c .b)) same
+        ap (λ (d : Directory). d .listed f (c .window .id) (c .notify .id)) same
         ∙ ap (λ w. onFound w false (λ i. true)) (p .old e)
 
     -- the record itself
-    module _ (m : List ℕ) (long : length m ≡ 916) (h : HoldsRecord f (c .a) (c .b) t m) where
+    module _ (m : List ℕ) (long : length m ≡ 916) (h : HoldsRecord f (c .window .id) (c .notify .id) t m) where
       before : pick (c .fresh) (emptyBody (fieldRows f)) (bodyOf (fieldRows f) m)
-          ≡ pick (c .fresh) (emptyBody (fieldRows f)) (bodyIn f (t .records f (c .a) (c .b)))
+          ≡ pick (c .fresh) (emptyBody (fieldRows f)) (bodyIn f (t .records f (c .window .id) (c .notify .id)))
       before = go (c .fresh) refl
         where
           go : (b : Bool) → c .fresh ≡ b
               → pick b (emptyBody (fieldRows f)) (bodyOf (fieldRows f) m)
-              ≡ pick b (emptyBody (fieldRows f)) (bodyIn f (t .records f (c .a) (c .b)))
+              ≡ pick b (emptyBody (fieldRows f)) (bodyIn f (t .records f (c .window .id) (c .notify .id)))
           go true e = refl
-          go false e = let w = is-some (t .records f (c .a) (c .b)) (listed e) in h (w .body) (w .is) .0 ∙ ap (bodyIn f) (sym (w .is))
+          go false e = let w = is-some (t .records f (c .window .id) (c .notify .id)) (listed e) in h (w .body) (w .is) .0 ∙ ap (bodyIn f) (sym (w .is))
 
       body-now : bodyOf (fieldRows f) (slotAfter (fieldRows f) (fieldsAt f) (markFor f (c .flags)) s c m)
-          ≡ bodyAfter f (c .flags) s (c .icon) (pick (c .fresh) (emptyBody (fieldRows f)) (bodyIn f (t .records f (c .a) (c .b))))
+          ≡ bodyAfter f (c .flags) s (c .icon) (pick (c .fresh) (emptyBody (fieldRows f)) (bodyIn f (t .records f (c .window .id) (c .notify .id))))
       body-now = slot-body f s c m long fits cell ∙ ap (bodyAfter f (c .flags) s (c .icon)) before
 
       ok-now : bodyOk (fieldRows f) 12 (secondMost f) (slotAfter (fieldRows f) (fieldsAt f) (markFor f (c .flags)) s c m) ≡ true
       ok-now =
           slot-ok f s c m long fits cell
-          (λ e. let w = is-some (t .records f (c .a) (c .b)) (listed e) in h (w .body) (w .is) .1)
+          (λ e. let w = is-some (t .records f (c .window .id) (c .notify .id)) (listed e) in h (w .body) (w .is) .1)
 
     -- the records of the changed table
     gone-records : has (c .flags) flagDeleted ≡ true → (g : Family) (x y : ℕ)
-        → changed .records g x y ≡ pick (sameRecord f (c .a) (c .b) g x y) none (t .records g x y)
+        → changed .records g x y ≡ pick (sameRecord f (c .window .id) (c .notify .id) g x y) none (t .records g x y)
     unfolding changeRecord
     gone-records e g x y = rw e
 
     set-records : has (c .flags) flagDeleted ≡ false → (g : Family) (x y : ℕ)
         → changed .records g x y
-        ≡ pick (sameRecord f (c .a) (c .b) g x y)
-        (some (bodyAfter f (c .flags) s (c .icon) (pick (c .fresh) (emptyBody (fieldRows f)) (bodyIn f (t .records f (c .a) (c .b))))))
+        ≡ pick (sameRecord f (c .window .id) (c .notify .id) g x y)
+        (some (bodyAfter f (c .flags) s (c .icon) (pick (c .fresh) (emptyBody (fieldRows f)) (bodyIn f (t .records f (c .window .id) (c .notify .id))))))
         (t .records g x y)
     unfolding changeRecord
     set-records e g x y = rw e
 
     pub record-followed : (a b : ℕ) (m : List ℕ) → length m ≡ 916 → HoldsRecord f a b t m
         → HoldsRecord f a b changed
-        (recordChanged (fieldRows f) (fieldsAt f) (markFor f (c .flags)) (both (eqb (c .a) a) (eqb (c .b) b)) s c m)
-    record-followed a b m long h = go (has (c .flags) flagDeleted) (both (eqb (c .a) a) (eqb (c .b) b)) refl refl
+        (recordChanged (fieldRows f) (fieldsAt f) (markFor f (c .flags)) (both (eqb (c .window .id) a) (eqb (c .notify .id) b)) s c m)
+    record-followed a b m long h = go (has (c .flags) flagDeleted) (both (eqb (c .window .id) a) (eqb (c .notify .id) b)) refl refl
       where
-        self : (q : Bool) → both (eqb (c .a) a) (eqb (c .b) b) ≡ q → sameRecord f (c .a) (c .b) f a b ≡ q
+        self : (q : Bool) → both (eqb (c .window .id) a) (eqb (c .notify .id) b) ≡ q → sameRecord f (c .window .id) (c .notify .id) f a b ≡ q
         self q e = rw (family-same f) e
 
-        go : (d q : Bool) → has (c .flags) flagDeleted ≡ d → both (eqb (c .a) a) (eqb (c .b) b) ≡ q
+        go : (d q : Bool) → has (c .flags) flagDeleted ≡ d → both (eqb (c .window .id) a) (eqb (c .notify .id) b) ≡ q
             → HoldsRecord f a b changed (pick (both q (not d)) (slotAfter (fieldRows f) (fieldsAt f) (markFor f (c .flags)) s c m) m)
         go true true de qe = λ x e.
             let n : changed .records f a b ≡ none = gone-records de f a b ∙ rw (self true qe) in
@@ -148,10 +148,10 @@ module _ (f : Family) (dir s : List ℕ) (bytes : Bytes s) (c : Change) (p : Pla
             let n : changed .records f a b ≡ t .records f a b = set-records de f a b ∙ rw (self false qe) in
             h x (sym n ∙ e)
         go false true de qe = λ x e.
-            let i : c .a ≡ a = eqb-true (c .a) a (both-left (eqb (c .a) a) (eqb (c .b) b) qe) in
-            let j : c .b ≡ b = eqb-true (c .b) b (both-right (eqb (c .a) a) (eqb (c .b) b) qe) in
-            let o : HoldsRecord f (c .a) (c .b) t m = λ y k. h y (ap (λ (v : ℕ). t .records f v b) (sym i) ∙ ap (t .records f (c .a)) (sym j) ∙ k) in
-            let new : Body = bodyAfter f (c .flags) s (c .icon) (pick (c .fresh) (emptyBody (fieldRows f)) (bodyIn f (t .records f (c .a) (c .b)))) in
+            let i : c .window .id ≡ a = eqb-true (c .window .id) a (both-left (eqb (c .window .id) a) (eqb (c .notify .id) b) qe) in
+            let j : c .notify .id ≡ b = eqb-true (c .notify .id) b (both-right (eqb (c .window .id) a) (eqb (c .notify .id) b) qe) in
+            let o : HoldsRecord f (c .window .id) (c .notify .id) t m = λ y k. h y (ap (λ (v : ℕ). t .records f v b) (sym i) ∙ ap (t .records f (c .window .id)) (sym j) ∙ k) in
+            let new : Body = bodyAfter f (c .flags) s (c .icon) (pick (c .fresh) (emptyBody (fieldRows f)) (bodyIn f (t .records f (c .window .id) (c .notify .id)))) in
             let n : changed .records f a b ≡ some new = set-records de f a b ∙ rw (self true qe) in
             (body-now m long o ∙ same-body new x (sym n ∙ e), ok-now m long o)
 

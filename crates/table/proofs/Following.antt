@@ -71,8 +71,8 @@ both-yes true = refl
 both-yes false = refl
 
 -- a window's id alone names it
-window-same : (dir s : List ℕ) (c : Change) → Planned windows dir s c → (a : ℕ) → both (eqb (c .a) a) (eqb (c .b) 0) ≡ eqb (c .a) a
-window-same dir s c p a = rw (window-second dir s c p) (both-yes (eqb (c .a) a))
+window-same : (dir s : List ℕ) (c : Change) → Planned windows dir s c → (a : ℕ) → both (eqb (c .window .id) a) (eqb (c .notify .id) 0) ≡ eqb (c .window .id) a
+window-same dir s c p a = rw (window-second dir s c p) (both-yes (eqb (c .window .id) a))
 
 module _ (t : Table) (dir s : List ℕ) (bytes : Bytes s) (same : directory t ≡ directoryOf dir) where
   -- what the change of the plan makes of the table
@@ -95,12 +95,12 @@ module _ (t : Table) (dir s : List ℕ) (bytes : Bytes s) (same : directory t �
       w = planned dir s bytes windows c e
 
       go : (want : Want) → length m ≡ roomFor want → Holds want t m
-          → Holds want (changeRecord t windows (c .a) (c .b) (c .fresh) (c .flags) s (c .icon)) (followedOf want s (ChangeWindow c) m)
+          → Holds want (changeRecord t windows (c .window .id) (c .notify .id) (c .fresh) (c .flags) s (c .icon)) (followedOf want s (ChangeWindow c) m)
       go Nothing long h = tt
       go (Window x) long h =
           subst
           (λ (q : Bool).
-          HoldsRecord windows (x .id) 0 (changeRecord t windows (c .a) (c .b) (c .fresh) (c .flags) s (c .icon))
+          HoldsRecord windows (x .id) 0 (changeRecord t windows (c .window .id) (c .notify .id) (c .fresh) (c .flags) s (c .icon))
           (recordChanged windowFields 11 (markOf (c .flags)) q s c m)) (window-same dir s c w (x .id))
           (record-followed windows dir s bytes c w t same (x .id) 0 m long h)
       go (Notification x n) long h = other-followed windows dir s bytes c w t same notifications (x .id) (n .id) m refl h
@@ -112,7 +112,7 @@ module _ (t : Table) (dir s : List ℕ) (bytes : Bytes s) (same : directory t �
       w = planned dir s bytes notifications c e
 
       go : (want : Want) → length m ≡ roomFor want → Holds want t m
-          → Holds want (changeRecord t notifications (c .a) (c .b) (c .fresh) (c .flags) s (c .icon))
+          → Holds want (changeRecord t notifications (c .window .id) (c .notify .id) (c .fresh) (c .flags) s (c .icon))
           (followedOf want s (ChangeNotification c) m)
       go Nothing long h = tt
       go (Window x) long h = other-followed notifications dir s bytes c w t same windows (x .id) 0 m refl h
@@ -138,13 +138,13 @@ follow-length want dir s m bytes sound long = go want (planOf dir s) refl long
   where
     go : (want : Want) (p : Plan) → planOf dir s ≡ p → length m ≡ roomFor want → length (followedOf want s p m) ≡ roomFor want
     go Nothing p e long = long
-    go (Window w) (ChangeWindow c) e long = record-long windows dir s bytes c (planned dir s bytes windows c e) (eqb (c .a) (w .id)) m long
+    go (Window w) (ChangeWindow c) e long = record-long windows dir s bytes c (planned dir s bytes windows c e) (eqb (c .window .id) (w .id)) m long
     go (Window w) (ChangeNotification c) e long = long
     go (Window w) (ChangeDesktop flags) e long = long
     go (Window w) (Refuse n) e long = long
     go (Notification w n) (ChangeWindow c) e long = long
     go (Notification w n) (ChangeNotification c) e long =
-        record-long notifications dir s bytes c (planned dir s bytes notifications c e) (both (eqb (c .a) (w .id)) (eqb (c .b) (n .id))) m long
+        record-long notifications dir s bytes c (planned dir s bytes notifications c e) (both (eqb (c .window .id) (w .id)) (eqb (c .notify .id) (n .id))) m long
     go (Notification w n) (ChangeDesktop flags) e long = long
     go (Notification w n) (Refuse k) e long = long
     go (Cell k) (ChangeWindow c) e long = icon-long windows dir s bytes c (planned dir s bytes windows c e) k m long

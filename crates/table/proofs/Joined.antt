@@ -81,33 +81,33 @@ module _ (f : Family) (dir s : List ℕ) (c : Change) (p : Planned f dir s c) (s
   findIn d g x y = firstFrom (most g) (start g) (isAt d x y)
 
   -- a record that is listed is found in its slot
-  found-old : c .fresh ≡ false → (g : Family) (x y : ℕ) → findIn dir g x y ≡ pick (sameRecord f (c .a) (c .b) g x y) (At (c .slot)) (findIn dir g x y)
-  found-old t g x y = go (sameRecord f (c .a) (c .b) g x y) refl
+  found-old : c .fresh ≡ false → (g : Family) (x y : ℕ) → findIn dir g x y ≡ pick (sameRecord f (c .window .id) (c .notify .id) g x y) (At (c .slot)) (findIn dir g x y)
+  found-old t g x y = go (sameRecord f (c .window .id) (c .notify .id) g x y) refl
     where
-      go : (u : Bool) → sameRecord f (c .a) (c .b) g x y ≡ u → findIn dir g x y ≡ pick u (At (c .slot)) (findIn dir g x y)
+      go : (u : Bool) → sameRecord f (c .window .id) (c .notify .id) g x y ≡ u → findIn dir g x y ≡ pick u (At (c .slot)) (findIn dir g x y)
       go true e =
-          let k = same-ids f g (c .a) (c .b) x y e in
+          let k = same-ids f g (c .window .id) (c .notify .id) x y e in
           rw (k .0, k .1, k .2) at (p .old t)
       go false e = refl
 
   find-after : has (c .flags) flagDeleted ≡ false → (g : Family) (x y : ℕ)
-      → findIn (markedOf dir s c) g x y ≡ pick (sameRecord f (c .a) (c .b) g x y) (At (c .slot)) (findIn dir g x y)
+      → findIn (markedOf dir s c) g x y ≡ pick (sameRecord f (c .window .id) (c .notify .id) g x y) (At (c .slot)) (findIn dir g x y)
   unfolding markedOf
   find-after h g x y = rw h (go (c .fresh) refl)
     where
       go : (t : Bool) → c .fresh ≡ t
-          → findIn (filledOf (pick t (listedOf dir (c .slot) (c .a) (c .b)) dir) s (c .flags) (c .icon)) g x y
-          ≡ pick (sameRecord f (c .a) (c .b) g x y) (At (c .slot)) (findIn dir g x y)
+          → findIn (filledOf (pick t (listedOf dir (c .slot) (c .window .id) (c .notify .id)) dir) s (c .flags) (c .icon)) g x y
+          ≡ pick (sameRecord f (c .window .id) (c .notify .id) g x y) (At (c .slot)) (findIn dir g x y)
       go true e =
           let n = p .new e in
-          let small = second-small f (c .b) (p .second) in
-          let l = length-listed f dir (c .slot) (c .a) (c .b) long (p .slot) (n .1) (p .first) small in
-          fill-find (listedOf dir (c .slot) (c .a) (c .b)) s (c .flags) (c .icon) (omega (arith, l, long)) (p .icon) g x y
-          ∙ listed-find f dir (c .slot) (c .a) (c .b) long (p .slot) (n .1) (p .first) small (n .0) g x y
+          let small = second-small f (c .notify .id) (p .second) in
+          let l = length-listed f dir (c .slot) (c .window .id) (c .notify .id) long (p .slot) (n .1) (p .first) small in
+          fill-find (listedOf dir (c .slot) (c .window .id) (c .notify .id)) s (c .flags) (c .icon) (omega (arith, l, long)) (p .icon) g x y
+          ∙ listed-find f dir (c .slot) (c .window .id) (c .notify .id) long (p .slot) (n .1) (p .first) small (n .0) g x y
       go false e = fill-find dir s (c .flags) (c .icon) long (p .icon) g x y ∙ found-old e g x y
 
   -- another record is found in another slot
-  other-slot : (g : Family) (x y j : ℕ) → findIn dir g x y ≡ At j → sameRecord f (c .a) (c .b) g x y ≡ false → c .slot ≡ j → ⊥
+  other-slot : (g : Family) (x y j : ℕ) → findIn dir g x y ≡ At j → sameRecord f (c .window .id) (c .notify .id) g x y ≡ false → c .slot ≡ j → ⊥
   other-slot g x y j e ne q = go (c .fresh) refl
     where
       w : (start g ≤ j) × (j < start g + most g) × (isAt dir x y j ≡ true)
@@ -122,18 +122,18 @@ module _ (f : Family) (dir s : List ℕ) (c : Change) (p : Planned f dir s c) (s
       no : {A : Type 0} → true ≡ false → A
       no z = let k : _≡_ {A = ℕ} 0 1 = cc in absurd (omega arith)
 
-      family : (t : Bool) → sameFamily f g ≡ t → isAt dir (c .a) (c .b) (c .slot) ≡ true → ⊥
+      family : (t : Bool) → sameFamily f g ≡ t → isAt dir (c .window .id) (c .notify .id) (c .slot) ≡ true → ⊥
       family false z h = apart f g (c .slot) z (p .slot) within
       family true z h =
-          let a = at-has dir (c .a) (c .b) (c .slot) h in
+          let a = at-has dir (c .window .id) (c .notify .id) (c .slot) h in
           let b = at-has dir x y (c .slot) there-is in
-          let u : c .a ≡ x = sym (a .first) ∙ b .first in
-          let v : c .b ≡ y = sym (a .second) ∙ b .second in
-          no (rw (z, eq-eqb (c .a) x u, eq-eqb (c .b) y v) at ne)
+          let u : c .window .id ≡ x = sym (a .first) ∙ b .first in
+          let v : c .notify .id ≡ y = sym (a .second) ∙ b .second in
+          no (rw (z, eq-eqb (c .window .id) x u, eq-eqb (c .notify .id) y v) at ne)
 
       go : (t : Bool) → c .fresh ≡ t → ⊥
       go true t = no (sym there-is ∙ at-free dir (c .slot) (not-true (isUsed dir (c .slot)) (p .new t .1)) x y)
-      go false t = family (sameFamily f g) refl (found (most f) (start f) (isAt dir (c .a) (c .b)) (c .slot) (p .old t) .2)
+      go false t = family (sameFamily f g) refl (found (most f) (start f) (isAt dir (c .window .id) (c .notify .id)) (c .slot) (p .old t) .2)
 
 -- ---- the change of a record
 
@@ -162,27 +162,27 @@ module _ (f : Family) (dir bodies cells s : List ℕ) (c : Change) (p : Planned 
 
   -- what the record becomes
   abbrev new : Body
-  new = bodyAfter f (c .flags) s (c .icon) (pick (c .fresh) (emptyBody (fieldRows f)) (bodyIn f (recordIn dir bodies f (c .a) (c .b))))
+  new = bodyAfter f (c .flags) s (c .icon) (pick (c .fresh) (emptyBody (fieldRows f)) (bodyIn f (recordIn dir bodies f (c .window .id) (c .notify .id))))
 
   new-body : bodyOf (fieldRows f) after ≡ new
   new-body = slot-body f s c slot (length-slot bodies (c .slot) inside) a cell ∙ ap (bodyAfter f (c .flags) s (c .icon)) (go (c .fresh) refl)
     where
       go : (t : Bool) → c .fresh ≡ t
-          → pick t (emptyBody (fieldRows f)) (bodyOf (fieldRows f) slot) ≡ pick t (emptyBody (fieldRows f)) (bodyIn f (recordIn dir bodies f (c .a) (c .b)))
+          → pick t (emptyBody (fieldRows f)) (bodyOf (fieldRows f) slot) ≡ pick t (emptyBody (fieldRows f)) (bodyIn f (recordIn dir bodies f (c .window .id) (c .notify .id)))
       go true e = refl
-      go false e = sym (record-at f dir bodies (c .a) (c .b) (c .slot) (p .old e))
+      go false e = sym (record-at f dir bodies (c .window .id) (c .notify .id) (c .slot) (p .old e))
 
   records-after : has (c .flags) flagDeleted ≡ false → (g : Family) (x y : ℕ)
-      → recordIn (markedOf dir s c) (splice bodies (916 * c .slot) after) g x y ≡ pick (sameRecord f (c .a) (c .b) g x y) (some new) (recordIn dir bodies g x y)
+      → recordIn (markedOf dir s c) (splice bodies (916 * c .slot) after) g x y ≡ pick (sameRecord f (c .window .id) (c .notify .id) g x y) (some new) (recordIn dir bodies g x y)
   records-after h g x y =
       ap (λ (w : Found). onFound w none (λ j. some (bodyOf (fieldRows g) (slotOf (splice bodies (916 * c .slot) after) j)))) (find-after f dir s c p sound h g x y)
-      ∙ go (sameRecord f (c .a) (c .b) g x y) (firstFrom (most g) (start g) (isAt dir x y)) refl refl
+      ∙ go (sameRecord f (c .window .id) (c .notify .id) g x y) (firstFrom (most g) (start g) (isAt dir x y)) refl refl
     where
-      go : (t : Bool) (w : Found) → sameRecord f (c .a) (c .b) g x y ≡ t → firstFrom (most g) (start g) (isAt dir x y) ≡ w
+      go : (t : Bool) (w : Found) → sameRecord f (c .window .id) (c .notify .id) g x y ≡ t → firstFrom (most g) (start g) (isAt dir x y) ≡ w
           → onFound (pick t (At (c .slot)) w) none (λ j. some (bodyOf (fieldRows g) (slotOf (splice bodies (916 * c .slot) after) j)))
           ≡ pick t (some new) (onFound w none (λ j. some (bodyOf (fieldRows g) (slotOf bodies j))))
       go true w t e =
-          let k = same-ids f g (c .a) (c .b) x y t in
+          let k = same-ids f g (c .window .id) (c .notify .id) x y t in
           let b : bodyOf (fieldRows g) after ≡ new = ap (λ (h : Family). bodyOf (fieldRows h) after) (sym (k .0)) ∙ new-body in
           ap some (rw (slots-after (c .slot), eq-eqb (c .slot) (c .slot) refl) b)
       go false (At j) t e =
@@ -191,22 +191,22 @@ module _ (f : Family) (dir bodies cells s : List ℕ) (c : Change) (p : Planned 
       go false Nothing t e = refl
 
   records-gone : has (c .flags) flagDeleted ≡ true → (g : Family) (x y : ℕ)
-      → recordIn (markedOf dir s c) bodies g x y ≡ pick (sameRecord f (c .a) (c .b) g x y) none (recordIn dir bodies g x y)
+      → recordIn (markedOf dir s c) bodies g x y ≡ pick (sameRecord f (c .window .id) (c .notify .id) g x y) none (recordIn dir bodies g x y)
   unfolding markedOf
   records-gone h g x y =
       rw h
       (ap (λ (w : Found). onFound w none (λ j. some (bodyOf (fieldRows g) (slotOf bodies j))))
-      (freed-find f dir (c .slot) (c .a) (c .b) sound (p .old (p .deleted h)) g x y)
-      ∙ on-pick (sameRecord f (c .a) (c .b) g x y) Nothing (firstFrom (most g) (start g) (isAt dir x y)) none
+      (freed-find f dir (c .slot) (c .window .id) (c .notify .id) sound (p .old (p .deleted h)) g x y)
+      ∙ on-pick (sameRecord f (c .window .id) (c .notify .id) g x y) Nothing (firstFrom (most g) (start g) (isAt dir x y)) none
       (λ j. some (bodyOf (fieldRows g) (slotOf bodies j))))
 
   -- counts and filled cells are the directory's
   many-after : (g : Family)
-      → manyIn g (markedOf dir s c) ≡ D.changeRecord (directoryOf dir) f (c .a) (c .b) (c .fresh) (c .flags) s (c .icon) .many g
+      → manyIn g (markedOf dir s c) ≡ D.changeRecord (directoryOf dir) f (c .window .id) (c .notify .id) (c .fresh) (c .flags) s (c .icon) .many g
   many-after g = unfold directoryOf in ap (λ (d : Directory). d .many g) (record-directory f dir s c p sound)
 
   filled-after : (k : ℕ)
-      → filledAt (markedOf dir s c) k ≡ D.changeRecord (directoryOf dir) f (c .a) (c .b) (c .fresh) (c .flags) s (c .icon) .filled k
+      → filledAt (markedOf dir s c) k ≡ D.changeRecord (directoryOf dir) f (c .window .id) (c .notify .id) (c .fresh) (c .flags) s (c .icon) .filled k
   filled-after k = unfold directoryOf in ap (λ (d : Directory). d .filled k) (record-directory f dir s c p sound)
 
   pub filled-now : (d : Bool) → has (c .flags) flagDeleted ≡ d → (k : ℕ) → filledAt (markedOf dir s c) k
@@ -249,7 +249,7 @@ module _ (f : Family) (dir bodies cells s : List ℕ) (c : Change) (p : Planned 
   -- ---- the whole table
 
   pub record-decoded : decode (markedOf dir s c) (bodiesAfter (fieldRows f) (fieldsAt f) (markFor f (c .flags)) s c bodies) (cellsAfter s c cells)
-      ≡ changeRecord (decode dir bodies cells) f (c .a) (c .b) (c .fresh) (c .flags) s (c .icon)
+      ≡ changeRecord (decode dir bodies cells) f (c .window .id) (c .notify .id) (c .fresh) (c .flags) s (c .icon)
   unfolding changeRecord decode bodiesAfter
   record-decoded = go (has (c .flags) flagDeleted) refl
     where
@@ -262,13 +262,13 @@ module _ (f : Family) (dir bodies cells s : List ℕ) (c : Change) (p : Planned 
           → decode (markedOf dir s c) (pick t bodies (splice bodies (916 * c .slot) after)) (cellsAfter s c cells)
           ≡ pick t
           (record {
-            records = λ g x y. pick (sameRecord f (c .a) (c .b) g x y) none (recordIn dir bodies g x y);
+            records = λ g x y. pick (sameRecord f (c .window .id) (c .notify .id) g x y) none (recordIn dir bodies g x y);
             many = λ g. pick (sameFamily f g) (manyIn g dir - 1) (manyIn g dir);
             cells = cellIn dir cells;
             desktop = bodyOf desktopFields (slotOf bodies 48);
           })
           (record {
-            records = λ g x y. pick (sameRecord f (c .a) (c .b) g x y) (some new) (recordIn dir bodies g x y);
+            records = λ g x y. pick (sameRecord f (c .window .id) (c .notify .id) g x y) (some new) (recordIn dir bodies g x y);
             many = λ g. pick (both (c .fresh) (sameFamily f g)) (manyIn g dir + 1) (manyIn g dir);
             cells =
                 λ k. pick (both (has (c .flags) flagIcon) (eqb (cellAt s (c .icon)) k)) (some (carriedPicture s (c .icon))) (cellIn dir cells k);

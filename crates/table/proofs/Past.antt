@@ -70,11 +70,11 @@ unfolding markedOf
 marked-past dir s c long below cell = go (has (c .flags) flagDeleted) (c .fresh)
   where
     go : (u t : Bool)
-        → drop 444 (pick u (freedOf dir (c .slot)) (filledOf (pick t (listedOf dir (c .slot) (c .a) (c .b)) dir) s (c .flags) (c .icon))) ≡ drop 444 dir
+        → drop 444 (pick u (freedOf dir (c .slot)) (filledOf (pick t (listedOf dir (c .slot) (c .window .id) (c .notify .id)) dir) s (c .flags) (c .icon))) ≡ drop 444 dir
     go true t = freed-past dir (c .slot) long below
     go false true =
-        let l = listed-past dir (c .slot) (c .a) (c .b) long below in
-        filled-past (listedOf dir (c .slot) (c .a) (c .b)) s (c .flags) (c .icon) (omega (arith, l .0)) cell ∙ l .1
+        let l = listed-past dir (c .slot) (c .window .id) (c .notify .id) long below in
+        filled-past (listedOf dir (c .slot) (c .window .id) (c .notify .id)) s (c .flags) (c .icon) (omega (arith, l .0)) cell ∙ l .1
     go false false = filled-past dir s (c .flags) (c .icon) long cell
 
 pub cleared-past : (dir : List ℕ) → 444 ≤ length dir → (t : Bool) → drop 444 (pick t (clearedOf dir) dir) ≡ drop 444 dir

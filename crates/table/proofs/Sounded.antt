@@ -152,15 +152,15 @@ module _ (f : Family) (dir bodies cells s : List ℕ) (c : Change) (p : Planned 
   unfolding markedOf
   used-after j u ne = go (has (c .flags) flagDeleted) (c .fresh) refl
     where
-      listed : Kept dir (listedOf dir (c .slot) (c .a) (c .b)) (c .slot)
-      listed = listed-is dir (c .slot) (c .a) (c .b) long (a .slot) (p .first) (second-small f (c .b) (p .second)) .kept
+      listed : Kept dir (listedOf dir (c .slot) (c .window .id) (c .notify .id)) (c .slot)
+      listed = listed-is dir (c .slot) (c .window .id) (c .notify .id) long (a .slot) (p .first) (second-small f (c .notify .id) (p .second)) .kept
 
       go : (d t : Bool) → c .fresh ≡ t
-          → isUsed (pick d (freedOf dir (c .slot)) (filledOf (pick t (listedOf dir (c .slot) (c .a) (c .b)) dir) s (c .flags) (c .icon))) j ≡ isUsed dir j
+          → isUsed (pick d (freedOf dir (c .slot)) (filledOf (pick t (listedOf dir (c .slot) (c .window .id) (c .notify .id)) dir) s (c .flags) (c .icon))) j ≡ isUsed dir j
       go true t e = same-used dir (freedOf dir (c .slot)) j (freed-is dir (c .slot) long (a .slot) .kept .others j ne)
       go false true e =
-          fill-used (listedOf dir (c .slot) (c .a) (c .b)) (omega (arith, listed .long, long)) j u
-          ∙ same-used dir (listedOf dir (c .slot) (c .a) (c .b)) j (listed .others j ne)
+          fill-used (listedOf dir (c .slot) (c .window .id) (c .notify .id)) (omega (arith, listed .long, long)) j u
+          ∙ same-used dir (listedOf dir (c .slot) (c .window .id) (c .notify .id)) j (listed .others j ne)
       go false false e = fill-used dir long j u
 
   gone : has (c .flags) flagDeleted ≡ true → isUsed (markedOf dir s c) (c .slot) ≡ false
@@ -170,8 +170,8 @@ module _ (f : Family) (dir bodies cells s : List ℕ) (c : Change) (p : Planned 
   -- the record's slot was used if it is no new one
   was-used : c .fresh ≡ false → isUsed dir (c .slot) ≡ true
   was-used t =
-      let w = found (most f) (start f) (isAt dir (c .a) (c .b)) (c .slot) (p .old t) in
-      used-is dir (c .slot) (at-has dir (c .a) (c .b) (c .slot) (w .2) .used)
+      let w = found (most f) (start f) (isAt dir (c .window .id) (c .notify .id)) (c .slot) (p .old t) in
+      used-is dir (c .slot) (at-has dir (c .window .id) (c .notify .id) (c .slot) (w .2) .used)
 
   room : 916 * c .slot + 916 ≤ length bodies
   room = omega (arith, a .slot, g .big)

@@ -55,14 +55,14 @@ abbrev pub recordChanged : List Row → ℕ → ℕ → Bool → List ℕ → Ch
 recordChanged rows at mark same s c m = pick (both same (not (has (c .flags) flagDeleted))) (slotAfter rows at mark s c m) m
 
 unfoldable pub followedWindow : ℕ → List ℕ → Plan → List ℕ → List ℕ
-followedWindow a s (ChangeWindow c) m = recordChanged windowFields 11 (markOf (c .flags)) (eqb (c .a) a) s c m
+followedWindow a s (ChangeWindow c) m = recordChanged windowFields 11 (markOf (c .flags)) (eqb (c .window .id) a) s c m
 followedWindow a s (ChangeNotification c) m = m
 followedWindow a s (ChangeDesktop flags) m = m
 followedWindow a s (Refuse n) m = m
 
 unfoldable pub followedNotification : ℕ → ℕ → List ℕ → Plan → List ℕ → List ℕ
 followedNotification a b s (ChangeWindow c) m = m
-followedNotification a b s (ChangeNotification c) m = recordChanged notificationFields 15 0 (both (eqb (c .a) a) (eqb (c .b) b)) s c m
+followedNotification a b s (ChangeNotification c) m = recordChanged notificationFields 15 0 (both (eqb (c .window .id) a) (eqb (c .notify .id) b)) s c m
 followedNotification a b s (ChangeDesktop flags) m = m
 followedNotification a b s (Refuse n) m = m
 

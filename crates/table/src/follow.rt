@@ -11,12 +11,22 @@ use directory::Change;
 use directory::Found;
 use directory::Plan;
 use directory::slots;
+use protocol::NotifyIconId;
+use protocol::WindowId;
 
-fn begin_record(m: &mut [u8], dir: &[u8], bodies: &[u8], first: usize, count: usize, a: u32, b: u32)
+fn begin_record(
+    m: &mut [u8],
+    dir: &[u8],
+    bodies: &[u8],
+    first: usize,
+    count: usize,
+    window: WindowId,
+    notify: NotifyIconId,
+)
     requires { ⌜ (length (now m) ≡ 916) × (44884 ≤ length (now bodies)) × (first + count ≤ 48) ⌝ }
-    ensures { λ _. ⌜ now (m .exit) ≡ beginRecord (firstFrom count first (isAt (now (dir .entry)) a b)) (now (bodies .entry)) (now (m .entry)) ⌝ }
+    ensures { λ _. ⌜ now (m .exit) ≡ beginRecord (firstFrom count first (isAt (now (dir .entry)) (window .id) (notify .id))) (now (bodies .entry)) (now (m .entry)) ⌝ }
 {
-    let f = slots::find(dir, first, count, a, b);
+    let f = slots::find(dir, first, count, window, notify);
     let Found::At(i) = f else {
         return;
     };
@@ -39,22 +49,22 @@ pub fn begin(m: &mut [u8], dir: &[u8], bodies: &[u8], cells: &[u8], want: Want)
     ensures { λ _. ⌜ now (m .exit) ≡ beginOf want (now (dir .entry)) (now (bodies .entry)) (now (cells .entry)) (now (m .entry)) ⌝ }
 {
     match want {
-        Want::Window(w) => begin_record(m, dir, bodies, 0, 32, w.id, 0),
-        Want::Notification(w, n) => begin_record(m, dir, bodies, 32, 16, w.id, n.id),
+        Want::Window(w) => begin_record(m, dir, bodies, 0, 32, w, NotifyIconId { id: 0 }),
+        Want::Notification(w, n) => begin_record(m, dir, bodies, 32, 16, w, n),
         Want::Cell(k) => begin_cell(m, cells, k),
         Want::Desktop => wire::copy_part(m, 0, bodies, 43968, 916),
         Want::Nothing => {}
     }
 }
 
-fn follow_window(m: &mut [u8], s: &[u8], p: Plan, a: u32)
+fn follow_window(m: &mut [u8], s: &[u8], p: Plan, window: WindowId)
     requires { ⌜ (length (now m) ≡ 916) × Follows (now s) p ⌝ }
-    ensures { λ _. ⌜ now (m .exit) ≡ followedWindow a (now (s .entry)) p (now (m .entry)) ⌝ }
+    ensures { λ _. ⌜ now (m .exit) ≡ followedWindow (window .id) (now (s .entry)) p (now (m .entry)) ⌝ }
 {
     let Plan::ChangeWindow(c) = p else {
         return;
     };
-    if c.a != a {
+    if c.window.id != window.id {
         return;
     }
     if c.flags & protocol::DELETED != 0 {
@@ -64,17 +74,17 @@ fn follow_window(m: &mut [u8], s: &[u8], p: Plan, a: u32)
     changes::change_slot(m, s, c, mark, 11, 1, 15);
 }
 
-fn follow_notification(m: &mut [u8], s: &[u8], p: Plan, a: u32, b: u32)
+fn follow_notification(m: &mut [u8], s: &[u8], p: Plan, window: WindowId, notify: NotifyIconId)
     requires { ⌜ (length (now m) ≡ 916) × Follows (now s) p ⌝ }
-    ensures { λ _. ⌜ now (m .exit) ≡ followedNotification a b (now (s .entry)) p (now (m .entry)) ⌝ }
+    ensures { λ _. ⌜ now (m .exit) ≡ followedNotification (window .id) (notify .id) (now (s .entry)) p (now (m .entry)) ⌝ }
 {
     let Plan::ChangeNotification(c) = p else {
         return;
     };
-    if c.a != a {
+    if c.window.id != window.id {
         return;
     }
-    if c.b != b {
+    if c.notify.id != notify.id {
         return;
     }
     if c.flags & protocol::DELETED != 0 {
@@ -129,8 +139,8 @@ pub fn follow(m: &mut [u8], s: &[u8], p: Plan, want: Want)
     ensures { λ _. ⌜ now (m .exit) ≡ followedOf want (now (s .entry)) p (now (m .entry)) ⌝ }
 {
     match want {
-        Want::Window(w) => follow_window(m, s, p, w.id),
-        Want::Notification(w, n) => follow_notification(m, s, p, w.id, n.id),
+        Want::Window(w) => follow_window(m, s, p, w),
+        Want::Notification(w, n) => follow_notification(m, s, p, w, n),
         Want::Cell(k) => follow_cell(m, s, p, k),
         Want::Desktop => follow_desktop(m, s, p),
         Want::Nothing => {}

@@ -13,8 +13,8 @@ plan-window-spec =
     (λ c. search needs)
     (λ c. search needs)
     (λ c.  -- returns
-    let a = c .before .before .before .before .before .before .before .args in
+    let a = c .before .before .before .before .before .before .before .before .args in
     window-refused (now (a .dir)) (now (a .s)) (a .o) (c .before .before .before .before .icon-number .ensures) (c .before .before .before .slot-for .ensures) (c .before .p .given .1))
     (λ c.  -- returns-2
-    let a = c .before .before .before .before .before .before .before .args in
+    let a = c .before .before .before .before .before .before .before .before .args in
     window-changes (now (a .dir)) (now (a .s)) (a .o) (c .before .before .before .before .icon-number .ensures) (c .before .before .before .slot-for .ensures) (c .before .p2 .given .1)))

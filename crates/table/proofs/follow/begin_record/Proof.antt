@@ -18,12 +18,12 @@ begin-record-spec =
     (λ c.  -- mul-copy-part
     let b = c .before .before .before .before .before .before .before .before in
     let a = b .args in
-    let l = slot-below (now (a .dir)) (a .first) (a .count) (a .a) (a .b) (c .before .before .f .given .0 .0) (c .before .before .before .before .find .ensures) (c .before .before .f .given .1) (b .pre .2) in
+    let l = slot-below (now (a .dir)) (a .first) (a .count) (a .window .id) (a .notify .id) (c .before .before .f .given .0 .0) (c .before .before .before .before .find .ensures) (c .before .before .f .given .1) (b .pre .2) in
     omega (arith, l))
     (λ c κs.  -- copy-part-requires
     let b = c .before .before .before .before .before .before .before .before in
     let a = b .args in
-    let l = slot-below (now (a .dir)) (a .first) (a .count) (a .a) (a .b) (c .before .before .f .given .0 .0) (c .before .before .before .before .find .ensures) (c .before .before .f .given .1) (b .pre .2) in
+    let l = slot-below (now (a .dir)) (a .first) (a .count) (a .window .id) (a .notify .id) (c .before .before .f .given .0 .0) (c .before .before .before .before .find .ensures) (c .before .before .f .given .1) (b .pre .2) in
     (omega (arith, b .pre .0), omega (arith, l, b .pre .1)))
     (λ c. search needs)
     (λ c.  -- returns-2
