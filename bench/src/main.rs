@@ -10,6 +10,7 @@ mod instructions;
 mod kinds;
 mod orders;
 mod plain;
+mod search;
 mod state;
 mod table;
 mod time;
@@ -20,7 +21,7 @@ use std::process::ExitCode;
 const HELP: &str = "\
 bench: the proved code beside the plain Rust of `second`
 
-  bench                check, time, instructions, chunks, orders and state, in turn
+  bench                check, time, instructions, chunks, orders, state and search, in turn
   bench check          compare the two sides' answers, words and bytes on every
                        benchmark message and on generated ones
   bench time           print nanoseconds per call as a Markdown table
@@ -48,6 +49,8 @@ bench: the proved code beside the plain Rust of `second`
                        LISTING: one, eight, full or equal; ORDERS: in the
                        journal; SIDE: proved or plain
   bench state-calls    list the state calls
+  bench search         print instructions of a window's lookup by the place that it is
+                       found in, with 32 windows listed, as a Markdown table
 
 Jobs: `read` takes a message's bytes to the 12 words of its record, judged;
 `write` takes 12 words and strings to a message's bytes in an output buffer.
@@ -78,6 +81,7 @@ fn main() -> ExitCode {
             state::one(listing, call, orders, side, calls)
         }
         ["state-calls"] => state::list(),
+        ["search"] => search::run(),
         ["--help" | "-h" | "help"] => {
             print!("{HELP}");
             Ok(())
@@ -107,7 +111,9 @@ fn everything() -> Result<(), String> {
     println!();
     orders::run()?;
     println!();
-    state::run(None)
+    state::run(None)?;
+    println!();
+    search::run()
 }
 
 fn list_messages() -> Result<(), String> {

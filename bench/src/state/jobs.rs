@@ -7,6 +7,10 @@ use crate::kinds::{self, Kind, Order};
 pub const JOURNALS: [usize; 4] = [0, 8, 32, 128];
 const MOST_BEFORE_DELIVERY: usize = 127;
 
+/// The places whose windows are looked up, counted from 1, and an id that no listing has.
+const PLACES: [Option<usize>; 4] = [Some(1), Some(16), Some(32), None];
+const UNLISTED: u32 = 0x0002_0058;
+
 /// A state call.
 pub enum Call {
     Deliver(Order),
@@ -43,6 +47,8 @@ pub struct Job {
     /// The update that the journal has copies of, or the one order that it has.
     after_mark: After,
     pub call: Call,
+    /// The number of the refusal that it meets, or none.
+    pub refused: Option<u8>,
 }
 
 enum After {
@@ -59,6 +65,7 @@ impl Job {
             at_mark: before(listing, kind),
             after_mark: After::Updates(update(listing)),
             call: Call::Deliver(kind.order().clone()),
+            refused: None,
         }
     }
 
@@ -70,6 +77,23 @@ impl Job {
             at_mark: before(listing, kind),
             after_mark: After::One(kind.order().clone()),
             call: Call::Checkpoint,
+            refused: None,
+        }
+    }
+
+    /// A lookup of the window in that place, counted from 1, or of one that is not listed.
+    pub fn search(listing: &Listing, place: Option<usize>) -> Self {
+        let (name, id) = match place {
+            Some(place) => (place.to_string(), listing.window_in(place)),
+            None => ("absent".into(), UNLISTED),
+        };
+        Self {
+            name: format!("window-{name}"),
+            label: format!("Lookup: window {name}"),
+            at_mark: listing.records(),
+            after_mark: After::Updates(update(listing)),
+            call: Call::Window(id),
+            refused: if place.is_none() { Some(9) } else { None },
         }
     }
 
@@ -121,15 +145,25 @@ pub fn all(listing: &Listing) -> Vec<Job> {
         at_mark: at_mark.clone(),
         after_mark: After::Updates(update(listing)),
         call,
+        refused: None,
     }));
     jobs
 }
 
-/// The job of that name, one of either table.
+/// The lookups of windows by their place, of a table that is full.
+pub fn searches(listing: &Listing) -> Vec<Job> {
+    let places = PLACES.into_iter().filter(|_| listing.is_full());
+    places.map(|place| Job::search(listing, place)).collect()
+}
+
+/// The job of that name, one of any table.
 pub fn named(listing: &Listing, name: &str) -> Option<Job> {
     let kinds = (1..).zip(kinds::all());
     let marks = kinds.map(|(number, kind)| Job::mark(listing, number, &kind));
-    let mut jobs = all(listing).into_iter().chain(marks);
+    let mut jobs = all(listing)
+        .into_iter()
+        .chain(marks)
+        .chain(searches(listing));
     jobs.find(|job| job.name == name)
 }
 

@@ -56,7 +56,7 @@ pub fn listings() -> Vec<Listing> {
 }
 
 impl Listing {
-    fn is_full(&self) -> bool {
+    pub fn is_full(&self) -> bool {
         !self.icons.is_empty()
     }
 
@@ -68,6 +68,11 @@ impl Listing {
     /// The notification icon that is looked up, of that window.
     pub fn notification(&self) -> (u32, u32) {
         (self.updated(), ICON)
+    }
+
+    /// The window in that place of a full table, counted from 1: the orders' window is the last.
+    pub fn window_in(&self, place: usize) -> u32 {
+        *self.windows.get(place - 1).unwrap_or(&kinds::WINDOW)
     }
 
     /// What is listed before the orders of a delivery.

@@ -6,7 +6,7 @@ mod measure;
 mod plain;
 mod proved;
 
-pub use jobs::Job;
+pub use jobs::{searches, Job};
 use jobs::{Call, JOURNALS};
 pub use listing::{listings, Listing};
 pub use measure::instructions;
@@ -217,8 +217,9 @@ fn check(job: &Job, orders: usize) -> Result<(), String> {
             given.push((answer, out));
         }
     }
-    if let Err(number) = given[0].0 {
-        return Err(format!("{}: refused with {number}", job.label));
+    if given[0].0.err() != job.refused {
+        let answer = &given[0].0;
+        return Err(format!("{} answers {answer:?}", job.label));
     }
     if given.iter().any(|one| *one != given[0]) {
         let answers: Vec<Answer> = given.iter().map(|(answer, _)| *answer).collect();
@@ -289,13 +290,14 @@ mod tests {
     use super::*;
     use crate::kinds;
 
-    /// The jobs of both tables.
+    /// The jobs of all tables.
     fn every_job() -> Vec<(Listing, Job)> {
         let mut every = Vec::new();
         for listing in listings() {
             let marks = (1..).zip(kinds::all());
             let marks = marks.map(|(number, kind)| Job::mark(&listing, number, &kind));
-            let jobs: Vec<Job> = jobs::all(&listing).into_iter().chain(marks).collect();
+            let jobs = jobs::all(&listing).into_iter().chain(marks);
+            let jobs: Vec<Job> = jobs.chain(searches(&listing)).collect();
             for job in jobs {
                 let known = listings().into_iter().find(|one| one.name == listing.name);
                 every.push((known.expect("a name"), job));
@@ -328,7 +330,7 @@ mod tests {
     #[test]
     fn names_are_found_again() {
         let jobs = every_job();
-        assert_eq!(jobs.len(), 4 * (14 + 8));
+        assert_eq!(jobs.len(), 4 * (14 + 8) + 2 * 4);
         for (listing, job) in jobs {
             let found = jobs::named(&listing, &job.name).expect("a name");
             assert_eq!(found.label, job.label);

@@ -1,5 +1,5 @@
 -- The search for a slot and the count of slots, over any test: what they say of the test. Assumes nothing.
-use mathlib.Core.Path.{_≡_, refl, sym}
+use mathlib.Core.Path.{_≡_, refl, sym, ap}
 use mathlib.Core.Bool.{Bool, true, false}
 use mathlib.Core.List.{List}
 use Prim.Native.Nat.{ℕ, zero, suc, _+_, _-_, _≤_, _<_}
@@ -8,8 +8,10 @@ use lib.Dec.{eqb}
 use borrow.Author.Tests.{eqb-true, eqb-false, not-true, not-false}
 use Rattle.wire.specs.Tests.{pick}
 use Rattle.wire.proofs.Tests.{both-left, both-right}
+use Rattle.directory.specs.declared.Found.{Found}
 use Rattle.directory.specs.declared.Found.the-variants.{At, Nothing}
-use Rattle.directory.specs.Slots.{isUsed, isFree, firstFrom, countFrom}
+use Rattle.directory.specs.declared.Searched.{Searched}
+use Rattle.directory.specs.Slots.{isUsed, isFree, firstFrom, searchFrom, countFrom, onFound}
 use Rattle.directory.specs.Sound.{slotsOk}
 
 -- ---- what the search says of the test
@@ -70,7 +72,27 @@ first-cong (suc n) i p q e =
     let h : p i ≡ q i = e i (omega arith) (omega arith) in
     rw (h, first-cong n (i + 1) p q (λ j l u. e j (omega arith) (omega arith)))
 
--- ---- the count
+-- ---- the search by id
+
+-- what it finds, without the count
+pub search-found : (test : ℕ → Bool) (first count : ℕ) {s : Searched} → s ≡ searchFrom count first test → s .found ≡ firstFrom count first test
+unfolding searchFrom
+search-found test first count e = ap (λ (s : Searched). s .found) e
+
+-- the count is that of the slots on the way: 1 where the first passes, and else 1 more than that of the rest
+pub looked-here : (n i : ℕ) (test : ℕ → Bool) → test i ≡ true → searchFrom (suc n) i test .looked ≡ 1
+unfolding searchFrom firstFrom
+looked-here n i test t = rw t (omega arith)
+
+pub looked-more : (n i : ℕ) (test : ℕ → Bool) → test i ≡ false → searchFrom (suc n) i test .looked ≡ searchFrom n (i + 1) test .looked + 1
+unfolding searchFrom firstFrom
+looked-more n i test t = rw t (go (firstFrom n (i + 1) test) refl)
+  where
+    go : (w : Found) → firstFrom n (i + 1) test ≡ w → onFound w (suc n) (λ j. j - i + 1) ≡ onFound w n (λ j. j - (i + 1) + 1) + 1
+    go (At j) e = omega (arith, found n (i + 1) test j e .0)
+    go Nothing e = omega arith
+
+-- ---- how many slots pass
 
 pub count-cong : (n i : ℕ) (p q : ℕ → Bool) → ((j : ℕ) → i ≤ j → j < i + n → p j ≡ q j) → countFrom n i p ≡ countFrom n i q
 unfolding countFrom

@@ -19,14 +19,16 @@ use Rattle.order.specs.declared.Refusal.{Refusal}
 use Rattle.order.specs.declared.Judged.{Judged}
 use Rattle.order.specs.declared.Judged.the-variants.{Window, Notification, Desktop, Refused}
 use Rattle.order.specs.Judge.{judgeOf}
+use Rattle.directory.proofs.Search.{search-found}
 use Rattle.directory.specs.declared.Found.{Found}
 use Rattle.directory.specs.declared.Found.the-variants.{At, Nothing}
+use Rattle.directory.specs.declared.Searched.{Searched}
 use Rattle.directory.specs.declared.Place.{Place}
 use Rattle.directory.specs.declared.Place.the-variants.{Slot, Not}
 use Rattle.directory.specs.declared.Change.{Change}
 use Rattle.directory.specs.declared.Plan.{Plan}
 use Rattle.directory.specs.declared.Plan.the-variants.{ChangeWindow, ChangeNotification, ChangeDesktop, Refuse}
-use Rattle.directory.specs.Slots.{isUsed, isFree, isAt, firstFrom, filledAt}
+use Rattle.directory.specs.Slots.{isUsed, isFree, isAt, firstFrom, searchFrom, filledAt}
 use Rattle.directory.specs.Plans.{freshWindow, freshNotification, cellAt, iconNumber, besidesIcon, placeOf, planWindow, planNotification, planOf}
 use Rattle.directory.specs.Marks.{listedOf, freedOf, filledOf, markedOf, clearedOf, emptiedOf}
 use Rattle.directory.specs.Sound.{slotsOk, slotOk, marksOk, soundDirectory}
@@ -94,6 +96,9 @@ module _ (dir : List ℕ) (c : ℕ) where
 pub first-start : (test : ℕ → Bool) (first count : ℕ) → firstFrom count first test ≡ firstFrom (first + count - first) first test
 first-start test first count = let e : first + count - first ≡ count = omega arith in rw e
 
+abbrev counted : Found → ℕ → Searched
+counted f n = record { found = f; looked = n }
+
 pub ok-start : (test : ℕ → Bool) (first count : ℕ) → slotsOk count first test ≡ slotsOk (first + count - first) first test
 ok-start test first count = let e : first + count - first ≡ count = omega arith in rw e
 
@@ -123,6 +128,34 @@ module _ (test : ℕ → Bool) (end i : ℕ) where
     pub ok-done : slotsOk (end - i) i test ≡ true
     unfolding slotsOk
     ok-done = let n : end - i ≡ 0 = omega arith in rw n
+
+-- ---- the search by id, which looks at slot first + looked next
+
+pub search-start : (test : ℕ → Bool) (first count : ℕ) → firstFrom count first test ≡ firstFrom (first + count - (first + 0)) (first + 0) test
+search-start test first count =
+    let k : first ≡ first + 0 = omega arith in
+    first-start test first count ∙ ap (λ (i : ℕ). firstFrom (first + count - i) i test) k
+
+module _ (test : ℕ → Bool) (first count looked : ℕ) (e : firstFrom count first test ≡ firstFrom (first + count - (first + looked)) (first + looked) test) where
+  module _ (more : looked < count) {u : Bool} (t : u ≡ test (first + looked)) where
+    pub search-here : u ≡ true → counted (At (first + looked)) (looked + 1) ≡ searchFrom count first test
+    unfolding searchFrom
+    search-here h =
+        let f : firstFrom count first test ≡ At (first + looked) = e ∙ first-here test (first + count) (first + looked) (omega arith) t h in
+        let n : looked + 1 ≡ first + looked - first + 1 = omega arith in
+        rw f (ap (counted (At (first + looked))) n)
+
+    pub search-next : u ≡ false → firstFrom count first test ≡ firstFrom (first + count - (first + (looked + 1))) (first + (looked + 1)) test
+    search-next h =
+        let k : first + looked + 1 ≡ first + (looked + 1) = omega arith in
+        e ∙ first-next test (first + count) (first + looked) (omega arith) t h ∙ ap (λ (i : ℕ). firstFrom (first + count - i) i test) k
+
+  pub search-none : looked ≤ count → count ≤ looked → counted Nothing looked ≡ searchFrom count first test
+  unfolding searchFrom
+  search-none most over =
+      let f : firstFrom count first test ≡ Nothing = e ∙ first-none test (first + count) (first + looked) (omega arith) in
+      let n : looked ≡ count = omega arith in
+      rw f (ap (counted Nothing) n)
 
 module _ (dir : List ℕ) (c : ℕ) {b : ℕ} (e : b ≡ numAt 1 dir (432 + c)) where
   pub mark-bad : 1 < b → false ≡ marksOk dir c
@@ -171,8 +204,11 @@ besides-good i n h = rw (eq-eqb n 0 h)
 pub besides-bad : (i n : ℕ) → (n ≡ 0 → ⊥) → Not n ≡ besidesIcon n i
 besides-bad i n h = rw (ne-eqb n 0 h)
 
-module _ (dir : List ℕ) (first count : ℕ) (fresh : Bool) (a b n : ℕ) {f : Found} (e : f ≡ firstFrom count first (isAt dir a b)) where
-  module _ {i : ℕ} (g : f ≡ At i) where
+module _ (dir : List ℕ) (first count : ℕ) (fresh : Bool) (a b n : ℕ) {s : Searched} (h : s ≡ searchFrom count first (isAt dir a b)) where
+  e : s .found ≡ firstFrom count first (isAt dir a b)
+  e = search-found (isAt dir a b) first count h
+
+  module _ {i : ℕ} (g : s .found ≡ At i) where
     pub place-listed : fresh ≡ true → Not 9 ≡ placeOf dir first count fresh a b n
     unfolding placeOf
     place-listed t = rw (← e, g, t)
@@ -181,7 +217,7 @@ module _ (dir : List ℕ) (first count : ℕ) (fresh : Bool) (a b n : ℕ) {f : 
     unfolding placeOf
     place-kept t x = rw (← e, g, t) x
 
-  module _ (g : f ≡ Nothing) where
+  module _ (g : s .found ≡ Nothing) where
     pub place-unlisted : fresh ≡ false → Not 9 ≡ placeOf dir first count fresh a b n
     unfolding placeOf
     place-unlisted t = rw (← e, g, t)
@@ -295,12 +331,15 @@ module _ (dir : List ℕ) (first count highest i : ℕ) {u : ℕ} (e : u ≡ num
       unfolding slotOk
       slot-high m = rw (← e, ne-eqb u 0 h, eq-eqb u 1 g, ← l, lt-ltb highest b m)
 
-      module _ (m : b ≤ highest) {f : Found} (x : f ≡ firstFrom count first (isAt dir a b)) where
-        pub slot-lost : f ≡ Nothing → false ≡ slotOk dir first count highest i
+      module _ (m : b ≤ highest) {s : Searched} (z : s ≡ searchFrom count first (isAt dir a b)) where
+        x : s .found ≡ firstFrom count first (isAt dir a b)
+        x = search-found (isAt dir a b) first count z
+
+        pub slot-lost : s .found ≡ Nothing → false ≡ slotOk dir first count highest i
         unfolding slotOk
         slot-lost y = rw (← e, ne-eqb u 0 h, eq-eqb u 1 g, ← l, le-ltb highest b m, ← k, ← x, y)
 
-        pub slot-first : {j : ℕ} → f ≡ At j → eqb j i ≡ slotOk dir first count highest i
+        pub slot-first : {j : ℕ} → s .found ≡ At j → eqb j i ≡ slotOk dir first count highest i
         unfolding slotOk
         slot-first y = rw (← e, ne-eqb u 0 h, eq-eqb u 1 g, ← l, le-ltb highest b m, ← k, ← x, y)
 

@@ -1,6 +1,6 @@
 -- The memory of a directory: slots of 9 bytes (used 1, first id 4, second id 4), 0 to 31 of windows and 32 to 47 of
 -- notification icons; from byte 432 on a mark for each of the 12 cells of the icon cache. Assumes nothing.
-use Prim.Native.Nat.{ℕ, zero, suc, _+_, _*_}
+use Prim.Native.Nat.{ℕ, zero, suc, _+_, _*_, _-_}
 use mathlib.Core.Bool.{Bool, true, false, not}
 use mathlib.Core.List.{List, [], _∷_}
 use lib.Dec.{eqb, ltb}
@@ -8,6 +8,7 @@ use Rattle.wire.specs.Tests.{pick, both}
 use Rattle.wire.specs.Numbers.{numAt}
 use Rattle.directory.specs.declared.Found.{Found}
 use Rattle.directory.specs.declared.Found.the-variants.{At, Nothing}
+use Rattle.directory.specs.declared.Searched.{Searched}
 
 -- slot i has a record
 unfoldable pub isUsed : List ℕ → ℕ → Bool
@@ -33,6 +34,11 @@ countFrom (suc n) i test = pick (test i) 1 0 + countFrom n (i + 1) test
 abbrev pub onFound : {A : Type 0} → Found → A → (ℕ → A) → A
 onFound (At i) missing found = found i
 onFound Nothing missing found = missing
+
+-- the search by id, from slot i on: the first of n slots that passes the test, and how many it looked at, which is the
+-- place of that slot counted from 1, or n where none passes
+unfoldable pub searchFrom : ℕ → ℕ → (ℕ → Bool) → Searched
+searchFrom n i test = record { found = firstFrom n i test; looked = onFound (firstFrom n i test) n (λ j. j - i + 1) }
 
 -- cell c is filled
 unfoldable pub filledAt : List ℕ → ℕ → Bool

@@ -21,6 +21,12 @@ pub enum Found {
     Nothing,
 }
 
+// What the search by id answers, and how many slots it looked at.
+pub struct Searched {
+    pub found: Found,
+    pub looked: usize,
+}
+
 // The slot of the record that an order changes, or the number of its refusal.
 pub enum Place {
     Slot(usize),

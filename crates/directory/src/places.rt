@@ -63,7 +63,8 @@ pub fn slot_for(
     requires { ⌜ first + count ≤ 48 ⌝ }
     ensures { λ r. ⌜ r ≡ placeOf (now (dir .entry)) first count fresh (window .id) (notify .id) n ⌝ }
 {
-    let f = slots::find(dir, first, count, window, notify);
+    let search = slots::find(dir, first, count, window, notify);
+    let f = search.found;
     match f {
         Found::At(i) => {
             if fresh {

@@ -3,8 +3,9 @@
 ghost use mathlib.Core.Path.{_≡_};
 ghost use Prim.Native.Nat.{_+_, _*_, _<_, _≤_};
 ghost use lib.ListN.{length};
-ghost use Rattle.directory.specs.Slots.{isUsed, isFree, isAt, firstFrom, filledAt};
+ghost use Rattle.directory.specs.Slots.{isUsed, isFree, isAt, firstFrom, searchFrom, filledAt};
 use crate::Found;
+use crate::Searched;
 use protocol::NotifyIconId;
 use protocol::WindowId;
 
@@ -23,36 +24,6 @@ pub fn is_used(dir: &[u8], i: usize) -> bool
     wire::read_u8(dir, 9 * i) == 1
 }
 
-// Slot i has the record of the ids a and b.
-fn is_at(dir: &[u8], a: u32, b: u32, i: usize) -> bool
-    requires { ⌜ i < 48 ⌝ }
-    ensures { λ r. ⌜ r ≡ isAt (now (dir .entry)) a b i ⌝ }
-{
-    if !is_used(dir, i) {
-        return false;
-    }
-    if wire::read_u32(dir, 9 * i + 1) != a {
-        return false;
-    }
-    wire::read_u32(dir, 9 * i + 5) == b
-}
-
-// The first of count slots that has the record of the ids a and b, in a memory of any length: a byte past its end counts 0.
-fn find_any(dir: &[u8], first: usize, count: usize, a: u32, b: u32) -> Found
-    requires { ⌜ first + count ≤ 48 ⌝ }
-    ensures { λ r. ⌜ r ≡ firstFrom count first (isAt (now (dir .entry)) a b) ⌝ }
-{
-    let end = first + count;
-    let mut i = first;
-    while i < end {
-        if is_at(dir, a, b, i) {
-            return Found::At(i);
-        }
-        i += 1;
-    }
-    Found::Nothing
-}
-
 // The 9 bytes of a slot that has the record of the ids a and b.
 fn has_ids(slot: &[u8], a: u32, b: u32) -> bool
     ensures { λ r. ⌜ r ≡ isAt (now (slot .entry)) a b 0 ⌝ }
@@ -66,33 +37,58 @@ fn has_ids(slot: &[u8], a: u32, b: u32) -> bool
     wire::read_u32(slot, 5) == b
 }
 
-// The first of count slots that has the record of the ids a and b, in a whole directory: its slots need no test of the end.
-fn find_whole(dir: &[u8], first: usize, count: usize, a: u32, b: u32) -> Found
-    requires { ⌜ (first + count ≤ 48) × (444 ≤ length (now dir)) ⌝ }
-    ensures { λ r. ⌜ r ≡ firstFrom count first (isAt (now (dir .entry)) a b) ⌝ }
+// Slot i of a memory that ends before a directory does: a byte past the end counts 0.
+fn is_at_cut(dir: &[u8], a: u32, b: u32, i: usize) -> bool
+    requires { ⌜ i < 48 ⌝ }
+    ensures { λ r. ⌜ r ≡ isAt (now (dir .entry)) a b i ⌝ }
 {
-    let end = first + count;
-    let mut i = first;
-    while i < end {
-        let base = 9 * i;
-        let past = base + 9;
-        if has_ids(&dir[base..past], a, b) {
-            return Found::At(i);
-        }
-        i += 1;
+    if !is_used(dir, i) {
+        return false;
     }
-    Found::Nothing
+    if wire::read_u32(dir, 9 * i + 1) != a {
+        return false;
+    }
+    wire::read_u32(dir, 9 * i + 5) == b
 }
 
-// The first of count slots that has the record of a window, whose notify-icon id is 0, or of a notification icon.
-pub fn find(dir: &[u8], first: usize, count: usize, window: WindowId, notify: NotifyIconId) -> Found
-    requires { ⌜ first + count ≤ 48 ⌝ }
-    ensures { λ r. ⌜ r ≡ firstFrom count first (isAt (now (dir .entry)) (window .id) (notify .id)) ⌝ }
+// Slot i has the record of the ids a and b. In a whole directory its bytes need no test of the end.
+fn is_at(dir: &[u8], a: u32, b: u32, i: usize) -> bool
+    requires { ⌜ i < 48 ⌝ }
+    ensures { λ r. ⌜ r ≡ isAt (now (dir .entry)) a b i ⌝ }
 {
     if dir.len() < LENGTH {
-        return find_any(dir, first, count, window.id, notify.id);
+        return is_at_cut(dir, a, b, i);
     }
-    find_whole(dir, first, count, window.id, notify.id)
+    let base = 9 * i;
+    let past = base + 9;
+    has_ids(&dir[base..past], a, b)
+}
+
+// The search by id, in a memory of any length: it goes through count slots from the first, stops at the one that has the record
+// of a window, whose notify-icon id is 0, or of a notification icon, and counts those it looked at.
+pub fn find(
+    dir: &[u8],
+    first: usize,
+    count: usize,
+    window: WindowId,
+    notify: NotifyIconId,
+) -> Searched
+    requires { ⌜ first + count ≤ 48 ⌝ }
+    ensures { λ r. ⌜ r ≡ searchFrom count first (isAt (now (dir .entry)) (window .id) (notify .id)) ⌝ }
+{
+    let a = window.id;
+    let b = notify.id;
+    let mut looked = 0;
+    while looked < count {
+        let i = first + looked;
+        looked += 1;
+        if is_at(dir, a, b, i) {
+            let found = Found::At(i);
+            return Searched { found, looked };
+        }
+    }
+    let found = Found::Nothing;
+    Searched { found, looked }
 }
 
 // The first of count slots that has no record.

@@ -14,7 +14,9 @@ use Rattle.order.specs.declared.Row.{Row}
 use Rattle.protocol.specs.declared.WindowId.{WindowId}
 use Rattle.protocol.specs.declared.NotifyIconId.{NotifyIconId}
 use Rattle.directory.specs.declared.Found.{Found}
-use Rattle.directory.specs.Slots.{isAt, firstFrom, filledAt}
+use Rattle.directory.specs.declared.Searched.{Searched}
+use Rattle.directory.specs.Slots.{isAt, firstFrom, searchFrom, filledAt}
+use Rattle.directory.proofs.Search.{search-found}
 use Rattle.directory.specs.Directory.{directoryOf}
 use Rattle.body.specs.Bodies.{windowFields, notificationFields, desktopFields, bodyOk, fieldsOk}
 use Rattle.body.specs.Stores.{roomAll}
@@ -49,8 +51,8 @@ room-as e f = f ∙ ap (λ (t : LookupTarget). roomFor (wantOf t)) (sym e)
 
 -- ---- whether it is listed
 
-pub found-is : {f g h : Found} → f ≡ g → f ≡ h → isFound h ≡ isFound g
-found-is e h = ap isFound (sym h ∙ e)
+pub found-is : (test : ℕ → Bool) (first count : ℕ) {s : Searched} {h : Found} → s ≡ searchFrom count first test → s .found ≡ h → isFound h ≡ isFound (firstFrom count first test)
+found-is test first count e h = ap isFound (sym h ∙ search-found test first count e)
 
 pub listed-as : (d : List ℕ) {target v : LookupTarget} {r : Bool} → target ≡ v → r ≡ listedIn v (directoryOf d) → r ≡ listedIn target (directoryOf d)
 listed-as d e f = f ∙ ap (λ (t : LookupTarget). listedIn t (directoryOf d)) (sym e)

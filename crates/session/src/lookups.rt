@@ -46,7 +46,8 @@ fn found(d: &[u8], first: usize, count: usize, window: WindowId, notify: NotifyI
     requires { ⌜ first + count ≤ 48 ⌝ }
     ensures { λ r. ⌜ r ≡ isFound (firstFrom count first (isAt (now (d .entry)) (window .id) (notify .id))) ⌝ }
 {
-    let f = slots::find(d, first, count, window, notify);
+    let search = slots::find(d, first, count, window, notify);
+    let f = search.found;
     match f {
         Found::At(_) => true,
         Found::Nothing => false,

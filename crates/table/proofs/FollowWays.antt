@@ -20,9 +20,10 @@ use Rattle.directory.specs.declared.Change.{Change}
 use Rattle.directory.specs.declared.Plan.{Plan}
 use Rattle.directory.specs.declared.Plan.the-variants.{ChangeWindow, ChangeNotification, ChangeDesktop, Refuse}
 use Rattle.directory.proofs.Plan.{the-type}
-use Rattle.directory.specs.Slots.{isAt, firstFrom}
+use Rattle.directory.specs.Slots.{isAt, firstFrom, searchFrom}
 use Rattle.directory.specs.Plans.{cellAt}
-use Rattle.directory.proofs.Search.{found}
+use Rattle.directory.specs.declared.Searched.{Searched}
+use Rattle.directory.proofs.Search.{found, search-found}
 use Rattle.body.specs.Bodies.{windowFields, notificationFields, slotOf}
 use Rattle.cache.specs.Cells.{cellOf, putOf}
 use Rattle.table.specs.Changes.{markOf, slotAfter, IconFits}
@@ -32,16 +33,20 @@ use Rattle.protocol.specs.Flags.{flagDeleted, flagIcon}
 
 -- ---- the beginning
 
-pub slot-below : (dir : List ℕ) (first count a b i : ℕ) {w : Found} → w ≡ firstFrom count first (isAt dir a b) → w ≡ At i → first + count ≤ 48 → i < 48
-slot-below dir first count a b i e n h = omega (arith, found count first (isAt dir a b) i (sym e ∙ n) .1)
+module _ (dir : List ℕ) (first count a b : ℕ) {s : Searched} (h : s ≡ searchFrom count first (isAt dir a b)) where
+  e : s .found ≡ firstFrom count first (isAt dir a b)
+  e = search-found (isAt dir a b) first count h
 
-module _ (bodies m : List ℕ) {w v : Found} (e : w ≡ v) where
-  pub begun-nothing : w ≡ Nothing → m ≡ beginRecord v bodies m
-  begun-nothing n = rw (← e, n)
+  pub slot-below : (i : ℕ) → s .found ≡ At i → first + count ≤ 48 → i < 48
+  slot-below i n l = omega (arith, found count first (isAt dir a b) i (sym e ∙ n) .1)
 
-  pub begun-slot : (i : ℕ) {x : List ℕ} → w ≡ At i → x ≡ splice m 0 (slice bodies (916 * i) 916) → x ≡ beginRecord v bodies m
-  unfolding slotOf
-  begun-slot i n f = rw (← e, n) f
+  module _ (bodies m : List ℕ) where
+    pub begun-nothing : s .found ≡ Nothing → m ≡ beginRecord (firstFrom count first (isAt dir a b)) bodies m
+    begun-nothing n = rw (← e, n)
+
+    pub begun-slot : (i : ℕ) {x : List ℕ} → s .found ≡ At i → x ≡ splice m 0 (slice bodies (916 * i) 916) → x ≡ beginRecord (firstFrom count first (isAt dir a b)) bodies m
+    unfolding slotOf
+    begun-slot i n f = rw (← e, n) f
 
 module _ (k : ℕ) (cells m : List ℕ) where
   pub begun-absent : 12 ≤ k → m ≡ beginCell k cells m

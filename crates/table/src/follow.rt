@@ -26,7 +26,8 @@ fn begin_record(
     requires { ⌜ (length (now m) ≡ 916) × (44884 ≤ length (now bodies)) × (first + count ≤ 48) ⌝ }
     ensures { λ _. ⌜ now (m .exit) ≡ beginRecord (firstFrom count first (isAt (now (dir .entry)) (window .id) (notify .id))) (now (bodies .entry)) (now (m .entry)) ⌝ }
 {
-    let f = slots::find(dir, first, count, window, notify);
+    let search = slots::find(dir, first, count, window, notify);
+    let f = search.found;
     let Found::At(i) = f else {
         return;
     };

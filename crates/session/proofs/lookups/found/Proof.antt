@@ -1,4 +1,6 @@
 use Rattle.session.proofs.Targets.{found-is}
+use Rattle.directory.specs.Slots.{isAt}
+use denote.Ref.{now}
 use borrow.Author.Needs.{needs}
 use Rattle.session.proofs.lookups.found.Statement.{statement}
 use Rattle.session.proofs.lookups.found.Tie as tie
@@ -11,5 +13,9 @@ found-spec =
     (λ c κs. search needs)
     (λ c. search needs)
     (λ c. search needs)
-    (λ c. found-is (c .before .before .find .ensures) (c .enum-told .given .1))  -- returns
-    (λ c. found-is (c .before .before .find .ensures) (c .enum-told2 .given .1)))  -- returns-2
+    (λ c.  -- returns
+    let a = c .before .before .before .before .args in
+    found-is (isAt (now (a .d)) (a .window .id) (a .notify .id)) (a .first) (a .count) (c .before .before .find .ensures) (c .enum-told .given .1))
+    (λ c.  -- returns-2
+    let a = c .before .before .before .before .args in
+    found-is (isAt (now (a .d)) (a .window .id) (a .notify .id)) (a .first) (a .count) (c .before .before .find .ensures) (c .enum-told2 .given .1)))

@@ -14,18 +14,18 @@ begin-record-spec =
     (λ c. search needs)
     (λ c.  -- returns
     let a = c .before .before .before .before .before .before .args in
-    begun-nothing (now (a .bodies)) (now (a .m)) (c .before .before .find .ensures) (c .enum-told .given .1))
+    begun-nothing (now (a .dir)) (a .first) (a .count) (a .window .id) (a .notify .id) (c .before .before .find .ensures) (now (a .bodies)) (now (a .m)) (c .enum-told .given .1))
     (λ c.  -- mul-copy-part
     let b = c .before .before .before .before .before .before .before .before in
     let a = b .args in
-    let l = slot-below (now (a .dir)) (a .first) (a .count) (a .window .id) (a .notify .id) (c .before .before .f .given .0 .0) (c .before .before .before .before .find .ensures) (c .before .before .f .given .1) (b .pre .2) in
+    let l = slot-below (now (a .dir)) (a .first) (a .count) (a .window .id) (a .notify .id) (c .before .before .before .before .find .ensures) (c .before .before .f .given .0 .0) (c .before .before .f .given .1) (b .pre .2) in
     omega (arith, l))
     (λ c κs.  -- copy-part-requires
     let b = c .before .before .before .before .before .before .before .before in
     let a = b .args in
-    let l = slot-below (now (a .dir)) (a .first) (a .count) (a .window .id) (a .notify .id) (c .before .before .f .given .0 .0) (c .before .before .before .before .find .ensures) (c .before .before .f .given .1) (b .pre .2) in
+    let l = slot-below (now (a .dir)) (a .first) (a .count) (a .window .id) (a .notify .id) (c .before .before .before .before .find .ensures) (c .before .before .f .given .0 .0) (c .before .before .f .given .1) (b .pre .2) in
     (omega (arith, b .pre .0), omega (arith, l, b .pre .1)))
     (λ c. search needs)
     (λ c.  -- returns-2
     let a = c .before .before .before .before .before .before .before .before .before .before .before .args in
-    begun-slot (now (a .bodies)) (now (a .m)) (c .before .before .before .before .before .before .before .find .ensures) (c .before .before .before .before .before .f .given .0 .0) (c .before .before .before .before .before .f .given .1) (c .before .before .copy-part .ensures)))
+    begun-slot (now (a .dir)) (a .first) (a .count) (a .window .id) (a .notify .id) (c .before .before .before .before .before .before .before .find .ensures) (now (a .bodies)) (now (a .m)) (c .before .before .before .before .before .f .given .0 .0) (c .before .before .before .before .before .f .given .1) (c .before .before .copy-part .ensures)))
