@@ -80,7 +80,7 @@ module _ {m : Memory} {w : JournalExtent} {d : List ℕ} {os : List (List ℕ)} 
   full-is : overFull os s ≡ isFull w s
   full-is = rw (i .logged .many, logged-bytes (i .logged))
 
-  answers : answer (deliver s) (stateIn m os) ≡ pick (eqb (numberOn d w s) 0) (grant (os ++ (s ∷ [])) nothing) (refuse (numberOn d w s))
+  pub answers : answer (deliver s) (stateIn m os) ≡ pick (eqb (numberOn d w s) 0) (grant (os ++ (s ∷ [])) nothing) (refuse (numberOn d w s))
   unfolding answer numberOn
   answers = rw (judged-is, full-is) (go (eqb (numberOf (planOf d s)) 0) (isFull w s) refl)
     where
@@ -91,7 +91,7 @@ module _ {m : Memory} {w : JournalExtent} {d : List ℕ} {os : List (List ℕ)} 
       go true false e = refl
       go false f e = rw e
 
-  changes : next (deliver s) (stateIn m os) ≡ pick (eqb (numberOn d w s) 0) (stateIn m (os ++ (s ∷ []))) (stateIn m os)
+  pub changes : next (deliver s) (stateIn m os) ≡ pick (eqb (numberOn d w s) 0) (stateIn m (os ++ (s ∷ []))) (stateIn m os)
   unfolding next numberOn
   changes = rw (judged-is, full-is) (go (eqb (numberOf (planOf d s)) 0) (isFull w s) refl)
     where
