@@ -30,7 +30,7 @@ unfolding run
 run-append t [] b = refl
 run-append t (o ∷ a) b = run-append (after t o) a b
 
-bytes-same : (os : List (List ℕ)) → bytesIn os ≡ bytesOf os
+pub bytes-same : (os : List (List ℕ)) → bytesIn os ≡ bytesOf os
 unfolding bytesIn bytesOf
 bytes-same [] = refl
 bytes-same (o ∷ os) = ap (λ (n : ℕ). length o + n) (bytes-same os)

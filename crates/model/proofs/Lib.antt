@@ -1,4 +1,5 @@
 pub mod BookState
+pub mod BookUpdates
 pub mod Demand3
 pub mod Wellformed
 pub mod Lossless

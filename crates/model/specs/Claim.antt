@@ -1,27 +1,24 @@
 -- DEMAND 3: one claim over every list of calls from an emptied state, each lent the memory as the call before left it. Assumes
 -- nothing.
+use Prim.Native.Nat.{ℕ}
 use mathlib.Core.Path.{_≡_}
 use mathlib.Core.Bool.{false}
-use mathlib.Core.List.{List, [], _∷_, map}
+use mathlib.Core.List.{List, [], _∷_}
 use Rattle.journal.specs.State.{State, present}
 use Rattle.journal.specs.View.{Memory, tooShort, formed, viewOf}
-use Rattle.session.specs.Calls.{Call, reset, Answer}
-use Rattle.session.specs.Outcome.{Request, plain, Response, responseOf, CallOutcome}
-use Rattle.model.specs.Book.{Book, newBook, tableOf, bookAfter, bookAnswers}
+use Rattle.session.specs.Calls.{reset}
+use Rattle.session.specs.Outcome.{Request, plain, Response, CallOutcome}
+use Rattle.update.specs.declared.Report.{Report}
+use Rattle.update.specs.Outcome.{UpdateOutcome}
+use Rattle.model.specs.Book.{Book, newBook, tableOf, bookAfter}
+use Rattle.model.specs.Updates.{Step, single, update, Said, responds, reports, replaced, bookSaid}
 
--- a run of calls: each meets its entry point's statement, on the output memory lent to it
-pub data Calls : Memory → List Request → List Response → Memory → Type 0 where
+-- a run of calls: each meets its entry point's statement, a single one on the output memory lent to it
+pub data Calls : Memory → List Step → List Said → Memory → Type 0 where
   none : {m : Memory} → Calls m [] [] m
-  more : {m n e : Memory} {q : Request} {r : Response} {qs : List Request} {rs : List Response} → CallOutcome q m r n → Calls n qs rs e → Calls m (q ∷ qs) (r ∷ rs) e
-
-abbrev pub callsIn : List Request → List Call
-callsIn qs = map (λ (q : Request). q .call) qs
-
--- what the entry points respond, given the answers
-unfoldable pub responsesOf : List Request → List Answer → List Response
-responsesOf [] answers = []
-responsesOf (q ∷ qs) [] = []
-responsesOf (q ∷ qs) (a ∷ answers) = responseOf q a ∷ responsesOf qs answers
+  more : {m n e : Memory} {q : Request} {r : Response} {xs : List Step} {ys : List Said} → CallOutcome q m r n → Calls n xs ys e → Calls m (single q ∷ xs) (responds r ∷ ys) e
+  moreAtOnce : {m n e : Memory} {limit : ℕ} {s : List ℕ} {r : Report} {xs : List Step} {ys : List Said} → UpdateOutcome limit s m r n → Calls n xs ys e
+      → Calls m (update limit s ∷ xs) (reports r ∷ ys) e
 
 -- memory describes the book's table and its orders after the mark
 pub record DescribesBook (e : Memory) (b : Book) : Type 0 where
@@ -30,14 +27,15 @@ pub record DescribesBook (e : Memory) (b : Book) : Type 0 where
   pub table : present state ≡ tableOf b
   pub since : state .log ≡ b .new
 
--- the responses are the book's, and the memory at the end describes the book
-pub record AsBook (qs : List Request) (rs : List Response) (e : Memory) : Type 0 where
-  pub answers : rs ≡ responsesOf qs (bookAnswers (callsIn qs) newBook)
-  pub holds : DescribesBook e (bookAfter (callsIn qs) newBook)
+-- what is said is the book's, and the memory at the end describes the book after the list with each update replaced by its
+-- deliveries
+pub record AsBook (xs : List Step) (ys : List Said) (e : Memory) : Type 0 where
+  pub answers : ys ≡ bookSaid xs newBook
+  pub holds : DescribesBook e (bookAfter (replaced xs newBook) newBook)
 
 -- memory of the measure is emptied, and then any list of calls follows, refused ones among them
 unfoldable pub Demand3 : Type 0
 Demand3 =
-    (m n e : Memory) (r : Response) (qs : List Request) (rs : List Response) → tooShort m ≡ false → CallOutcome (plain reset) m r n
-    → Calls n qs rs e
-    → AsBook qs rs e
+    (m n e : Memory) (r : Response) (xs : List Step) (ys : List Said) → tooShort m ≡ false → CallOutcome (plain reset) m r n
+    → Calls n xs ys e
+    → AsBook xs ys e

@@ -1,4 +1,5 @@
 pub mod Book
+pub mod Updates
 pub mod Claim
 pub mod Wellformed
 pub mod Lossless

@@ -6,13 +6,13 @@ use mathlib.Core.List.{List, [], _∷_, _++_, append-nil}
 use native.Mathlib.Nat.{zero-add}
 use native.Mathlib.Omega.{arith}
 use lib.Dec.{eqb, ltb}
-use lib.ListN.{length, take, drop, replicate, length-replicate, drop-of-length-le}
+use lib.ListN.{length, take, drop, replicate, length-append, length-drop, length-replicate, drop-of-length-le}
 use lib.Seq.{length-take-le, take-all, drop-at}
 use borrow.Author.Tests.{ne-eqb, lt-ltb, le-ltb}
 use Rattle.wire.specs.Tests.{pick}
 use Rattle.wire.specs.Parts.{splice}
 use Rattle.wire.specs.Numbers.{numAt, bytesOf}
-use Rattle.wire.proofs.Parts.{splice-start}
+use Rattle.wire.proofs.Parts.{splice-start, splice-after}
 use Rattle.wire.proofs.Numbers.{length-bytes}
 use Rattle.layout.specs.Layouts.{windowSize, notificationSize, desktopSize, pictureSize}
 use Rattle.journal.specs.View.{Memory}
@@ -22,8 +22,13 @@ use Rattle.session.specs.declared.LookupTarget.the-variants.{Window, Notificati
 use Rattle.session.specs.Calls.{Call, reset, deliver, checkpoint, undo, look}
 use Rattle.session.specs.Outcome.{Response, lookup, replied, handed, neededFor, CallOutcome}
 use Rattle.session.specs.Packed.{packedOf}
-use Rattle.run.specs.Script.{targetOf, changeOf, callOf, requestOf, blockLength}
-use Rattle.run.specs.Steps.{Takes, Done}
+use Rattle.update.specs.declared.Report.{Report}
+use Rattle.update.specs.Outcome.{UpdateOutcome}
+use Rattle.update.specs.Packed.{standingHalf, grantedHalf}
+use Rattle.model.specs.Updates.{Step, update, responds, reports}
+use Rattle.model.specs.Claim.{none, more, moreAtOnce}
+use Rattle.run.specs.Script.{targetOf, changeOf, callOf, requestOf, oneCall, limitSize, stepOf, blockLength}
+use Rattle.run.specs.Steps.{Takes, TakesOne, Done}
 
 -- ---- numbers of 8 bytes
 
@@ -91,47 +96,67 @@ module _ (kind : ℕ) (arg : List ℕ) where
 pub outcome-as : {c c' : Call} {m e : Memory} {r : Response} → c' ≡ c → CallOutcome (requestOf c) m r e → CallOutcome (requestOf c') m r e
 outcome-as {m = m} {e = e} {r = r} p o = subst (λ (x : Call). CallOutcome (requestOf x) m r e) (sym p) o
 
-pub done-as : {c c' : Call} {m e : Memory} {out' : List ℕ} → c' ≡ c → Done c m e out' → Done c' m e out'
-done-as {m = m} {e = e} {out' = out'} p d = subst (λ (x : Call). Done x m e out') (sym p) d
+pub done-as : {x x' : Step} {m e : Memory} {out' : List ℕ} → x' ≡ x → Done x m e out' → Done x' m e out'
+done-as {m = m} {e = e} {out' = out'} p d = subst (λ (x : Step). Done x m e out') (sym p) d
+
+-- ---- a whole update apart from the single calls
+
+module _ (kind : ℕ) (arg : List ℕ) where
+  pub is-update : kind ≡ 8 → stepOf kind arg ≡ update (numAt 4 arg 0) (drop limitSize arg)
+  unfolding stepOf
+  is-update e = rw e
+
+  pub is-single : (kind ≡ 8 → ⊥) → stepOf kind arg ≡ oneCall (callOf kind arg)
+  unfolding stepOf
+  is-single h = rw (ne-eqb kind 8 h)
 
 -- ---- the bytes of a block go by the kind
 
+abbrev oneLength : Call → ℕ
+oneLength c = 4 + neededFor c
+
 module _ (kind : ℕ) where
-  pub length-change : kind < 4 → Takes kind 4
-  length-change l = record { takes = λ arg. ap (λ (n : ℕ). 4 + n) (sym (hands-nothing kind arg)) ∙ ap blockLength (sym (is-change kind arg l)) }
+  pub length-update : kind ≡ 8 → Takes kind 8
+  length-update e = record { takes = λ arg. ap blockLength (sym (is-update kind arg e)) }
 
-  length-look : {n : ℕ} → 4 ≤ kind → ((arg : List ℕ) → n ≡ blockLength (look (targetOf kind arg))) → Takes kind n
-  length-look l f = record { takes = λ arg. f arg ∙ ap blockLength (sym (is-look kind arg l)) }
+  pub length-single : {n : ℕ} → (kind ≡ 8 → ⊥) → TakesOne kind n → Takes kind n
+  length-single h t = record { takes = λ arg. t .takes arg ∙ ap blockLength (sym (is-single kind arg h)) }
 
-  pub length-window : kind ≡ 4 → Takes kind (4 + windowSize)
+  pub length-change : kind < 4 → TakesOne kind 4
+  length-change l = record { takes = λ arg. ap (λ (n : ℕ). 4 + n) (sym (hands-nothing kind arg)) ∙ ap oneLength (sym (is-change kind arg l)) }
+
+  length-look : {n : ℕ} → 4 ≤ kind → ((arg : List ℕ) → n ≡ oneLength (look (targetOf kind arg))) → TakesOne kind n
+  length-look l f = record { takes = λ arg. f arg ∙ ap oneLength (sym (is-look kind arg l)) }
+
+  pub length-window : kind ≡ 4 → TakesOne kind (4 + windowSize)
   unfolding targetOf
   length-window e = length-look (omega (arith, e)) (λ arg. rw e)
 
-  pub length-notification : kind ≡ 5 → Takes kind (4 + notificationSize)
+  pub length-notification : kind ≡ 5 → TakesOne kind (4 + notificationSize)
   unfolding targetOf
   length-notification e = length-look (omega (arith, e)) (λ arg. rw e)
 
-  pub length-cell : kind ≡ 6 → Takes kind (4 + pictureSize)
+  pub length-cell : kind ≡ 6 → TakesOne kind (4 + pictureSize)
   unfolding targetOf
   length-cell e = length-look (omega (arith, e)) (λ arg. rw e)
 
-  pub length-desktop : 4 ≤ kind → (kind ≡ 4 → ⊥) → (kind ≡ 5 → ⊥) → (kind ≡ 6 → ⊥) → Takes kind (4 + desktopSize)
+  pub length-desktop : 4 ≤ kind → (kind ≡ 4 → ⊥) → (kind ≡ 5 → ⊥) → (kind ≡ 6 → ⊥) → TakesOne kind (4 + desktopSize)
   unfolding targetOf
   length-desktop l a b c = length-look l (λ arg. rw (ne-eqb kind 4 a, ne-eqb kind 5 b, ne-eqb kind 6 c))
 
 -- ---- the block of a call that hands nothing out
 
 pub change-block : {c : Call} {m e : Memory} {r : Reply} {v : ℕ} (out : List ℕ) {out' : List ℕ} → neededFor c ≡ 0 → CallOutcome (requestOf c) m (replied r) e
-    → length out ≡ blockLength c
+    → length out ≡ blockLength (oneCall c)
     → v ≡ packedOf r
     → out' ≡ splice out 0 (bytesOf 4 v)
-    → Done c m e out'
+    → Done (oneCall c) m e out'
 change-block {r = r} {v = v} out z o l p w =
     let h : length (bytesOf 4 v) ≡ 4 = length-bytes 4 v in
     let n : length out ≤ length (bytesOf 4 v) = omega (arith, l, z, h) in
     record {
-      response = replied r;
-      outcome = o;
+      said = responds (replied r);
+      outcome = more o none;
       block =
           w ∙ splice-start out (bytesOf 4 v) ∙ ap (λ (x : List ℕ). bytesOf 4 v ++ x) (drop-of-length-le out n)
           ∙ ap (λ (x : ℕ). bytesOf 4 x ++ []) p;
@@ -174,18 +199,51 @@ module _ (out clear : List ℕ) (n : ℕ) (l : length out ≡ 4 + n) (cl : clear
       ∙ ap (λ (y : List ℕ). part ++ y) nothing-after ∙ append-nil part in
       w ∙ splice-start x head ∙ ap (λ (y : List ℕ). head ++ y) d
 
-pub look-block : (target : LookupTarget) {m : Memory} {r : Reply} {v : ℕ} (out clear part : List ℕ) {out' : List ℕ} → length out ≡ blockLength (look target)
+pub look-block : (target : LookupTarget) {m : Memory} {r : Reply} {v : ℕ} (out clear part : List ℕ) {out' : List ℕ} → length out ≡ blockLength (oneCall (look target))
     → clear ≡ splice out 0 (replicate (length out) 0)
     → CallOutcome (lookup target (take (length out - 4) (drop 4 clear))) m (handed r part) m
     → v ≡ packedOf r
     → out' ≡ splice (take 4 clear ++ (part ++ drop (length out - 4) (drop 4 clear))) 0 (bytesOf 4 v)
-    → Done (look target) m m out'
+    → Done (oneCall (look target)) m m out'
 look-block target {m} {r} {v} out clear part {out'} l cl o p w =
     let n : ℕ = neededFor (look target) in
     record {
-      response = handed r part;
-      outcome = subst (λ (x : List ℕ). CallOutcome (lookup target x) m (handed r part) m) (lent-zeros out clear n l cl) o;
+      said = responds (handed r part);
+      outcome = more (subst (λ (x : List ℕ). CallOutcome (lookup target x) m (handed r part) m) (lent-zeros out clear n l cl) o) none;
       block =
           headed out clear n l cl part (bytesOf 4 v) out' (length-bytes 4 v) w
           ∙ ap (λ (x : ℕ). bytesOf 4 x ++ part) p;
+    }
+
+-- ---- a whole update
+
+-- the bytes after the limit
+pub after-short : (arg : List ℕ) → length arg < limitSize → (length arg ≤ length arg) × (drop (length arg) arg ≡ drop limitSize arg)
+after-short arg h =
+    let own : length arg ≤ length arg = omega arith in
+    let few : length arg ≤ limitSize = omega arith in
+    (own, drop-of-length-le arg own ∙ sym (drop-of-length-le arg few))
+
+rest-is : (arg : List ℕ) (start : ℕ) → drop start arg ≡ drop limitSize arg → take (length arg - start) (drop start arg) ≡ drop limitSize arg
+rest-is arg start e = take-all (length arg - start) (drop start arg) (omega (arith, length-drop start arg)) ∙ e
+
+pub update-block : {m e : Memory} {r : Report} {limit low high : ℕ} (arg out : List ℕ) (start : ℕ) {out' : List ℕ} → limit ≡ numAt 4 arg 0 → drop start arg ≡ drop limitSize arg
+    → UpdateOutcome limit (take (length arg - start) (drop start arg)) m r e → length out ≡ 8 → low ≡ standingHalf r → high ≡ grantedHalf r
+    → out' ≡ splice (splice out 0 (bytesOf 4 low)) 4 (bytesOf 4 high)
+    → Done (update (numAt 4 arg 0) (drop limitSize arg)) m e out'
+update-block {m} {e} {r} {limit} {low} {high} arg out start n d o l a b w =
+    let x : length (bytesOf 4 low) ≡ 4 = length-bytes 4 low in
+    let y : length (bytesOf 4 high) ≡ 4 = length-bytes 4 high in
+    let both : List ℕ = bytesOf 4 low ++ bytesOf 4 high in
+    let wide : length out ≤ length both = omega (arith, l, x, y, length-append (bytesOf 4 low) (bytesOf 4 high)) in
+    record {
+      said = reports r;
+      outcome =
+          moreAtOnce
+          (subst (λ (s : List ℕ). UpdateOutcome (numAt 4 arg 0) s m r e) (rest-is arg start d) (subst (λ (k : ℕ). UpdateOutcome k (take (length arg - start) (drop start arg)) m r e) n o))
+          none;
+      block =
+          w ∙ splice-after out 0 (bytesOf 4 low) (bytesOf 4 high) 4 (omega (arith, x)) (omega (arith, l, x, y))
+          ∙ splice-start out both ∙ ap (λ (z : List ℕ). both ++ z) (drop-of-length-le out wide) ∙ append-nil both
+          ∙ ap (λ (k : ℕ). bytesOf 4 k ++ bytesOf 4 high) a ∙ ap (λ (k : ℕ). bytesOf 4 (standingHalf r) ++ bytesOf 4 k) b;
     }

@@ -13,14 +13,14 @@ use Rattle.wire.proofs.Parts.{splice-nil, splice-after, length-splice, part-bac
 use Rattle.journal.specs.State.{run}
 use Rattle.journal.specs.View.{Memory, tooShort, formed, viewOf}
 use Rattle.session.specs.declared.Reply.{Reply}
-use Rattle.session.specs.Calls.{Call, reset}
-use Rattle.session.specs.Outcome.{Request, plain, Response, replied, CallOutcome}
-use Rattle.model.specs.Book.{newBook, bookAfter, bookAnswers}
-use Rattle.model.specs.Claim.{Calls, none, callsIn, responsesOf, DescribesBook, AsBook}
+use Rattle.session.specs.Calls.{reset}
+use Rattle.session.specs.Outcome.{plain, Response, replied, CallOutcome}
+use Rattle.model.specs.Updates.{Step, Said}
+use Rattle.model.specs.Claim.{Calls, none, AsBook}
 use Rattle.model.specs.Wellformed.{emptiedState, EmptyingGranted, EmptiedMeets}
 use Rattle.model.proofs.Demand3.{as-book, snoc, past-then, calls-past}
 use Rattle.model.proofs.Wellformed.{reset-long, emptying-granted, emptied-meets}
-use Rattle.run.specs.Script.{callOf, firstCall, itemLength, requestOf, blockOf, blockLength, endsWith, Course, endsHere, callFirst, courseFrom, courseOf, RunUnpacks, RunAs, Runs}
+use Rattle.run.specs.Script.{stepOf, firstCall, itemLength, blockOf, blockLength, endsWith, Course, endsHere, callFirst, courseFrom, courseOf, RunUnpacks, RunAs, Runs}
 use Rattle.run.specs.Steps.{Takes, endNumber, Done}
 use Rattle.run.proofs.Ends.{Going, going, number-small, course-end, course-more, size-at, call-at, block-at}
 
@@ -37,23 +37,19 @@ unfolding flatten
 flatten-more [] l = append-nil l
 flatten-more (x ∷ xs) l = ap (λ (y : List ℕ). x ++ y) (flatten-more xs l) ∙ sym (append-assoc x (flatten xs) l)
 
-calls-requests : (cs : List Call) → callsIn (map requestOf cs) ≡ cs
-calls-requests [] = refl
-calls-requests (c ∷ cs) = ap (λ (l : List Call). c ∷ l) (calls-requests cs)
-
 -- ---- what the loop keeps: n calls are done from m₀ on, the next is at index at, its block comes to index to
 
-abbrev pub blocks : List Response → List (List ℕ)
+abbrev pub blocks : List Said → List (List ℕ)
 blocks rs = map blockOf rs
 
 -- calls before a course
-abbrev pub coming : List Call → Course → Course
+abbrev pub coming : List Step → Course → Course
 coming cs p = record { calls = cs ++ p .calls; number = p .number }
 
 pub record Ran (s out₀ : List ℕ) (m₀ : Memory) (at to n ended : ℕ) (m : Memory) (out : List ℕ) : Type 0 where
-  pub made : List Call
-  pub given : List Response
-  pub calls : Calls m₀ (map requestOf made) given m
+  pub made : List Step
+  pub given : List Said
+  pub calls : Calls m₀ made given m
   pub left : courseOf s (length out₀) ≡ coming made (courseFrom (length s - n) (drop at s) (length out₀ - to))
   pub count : length made ≡ n
   pub far : n ≤ at
@@ -97,30 +93,25 @@ module _ (s out₀ : List ℕ) {m₀ : Memory} {at to n ended : ℕ} {m : Memory
     last = course-end (length s - n) (drop at s) (length out₀ - to) (omega (arith, length-drop at s, g .far)) (g .ends) over
 
     course-is : courseOf s (length out₀) ≡ record { calls = g .made; number = ended }
-    course-is = g .left ∙ ap (coming (g .made)) last ∙ ap (λ (cs : List Call). record { calls = cs; number = ended }) (append-nil (g .made))
+    course-is = g .left ∙ ap (coming (g .made)) last ∙ ap (λ (cs : List Step). record { calls = cs; number = ended }) (append-nil (g .made))
 
-    booked : AsBook (map requestOf (g .made)) (g .given) m
+    booked : AsBook (g .made) (g .given) m
     unfolding run
     booked = as-book v (g .calls)
-
-    given-is : g .given ≡ responsesOf (map requestOf (g .made)) (bookAnswers (g .made) newBook)
-    given-is =
-        booked .answers
-        ∙ ap (λ (cs : List Call). responsesOf (map requestOf (g .made)) (bookAnswers cs newBook)) (calls-requests (g .made))
 
     pub ran-end : {r : ℕ} → r ≡ ended + 256 * (n % 0x100000000000000) → RunAs (courseOf s (length out₀)) m₀ out₀ r m out
     ran-end e =
         rw course-is
         (record {
           says = e ∙ ap (λ (k : ℕ). ended + 256 * (k % 0x100000000000000)) (sym (g .count));
-          answers = g .wrote ∙ ap (λ (rs : List Response). splice out₀ 0 (flatten (blocks rs))) given-is;
-          sizes = ap (λ (rs : List Response). map length (blocks rs)) (sym given-is) ∙ g .sizes;
-          holds = subst (λ (cs : List Call). DescribesBook m (bookAfter cs newBook)) (calls-requests (g .made)) (booked .holds);
+          answers = g .wrote ∙ ap (λ (ys : List Said). splice out₀ 0 (flatten (blocks ys))) (booked .answers);
+          sizes = ap (λ (ys : List Said). map length (blocks ys)) (sym (booked .answers)) ∙ g .sizes;
+          holds = booked .holds;
           past = calls-past (g .calls);
         })
 
   module _ (more : ended ≡ 255) where
-    this : Call
+    this : Step
     this = firstCall (drop at s)
 
     goes : Going (drop at s) (length out₀ - to)
@@ -137,7 +128,7 @@ module _ (s out₀ : List ℕ) {m₀ : Memory} {at to n ended : ℕ} {m : Memory
       pub item-ends : at + 3 + size ≤ length s
       item-ends = omega (arith, goes .whole, size-at s at, z, length-drop at s, g .within)
 
-      this-is : this ≡ callOf kind arg
+      this-is : this ≡ stepOf kind arg
       unfolding this
       this-is = call-at s at k z
 
@@ -155,17 +146,17 @@ module _ (s out₀ : List ℕ) {m₀ : Memory} {at to n ended : ℕ} {m : Memory
         lent-long : length (take (to + block - to) (drop to out)) ≡ block
         lent-long = simp (length-take, length-drop) (omega (arith, block-ends))
 
-        pub lent-is : length (take (to + block - to) (drop to out)) ≡ blockLength (callOf kind arg)
+        pub lent-is : length (take (to + block - to) (drop to out)) ≡ blockLength (stepOf kind arg)
         lent-is = lent-long ∙ b .takes arg
 
-        module _ {ended' : ℕ} {e : Memory} {part out' : List ℕ} (d : Done (callOf kind arg) m e part) (kept : length part ≡ length (take (to + block - to) (drop to out))) (w : out' ≡ take to out ++ (part ++ drop (to + block - to) (drop to out))) (f : ended' ≡ endNumber (endsWith (drop (at + 3 + size) s) (length out' - (to + block)))) where
-          outcome : CallOutcome (requestOf this) m (d .response) e
-          outcome = subst (λ (x : Call). CallOutcome (requestOf x) m (d .response) e) (sym this-is) (d .outcome)
+        module _ {ended' : ℕ} {e : Memory} {part out' : List ℕ} (d : Done (stepOf kind arg) m e part) (kept : length part ≡ length (take (to + block - to) (drop to out))) (w : out' ≡ take to out ++ (part ++ drop (to + block - to) (drop to out))) (f : ended' ≡ endNumber (endsWith (drop (at + 3 + size) s) (length out' - (to + block)))) where
+          outcome : Calls m (this ∷ []) (d .said ∷ []) e
+          outcome = subst (λ (x : Step). Calls m (x ∷ []) (d .said ∷ []) e) (sym this-is) (d .outcome)
 
-          blocks-are : blocks (g .given ++ (d .response ∷ [])) ≡ blocks (g .given) ++ (part ∷ [])
-          blocks-are = map-append blockOf (g .given) (d .response ∷ []) ∙ ap (λ (x : List ℕ). blocks (g .given) ++ (x ∷ [])) (sym (d .block))
+          blocks-are : blocks (g .given ++ (d .said ∷ [])) ≡ blocks (g .given) ++ (part ∷ [])
+          blocks-are = map-append blockOf (g .given) (d .said ∷ []) ∙ ap (λ (x : List ℕ). blocks (g .given) ++ (x ∷ [])) (sym (d .block))
 
-          all-are : flatten (blocks (g .given ++ (d .response ∷ []))) ≡ flatten (blocks (g .given)) ++ part
+          all-are : flatten (blocks (g .given ++ (d .said ∷ []))) ≡ flatten (blocks (g .given)) ++ part
           all-are = ap flatten blocks-are ∙ flatten-more (blocks (g .given)) part
 
           part-long : length part ≡ block
@@ -174,14 +165,14 @@ module _ (s out₀ : List ℕ) {m₀ : Memory} {at to n ended : ℕ} {m : Memory
           put-is : out' ≡ splice out to part
           put-is = w ∙ part-back out part to (to + block - to) (omega (arith, part-long))
 
-          out-is : out' ≡ splice out₀ 0 (flatten (blocks (g .given ++ (d .response ∷ []))))
+          out-is : out' ≡ splice out₀ 0 (flatten (blocks (g .given ++ (d .said ∷ []))))
           out-is =
               let h : 0 + length (flatten (blocks (g .given))) + length part ≤ length out₀ = omega (arith, g .wide, part-long, block-ends, g .same) in
               put-is ∙ ap (λ (x : List ℕ). splice x to part) (g .wrote)
               ∙ splice-after out₀ 0 (flatten (blocks (g .given))) part to (omega (arith, g .wide)) h
               ∙ ap (splice out₀ 0) (sym all-are)
 
-          sizes-are : map length (blocks (g .given ++ (d .response ∷ []))) ≡ map blockLength (g .made ++ (this ∷ []))
+          sizes-are : map length (blocks (g .given ++ (d .said ∷ []))) ≡ map blockLength (g .made ++ (this ∷ []))
           sizes-are =
               ap (map length) blocks-are ∙ map-append length (blocks (g .given)) (part ∷ [])
               ∙ ap (λ (x : List ℕ). x ++ (length part ∷ [])) (g .sizes)
@@ -190,9 +181,6 @@ module _ (s out₀ : List ℕ) {m₀ : Memory} {at to n ended : ℕ} {m : Memory
 
           out-long : length out' ≡ length out₀
           out-long = ap length put-is ∙ length-splice out to part (omega (arith, part-long, block-ends)) ∙ g .same
-
-          requests-are : map requestOf (g .made) ++ (requestOf this ∷ []) ≡ map requestOf (g .made ++ (this ∷ []))
-          requests-are = sym (map-append requestOf (g .made) (this ∷ []))
 
           -- one call fewer is to come
           next : courseFrom (length s - n) (drop at s) (length out₀ - to) ≡ callFirst this (courseFrom (length s - (n + 1)) (drop (at + 3 + size) s) (length out₀ - (to + block)))
@@ -211,11 +199,11 @@ module _ (s out₀ : List ℕ) {m₀ : Memory} {at to n ended : ℕ} {m : Memory
               let p : Course = courseFrom (length s - (n + 1)) (drop (at + 3 + size) s) (length out₀ - (to + block)) in
               record {
                 made = g .made ++ (this ∷ []);
-                given = g .given ++ (d .response ∷ []);
-                calls = subst (λ (qs : List Request). Calls m₀ qs (g .given ++ (d .response ∷ [])) e) requests-are (snoc (g .calls) outcome);
+                given = g .given ++ (d .said ∷ []);
+                calls = snoc (g .calls) outcome;
                 left =
                     g .left ∙ ap (coming (g .made)) next
-                    ∙ ap (λ (cs : List Call). record { calls = cs; number = p .number }) (sym (append-assoc (g .made) (this ∷ []) (p .calls)));
+                    ∙ ap (λ (cs : List Step). record { calls = cs; number = p .number }) (sym (append-assoc (g .made) (this ∷ []) (p .calls)));
                 count = omega (arith, length-append (g .made) (this ∷ []), g .count);
                 far = omega (arith, g .far);
                 within = item-ends;

@@ -14,10 +14,12 @@ use Rattle.journal.specs.View.{Memory, Past, tooShort}
 use Rattle.session.specs.declared.LookupTarget.{LookupTarget}
 use Rattle.session.specs.declared.LookupTarget.the-variants.{Window, Notification, Cell, Desktop}
 use Rattle.session.specs.Calls.{Call, reset, deliver, checkpoint, undo, look}
-use Rattle.session.specs.Outcome.{Request, Response, neededFor}
+use Rattle.session.specs.Outcome.{Request, neededFor}
 use Rattle.session.specs.Packed.{packedOf}
-use Rattle.model.specs.Book.{newBook, bookAfter, bookAnswers}
-use Rattle.model.specs.Claim.{responsesOf, DescribesBook}
+use Rattle.update.specs.Packed.{standingHalf, grantedHalf}
+use Rattle.model.specs.Book.{newBook, bookAfter}
+use Rattle.model.specs.Updates.{Step, single, update, Said, responds, reports, replaced, bookSaid}
+use Rattle.model.specs.Claim.{DescribesBook}
 
 -- ---- a script: items, each its kind (1 byte), the size of what it carries (2) and so many bytes; what is missing of a call's
 -- numbers counts 0
@@ -39,6 +41,20 @@ changeOf kind arg =
 unfoldable pub callOf : ℕ → List ℕ → Call
 callOf kind arg = pick (ltb kind 4) (changeOf kind arg) (look (targetOf kind arg))
 
+-- a lookup is lent zeros, which are left where it is refused
+abbrev pub requestOf : Call → Request
+requestOf c = record { call = c; out = replicate (neededFor c) 0 }
+
+abbrev pub oneCall : Call → Step
+oneCall c = single (requestOf c)
+
+-- 8: a whole update, its limit of 4 bytes before its own
+abbrev pub limitSize : ℕ
+limitSize = 4
+
+unfoldable pub stepOf : ℕ → List ℕ → Step
+stepOf kind arg = pick (eqb kind 8) (update (numAt 4 arg 0) (drop limitSize arg)) (oneCall (callOf kind arg))
+
 -- the first item of a script: its kind, its bytes in all, and its call
 abbrev pub kindOf : List ℕ → ℕ
 kindOf s = numAt 1 s 0
@@ -46,25 +62,23 @@ kindOf s = numAt 1 s 0
 abbrev pub itemLength : List ℕ → ℕ
 itemLength s = 3 + numAt 2 s 1
 
-unfoldable pub firstCall : List ℕ → Call
-firstCall s = callOf (kindOf s) (slice s 3 (numAt 2 s 1))
+unfoldable pub firstCall : List ℕ → Step
+firstCall s = stepOf (kindOf s) (slice s 3 (numAt 2 s 1))
 
 -- ---- the answers: a block for each call, of fixed size
 
--- a lookup is lent zeros, which are left where it is refused
-abbrev pub requestOf : Call → Request
-requestOf c = record { call = c; out = replicate (neededFor c) 0 }
+-- the packed reply (4 bytes), then what a lookup hands out; of a report what stands (4) and what was granted (4)
+abbrev pub blockOf : Said → List ℕ
+blockOf (responds r) = bytesOf 4 (packedOf (r .reply)) ++ r .out
+blockOf (reports r) = bytesOf 4 (standingHalf r) ++ bytesOf 4 (grantedHalf r)
 
--- the packed reply (4 bytes), then what a lookup hands out
-abbrev pub blockOf : Response → List ℕ
-blockOf r = bytesOf 4 (packedOf (r .reply)) ++ r .out
-
-abbrev pub blockLength : Call → ℕ
-blockLength c = 4 + neededFor c
+abbrev pub blockLength : Step → ℕ
+blockLength (single q) = 4 + neededFor (q .call)
+blockLength (update limit s) = 8
 
 -- the book's
-abbrev pub blocksOf : List Call → List (List ℕ)
-blocksOf calls = map blockOf (responsesOf (map requestOf calls) (bookAnswers calls newBook))
+abbrev pub blocksOf : List Step → List (List ℕ)
+blocksOf calls = map blockOf (bookSaid calls newBook)
 
 -- ---- a run
 
@@ -75,18 +89,18 @@ endsWith s room =
     pick (eqb (length s) 0) (some 0)
     (pick (ltb (length s) 3) (some 2)
     (pick (ltb (length s) (itemLength s)) (some 3)
-    (pick (ltb 7 (kindOf s)) (some 4)
+    (pick (ltb 8 (kindOf s)) (some 4)
     (pick (ltb room (blockLength (firstCall s))) (some 14) none))))
 
 -- the calls that are done, and the number with which the run ends
 pub record Course : Type 0 where
-  pub calls : List Call
+  pub calls : List Step
   pub number : ℕ
 
 abbrev pub endsHere : ℕ → Course
 endsHere n = record { calls = []; number = n }
 
-abbrev pub callFirst : Call → Course → Course
+abbrev pub callFirst : Step → Course → Course
 callFirst c p = record { calls = c ∷ p .calls; number = p .number }
 
 abbrev pub unlessEnds : Option ℕ → Course → Course
@@ -120,7 +134,7 @@ pub record RunAs (p : Course) (m : Memory) (out : List ℕ) (r : ℕ) (e : Memor
   pub says : r ≡ packedRun p
   pub answers : out' ≡ splice out 0 (flatten (blocksOf (p .calls)))
   pub sizes : map length (blocksOf (p .calls)) ≡ map blockLength (p .calls)
-  pub holds : DescribesBook e (bookAfter (p .calls) newBook)
+  pub holds : DescribesBook e (bookAfter (replaced (p .calls) newBook) newBook)
   pub past : Past m e
 
 -- a run of the script s on the memory m, which is emptied first; where that is refused nothing changes

@@ -1,16 +1,20 @@
 -- What the steps of a run state. Assumes nothing.
-use Prim.Native.Nat.{ℕ}
+use Prim.Native.Nat.{ℕ, _+_}
 use mathlib.Core.Path.{_≡_}
-use mathlib.Core.List.{List}
+use mathlib.Core.List.{List, [], _∷_}
 use mathlib.Core.Option.{Option, none, some}
 use Rattle.journal.specs.View.{Memory}
-use Rattle.session.specs.Calls.{Call}
-use Rattle.session.specs.Outcome.{Response, CallOutcome}
-use Rattle.run.specs.Script.{callOf, requestOf, blockOf, blockLength}
+use Rattle.session.specs.Outcome.{neededFor}
+use Rattle.model.specs.Updates.{Step, Said}
+use Rattle.model.specs.Claim.{Calls}
+use Rattle.run.specs.Script.{callOf, stepOf, blockOf, blockLength}
 
--- n bytes are a block's, whatever a call of the kind carries
+-- n bytes are a block's, whatever a call of the kind carries; the same of a single call
 pub record Takes (kind n : ℕ) : Type 0 where
-  pub takes : (arg : List ℕ) → n ≡ blockLength (callOf kind arg)
+  pub takes : (arg : List ℕ) → n ≡ blockLength (stepOf kind arg)
+
+pub record TakesOne (kind n : ℕ) : Type 0 where
+  pub takes : (arg : List ℕ) → n ≡ 4 + neededFor (callOf kind arg)
 
 -- as one number: 255 where the call is done
 abbrev pub endNumber : Option ℕ → ℕ
@@ -18,7 +22,7 @@ endNumber none = 255
 endNumber (some n) = n
 
 -- a call is done, and its block stands in the output
-pub record Done (c : Call) (m e : Memory) (out' : List ℕ) : Type 0 where
-  pub response : Response
-  pub outcome : CallOutcome (requestOf c) m response e
-  pub block : out' ≡ blockOf response
+pub record Done (x : Step) (m e : Memory) (out' : List ℕ) : Type 0 where
+  pub said : Said
+  pub outcome : Calls m (x ∷ []) (said ∷ []) e
+  pub block : out' ≡ blockOf said

@@ -6,13 +6,19 @@ ghost use Rattle.wire.specs.Numbers.{numAt};
 ghost use Rattle.journal.specs.View.{memory, formed, viewOf};
 ghost use Rattle.session.specs.Calls.{look};
 ghost use Rattle.session.specs.Outcome.{replied, CallOutcome};
+ghost use Rattle.model.specs.Updates.{update};
 ghost use Rattle.model.specs.Wellformed.{emptiedState};
-ghost use Rattle.run.specs.Script.{targetOf, changeOf, callOf, requestOf, blockLength, endsWith, courseOf, RunAs, Runs};
-ghost use Rattle.run.specs.Steps.{Takes, endNumber, Done};
+ghost use Rattle.run.specs.Script.{targetOf, changeOf, callOf, requestOf, oneCall, limitSize, stepOf, blockLength, endsWith, courseOf, RunAs, Runs};
+ghost use Rattle.run.specs.Steps.{Takes, TakesOne, endNumber, Done};
 use protocol::NotifyIconId;
 use protocol::WindowId;
 use session::LookupTarget;
 use session::Reply;
+
+// The last kind, a whole update: its limit, LIMIT bytes, before its own.
+const UPDATE: u8 = 8;
+
+const LIMIT: usize = 4;
 
 // The number of 8 bytes at the start; a byte past the end counts 0.
 fn read_u64(s: &[u8]) -> u64
@@ -67,9 +73,9 @@ fn target_of(kind: u8, arg: &[u8]) -> LookupTarget
     LookupTarget::Desktop
 }
 
-// The bytes that the block of a call takes.
-fn block_length(kind: u8) -> usize
-    ensures { λ r. ⌜ Takes kind r ⌝ }
+// The bytes that the block of a single call takes.
+fn single_length(kind: u8) -> usize
+    ensures { λ r. ⌜ TakesOne kind r ⌝ }
 {
     if kind < 4 {
         return 4;
@@ -86,6 +92,16 @@ fn block_length(kind: u8) -> usize
     4 + layout::DESKTOP
 }
 
+// The bytes that the block of a call takes.
+fn block_length(kind: u8) -> usize
+    ensures { λ r. ⌜ Takes kind r ⌝ }
+{
+    if kind == UPDATE {
+        return 8;
+    }
+    single_length(kind)
+}
+
 // A lookup and its block: the reply is put before what it hands out in a field of zeros.
 fn look_up(
     dir: &[u8],
@@ -95,14 +111,69 @@ fn look_up(
     target: LookupTarget,
     out: &mut [u8],
 )
-    requires { ⌜ length (now out) ≡ blockLength (look target) ⌝ }
-    ensures { λ _. ⌜ Done (look target) (memory (now (dir .entry)) (now (bodies .entry)) (now (cells .entry)) (now (journal .entry))) (memory (now (dir .entry)) (now (bodies .entry)) (now (cells .entry)) (now (journal .entry))) (now (out .exit)) ⌝ }
+    requires { ⌜ length (now out) ≡ blockLength (oneCall (look target)) ⌝ }
+    ensures { λ _. ⌜ Done (oneCall (look target)) (memory (now (dir .entry)) (now (bodies .entry)) (now (cells .entry)) (now (journal .entry))) (memory (now (dir .entry)) (now (bodies .entry)) (now (cells .entry)) (now (journal .entry))) (now (out .exit)) ⌝ }
 {
     let end = out.len();
     wire::clear(out, 0, end);
     let r = session::lookups::look(dir, bodies, cells, journal, target, &mut out[4..end]);
     let head = session::packed::packed(r);
     wire::write_u32(out, 0, head);
+}
+
+// A single call and its block.
+fn single(
+    dir: &mut [u8],
+    bodies: &mut [u8],
+    cells: &mut [u8],
+    journal: &mut [u8],
+    kind: u8,
+    arg: &[u8],
+    out: &mut [u8],
+)
+    requires { ⌜ length (now out) ≡ blockLength (oneCall (callOf kind (now arg))) ⌝ }
+    ensures { λ _. ⌜ Done (oneCall (callOf kind (now (arg .entry)))) (memory (now (dir .entry)) (now (bodies .entry)) (now (cells .entry)) (now (journal .entry))) (memory (now (dir .exit)) (now (bodies .exit)) (now (cells .exit)) (now (journal .exit))) (now (out .exit)) ⌝ }
+{
+    if kind < 4 {
+        let r = change(dir, bodies, cells, journal, kind, arg);
+        let head = session::packed::packed(r);
+        wire::write_u32(out, 0, head);
+    } else {
+        let target = target_of(kind, arg);
+        look_up(dir, bodies, cells, journal, target, out);
+    }
+}
+
+// Where the bytes of an update begin in what its item carries: after the limit.
+fn after_limit(arg: &[u8]) -> usize
+    ensures { λ r. ⌜ (r ≤ length (now (arg .entry))) × (drop r (now (arg .entry)) ≡ drop limitSize (now (arg .entry))) ⌝ }
+{
+    if arg.len() < LIMIT {
+        return arg.len();
+    }
+    LIMIT
+}
+
+// A whole update and its block: what stands after it, and what it granted.
+fn update_all(
+    dir: &[u8],
+    bodies: &[u8],
+    cells: &[u8],
+    journal: &mut [u8],
+    arg: &[u8],
+    out: &mut [u8],
+)
+    requires { ⌜ length (now out) ≡ 8 ⌝ }
+    ensures { λ _. ⌜ Done (update (numAt 4 (now (arg .entry)) 0) (drop limitSize (now (arg .entry)))) (memory (now (dir .entry)) (now (bodies .entry)) (now (cells .entry)) (now (journal .entry))) (memory (now (dir .entry)) (now (bodies .entry)) (now (cells .entry)) (now (journal .exit))) (now (out .exit)) ⌝ }
+{
+    let limit = wire::read_u32(arg, 0);
+    let start = after_limit(arg);
+    let end = arg.len();
+    let r = update::update(dir, bodies, cells, journal, limit, &arg[start..end]);
+    let low = update::standing(r);
+    let high = update::granted(r);
+    wire::write_u32(out, 0, low);
+    wire::write_u32(out, 4, high);
 }
 
 // A call and its block.
@@ -115,16 +186,13 @@ fn call(
     arg: &[u8],
     out: &mut [u8],
 )
-    requires { ⌜ length (now out) ≡ blockLength (callOf kind (now arg)) ⌝ }
-    ensures { λ _. ⌜ Done (callOf kind (now (arg .entry))) (memory (now (dir .entry)) (now (bodies .entry)) (now (cells .entry)) (now (journal .entry))) (memory (now (dir .exit)) (now (bodies .exit)) (now (cells .exit)) (now (journal .exit))) (now (out .exit)) ⌝ }
+    requires { ⌜ length (now out) ≡ blockLength (stepOf kind (now arg)) ⌝ }
+    ensures { λ _. ⌜ Done (stepOf kind (now (arg .entry))) (memory (now (dir .entry)) (now (bodies .entry)) (now (cells .entry)) (now (journal .entry))) (memory (now (dir .exit)) (now (bodies .exit)) (now (cells .exit)) (now (journal .exit))) (now (out .exit)) ⌝ }
 {
-    if kind < 4 {
-        let r = change(dir, bodies, cells, journal, kind, arg);
-        let head = session::packed::packed(r);
-        wire::write_u32(out, 0, head);
+    if kind == UPDATE {
+        update_all(dir, bodies, cells, journal, arg, out);
     } else {
-        let target = target_of(kind, arg);
-        look_up(dir, bodies, cells, journal, target, out);
+        single(dir, bodies, cells, journal, kind, arg, out);
     }
 }
 
@@ -145,7 +213,7 @@ fn end_at(script: &[u8], at: usize, room: usize) -> u8
     if left < 3 + size {
         return 3;
     }
-    if 7 < kind {
+    if UPDATE < kind {
         return 4;
     }
     if room < block_length(kind) {

@@ -1,5 +1,5 @@
--- By the kind: four bytes for the reply, and those of the layout that a lookup of the kind hands out.
-use Rattle.run.proofs.Calls.{length-change, length-window, length-notification, length-cell, length-desktop}
+-- A report takes 8 bytes, a single call those of its kind.
+use Rattle.run.proofs.Calls.{length-update, length-single}
 use borrow.Author.Needs.{needs}
 use Rattle.run.proofs.block_length.Statement.{statement}
 use Rattle.run.proofs.block_length.Tie as tie
@@ -8,12 +8,6 @@ pub block-length-spec : {M : Type 1} → statement M
 block-length-spec =
     tie.close
     (tie.spec
-    (λ c. length-change _ (c .if1 .taken))  -- returns
-    (λ c. search needs)
-    (λ c. length-window _ (c .if2 .taken))  -- returns-2
-    (λ c. search needs)
-    (λ c. length-notification _ (c .if3 .taken))  -- returns-3
-    (λ c. search needs)
-    (λ c. length-cell _ (c .if4 .taken))  -- returns-4
-    (λ c. search needs)
-    (λ c. length-desktop _ (c .before .before .before .if1 .left) (c .before .before .if2 .left) (c .before .if3 .left) (c .if4 .left)))  -- returns-5
+    (λ c. length-update _ (c .if1 .taken))  -- returns
+    (λ c κs. search needs)
+    (λ c. length-single _ (c .before .if1 .left) (c .single-length .ensures)))  -- returns-2

@@ -1,8 +1,8 @@
--- By the kind: a change has a block of its reply alone, a lookup one of its own.
+-- An update by itself, any other kind as a single call.
 use mathlib.Core.Path.{ap, _∙_}
 use denote.Ref.{now}
 use Rattle.run.specs.Script.{blockLength}
-use Rattle.run.proofs.Calls.{is-change, looks, hands-nothing, done-as, change-block}
+use Rattle.run.proofs.Calls.{is-update, is-single, done-as}
 use borrow.Author.Needs.{needs}
 use Rattle.run.proofs.call.Statement.{statement}
 use Rattle.run.proofs.call.Tie as tie
@@ -11,29 +11,25 @@ pub call-spec : {M : Type 1} → statement M
 call-spec =
     tie.close
     (tie.spec
-    (λ c κs. search needs)
-    (λ c κs. search needs)
-    (λ c κs. search needs)
-    (λ c κs. search needs)
-    (λ c κs.  -- look-up-requires
-    let start = c .before .before .before .before .before .before .before .before .before .before .before .before .before in
-    start .pre ∙ ap blockLength (looks _ _ (c .before .before .before .before .before .before .if1 .left) (c .before .before .before .before .before .target-of .ensures)))
+    (λ c κs.  -- update-all-requires
+    let start = c .before .before .before .before .before .before .before .before .before .before .before .before in
+    start .pre ∙ ap blockLength (is-update (start .args .kind) (now (start .args .arg)) (c .before .before .before .before .before .if1 .taken)))
+    (λ c κs.  -- single-requires
+    let start = c .before .before .before .before .before .before .before .before .before .before .before .before in
+    start .pre ∙ ap blockLength (is-single (start .args .kind) (now (start .args .arg)) (c .before .before .before .before .before .if1 .left)))
     (λ c. search needs)
     (λ c. search needs)
     (λ c. search needs)
     (λ c. search needs)
     (λ c. search needs)
     (λ c.  -- returns
-    let start = c .before .before .before .before .before .before .before .before .before .before .before .before .before .before .before .before .before .before .before .before .before .before .before .before .before in
-    let kind = start .args .kind in
-    let arg = now (start .args .arg) in
-    let e = is-change kind arg (c .before .before .before .before .before .before .before .before .before .before .before .before .before .before .before .before .before .before .if1 .taken) in
-    done-as e
-    (change-block (now (start .args .out)) (hands-nothing kind arg) (c .before .before .before .before .before .before .before .before .before .before .before .before .before .change .ensures) (start .pre ∙ ap blockLength e) (c .before .before .before .before .packed .ensures)
-    (c .before .before .write-u32 .ensures)))
+    let start = c .before .before .before .before .before .before .before .before .before .before .before .before .before .before .before .before .before in
+    done-as (is-update (start .args .kind) (now (start .args .arg)) (c .before .before .before .before .before .before .before .before .before .before .if1 .taken)) (c .before .before .before .before .update-all .ensures))
     (λ c. search needs)
     (λ c. search needs)
     (λ c. search needs)
     (λ c. search needs)
     (λ c. search needs)
-    (λ c. done-as (looks _ _ (c .before .before .before .before .before .before .before .before .before .if1 .left) (c .before .before .before .before .before .before .before .before .target-of .ensures)) (c .before .before .look-up .ensures)))  -- returns-2
+    (λ c.  -- returns-2
+    let start = c .before .before .before .before .before .before .before .before .before .before .before .before .before .before .before .before .before .before .before .before .before .before .before in
+    done-as (is-single (start .args .kind) (now (start .args .arg)) (c .before .before .before .before .before .before .before .before .before .before .before .before .before .before .before .before .if1 .left)) (c .before .before .before .before .before .before .before .before .before .before .single .ensures)))
