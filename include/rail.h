@@ -146,6 +146,20 @@ uint32_t rail_deliver(const uint8_t *directory, size_t directory_size, const uin
                       const uint8_t *cells, size_t cells_size, uint8_t *journal, size_t journal_size,
                       const uint8_t *order, size_t order_size);
 
+/* Delivers the orders of a whole update, which stand in it back to back, one by one until `limit` are granted, none is left or one is
+ * refused. Each is cut by its OrderSize; where that is missing, under 7 or past the end, all that is left is delivered as one, and refused.
+ * The state memory is looked at once. Orders granted before a refusal stay, the refused one changes nothing. Its lower half
+ * (rail_update_answer) is the last number with what then stands after the mark, told whatever the number is, but for RAIL_BAD_STATE, where
+ * all else is 0; the upper one has the orders that this call granted and their bytes, so the next order begins at
+ * update + rail_update_bytes(). A limit of 0 or no bytes: nothing is delivered, and the number is 0. Refuses with 1 to 12. Only the journal
+ * is written. */
+uint64_t rail_update(const uint8_t *directory, size_t directory_size, const uint8_t *bodies, size_t bodies_size,
+                     const uint8_t *cells, size_t cells_size, uint8_t *journal, size_t journal_size,
+                     uint32_t limit, const uint8_t *update, size_t update_size);
+static inline uint32_t rail_update_answer(uint64_t report) { return (uint32_t)(report & 0xFFFFFFFFu); }
+static inline uint32_t rail_update_orders(uint64_t report) { return (uint32_t)(report >> 32 & 0xFFFFu); }
+static inline uint32_t rail_update_bytes(uint64_t report) { return (uint32_t)(report >> 48); }
+
 /* Sets the mark to the present table: nothing stands after it, all history room is free, and no step back goes over it.
  * Refuses with 1. */
 uint32_t rail_checkpoint(uint8_t *directory, size_t directory_size, uint8_t *bodies, size_t bodies_size,
@@ -173,9 +187,10 @@ uint32_t rail_desktop(const uint8_t *directory, size_t directory_size, const uin
                       uint8_t *out, size_t out_size);
 
 /* ---- A list of calls in one. Empties the state memory and does the calls of `script` on it, in turn. A call is its kind (1 byte), the
- * size of what it carries (2 bytes) and so many bytes: an order, 8 bytes of steps, or the ids of a lookup as its function takes them, in 4
- * bytes each (a cell: 1 and 2 bytes). What is missing of them counts 0. Each answer takes a block of `out`: the 4 bytes that the call itself
- * answers, and for a lookup RAIL_.._SIZE bytes more, zeros where it is refused. Numbers are little-endian.
+ * size of what it carries (2 bytes) and so many bytes: an order, 8 bytes of steps, a limit of 4 bytes and an update, or the ids of a lookup as
+ * its function takes them, in 4 bytes each (a cell: 1 and 2 bytes). What is missing of them counts 0. Each answer takes a block of `out`: the 4
+ * bytes that the call itself answers (an update: 8), and for a lookup RAIL_.._SIZE bytes more, zeros where it is refused. Numbers are
+ * little-endian.
  * Answers how many calls were done and why no further one: RAIL_DONE at the end of the script; RAIL_BAD_STATE where a part is too short, and
  * then no byte is changed; before an item that is not done RAIL_TOO_SHORT (fewer than 3 bytes are left), RAIL_LENGTH_DIFFERS (it is cut),
  * RAIL_UNKNOWN_TYPE (no such kind), RAIL_OUTPUT_TOO_SMALL (`out` has no room for its block). Of these the first that applies is given; the
@@ -188,7 +203,8 @@ enum rail_call {
     RAIL_CALL_WINDOW = 4,
     RAIL_CALL_NOTIFICATION = 5,
     RAIL_CALL_CELL = 6,
-    RAIL_CALL_DESKTOP = 7
+    RAIL_CALL_DESKTOP = 7,
+    RAIL_CALL_UPDATE = 8
 };
 uint64_t rail_run(uint8_t *directory, size_t directory_size, uint8_t *bodies, size_t bodies_size,
                   uint8_t *cells, size_t cells_size, uint8_t *journal, size_t journal_size,

@@ -141,4 +141,18 @@ static inline int rail_begins_sync(const uint8_t *order, size_t size) {
     return change.kind == RAIL_CHANGE_DESKTOP && (change.flags & RAIL_BIT_DESKTOP_ARC_BEGAN) != 0;
 }
 
+/* How many orders of an update stand before the first that begins a synchronization: a limit for rail_update. */
+static inline uint32_t rail_orders_before_sync(const uint8_t *update, size_t left) {
+    uint32_t count = 0;
+    while (left != 0) {
+        const size_t size = rail_order_size(update, left);
+        if (rail_begins_sync(update, size))
+            break;
+        count++;
+        update += size;
+        left -= size;
+    }
+    return count;
+}
+
 #endif

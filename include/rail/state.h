@@ -42,6 +42,11 @@ static inline uint32_t rail_state_deliver(struct rail_state *s, const uint8_t *o
     return rail_deliver(RAIL_STATE_PARTS(s), order_size != 0 ? order : s->directory, order_size);
 }
 
+/* The same of a whole update. */
+static inline uint64_t rail_state_update(struct rail_state *s, uint32_t limit, const uint8_t *update, size_t update_size) {
+    return rail_update(RAIL_STATE_PARTS(s), limit, update_size != 0 ? update : s->directory, update_size);
+}
+
 static inline uint32_t rail_state_checkpoint(struct rail_state *s) {
     return rail_checkpoint(RAIL_STATE_PARTS(s));
 }

@@ -186,6 +186,7 @@ int main(void) {
     test_writing();
     test_chunks();
     test_script();
+    test_updates();
     test_stack();
     printf("%d passed, %d failed\n", passed, failed);
     return failed == 0 && passed > 0 ? 0 : 1;

@@ -71,6 +71,18 @@ static void add_desktop(void) {
     add(RAIL_CALL_DESKTOP, script, 0);
 }
 
+/* Its report takes 8 bytes. */
+static void add_update(uint8_t limit) {
+    static uint8_t arg[4 + 3 * 7] = {0, 0, 0, 0, 0x2E, 7, 0, 2, 0, 0, 4, 0x2E, 7, 0, 4, 0, 0, 4, 0x2E, 7, 0, 0x80, 0, 0, 4};
+    const uint64_t report = rail_update(NOW, limit, arg + 4, sizeof arg - 4);
+    uint8_t *const more = block(rail_update_answer(report), 4);
+    unsigned i;
+    for (i = 0; i < 4; i++)
+        more[i] = (uint8_t)(report >> (32 + 8 * i) & 255u);
+    arg[0] = limit;
+    add(RAIL_CALL_UPDATE, arg, sizeof arg);
+}
+
 static void add_calls(void) {
     begin_window(WINDOW_ORDER_STATE_NEW | WINDOW_ORDER_FIELD_TITLE, 7);
     put_string(40, 0x41);
@@ -97,6 +109,9 @@ static void add_calls(void) {
     add_undo(1, 1); /* 13: more than 32 bits of steps */
     add_desktop();
     add_undo(1, 0);
+    add_update(0);
+    add_update(1);
+    add_update(9); /* the third meets 5 */
     add_notification(7, 3); /* 9 */
 }
 
@@ -136,7 +151,7 @@ void test_script(void) {
     /* an emptying, and then an item that is no call: less than its head, cut, of an unknown kind, and in this order */
     add(RAIL_CALL_RESET, script, 0);
     add(RAIL_CALL_WINDOW, script, 0);
-    script[script_size] = RAIL_CALL_DESKTOP + 1;
+    script[script_size] = RAIL_CALL_UPDATE + 1;
     script[script_size + 1] = script[script_size + 2] = 0;
     CHECK(ends(rail_run(OTHER, RAIL_JOURNAL_SIZE, script, script_size + 2, out, sizeof out), RAIL_TOO_SHORT, calls));
     CHECK(ends(rail_run(OTHER, RAIL_JOURNAL_SIZE, script, script_size + 3, out, sizeof out), RAIL_UNKNOWN_TYPE, calls));

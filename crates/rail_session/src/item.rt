@@ -1,4 +1,5 @@
 // The items of a script: each is a kind (1 byte), a length (2) and a payload.
+use crate::batch;
 use crate::faults;
 use crate::faults::Lack;
 use crate::show;
@@ -61,6 +62,7 @@ fn is_listed(kind: u8, len: usize) -> bool {
         b'C' | b'T' => len == 3,
         b'X' => len == 6,
         b'D' => true,
+        b'U' => batch::is_listed(len),
         _ => false,
     }
 }
@@ -157,6 +159,9 @@ fn call(
 ) -> usize {
     if is_lookup(kind) {
         return look_call(dir, bodies, cells, journal, kind, s, out);
+    }
+    if kind == b'U' {
+        return batch::call(dir, bodies, cells, journal, s, out);
     }
     let r = change_call(dir, bodies, cells, journal, kind, s);
     show::reply(out, kind, r)

@@ -1,4 +1,5 @@
 // Runs a call script of state calls through the library and prints what each call answers.
+mod batch;
 mod faults;
 mod item;
 mod show;

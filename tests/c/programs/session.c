@@ -120,6 +120,22 @@ static uint32_t call(const struct item *item, size_t *record) {
     }
 }
 
+/* U: the limit, and what was granted as well as what stands, whatever the last number is. Whether the run goes on. */
+static int run_update(const struct item *item) {
+    const uint64_t report = rail_update(LENT, rail_get32(item->payload), item->payload + 4, item->size - 4);
+    const uint32_t answer = rail_update_answer(report);
+    memcpy(lent, whole, sizeof lent);
+    if (changed(rail_update_orders(report) == 0 ? 4 : 3)) {
+        puts("memory changed");
+        return 0;
+    }
+    printf("U %u", rail_number(answer));
+    if (rail_number(answer) != RAIL_BAD_STATE)
+        printf(" %u %u %u %u", rail_update_orders(report), rail_update_bytes(report), rail_count(answer), rail_bytes(answer));
+    putchar('\n');
+    return 1;
+}
+
 static void print_found(const struct item *item) {
     const uint8_t *p = item->payload;
     switch (item->kind) {
@@ -154,6 +170,8 @@ static int run(const struct item *item) {
     size_t record;
     uint32_t answer;
     before = state;
+    if (item->kind == 'U')
+        return run_update(item);
     memset(out, 0xEE, sizeof out);
     answer = call(item, &record);
     memcpy(lent, whole, sizeof lent);
@@ -175,7 +193,7 @@ static int listed(const struct item *item) {
     static const char kinds[] = "EMBWNCSTX";
     static const size_t sizes[] = {0, 0, 4, 4, 8, 3, 0, 3, 6};
     const char *kind = item->kind == '\0' ? NULL : strchr(kinds, item->kind);
-    return item->kind == 'D' || (kind != NULL && sizes[kind - kinds] == item->size);
+    return item->kind == 'D' || (item->kind == 'U' && item->size >= 4) || (kind != NULL && sizes[kind - kinds] == item->size);
 }
 
 int main(void) {

@@ -1,0 +1,14 @@
+-- The update's outcome, its report packed.
+use Rattle.rail.proofs.Updates.{update-exported}
+use borrow.Author.Needs.{needs}
+use Rattle.rail.proofs.batch.rail_update.Statement.{statement}
+use Rattle.rail.proofs.batch.rail_update.Tie as tie
+
+pub rail-update-spec : {M : Type 1} → statement M
+rail-update-spec =
+    tie.close
+    (tie.spec
+    (λ c κs. search needs)
+    (λ c κs. search needs)
+    (λ c. search needs)
+    (λ c. update-exported (c .before .before .before .update .ensures) (c .packed .ensures)))  -- returns
