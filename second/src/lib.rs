@@ -2,7 +2,8 @@
 //! as a second program, so that another one can be compared with it.
 //!
 //! [`pdu`] reads and writes control messages. [`order`] judges window orders,
-//! [`table`] is what they change, and [`book`] keeps a list of them with a mark.
+//! [`table`] is what they change, [`book`] keeps a list of them with a mark, and
+//! [`update`] delivers many at once.
 //! The other modules drive these: [`script`] runs call scripts, [`generate`] makes
 //! them, [`coverage`] tells what they reach, [`compare`] runs another program on
 //! them, [`fault`] has it meet faults in its memory, [`hex`] turns hand-written text
@@ -25,3 +26,4 @@ mod program;
 pub mod script;
 pub mod support;
 pub mod table;
+pub mod update;

@@ -96,7 +96,9 @@ pub(super) fn number(line: &[u8], kind: u8) -> Option<u8> {
         None => (answer, false),
     };
     let number: u8 = number.parse().ok()?;
-    (more == (number == 0)).then_some(number)
+    // An update says what was granted and what stands whatever its last number is.
+    let says_more = number == 0 || kind == b'U' && number != STATE_UNFIT;
+    (more == says_more).then_some(number)
 }
 
 /// Whether a call may answer a number, whatever its memory is.
@@ -106,7 +108,7 @@ fn may_answer(call: &Call<'_>, number: u8, is_short: bool) -> bool {
     }
     match call {
         Call::Empty => number == 0,
-        Call::Deliver(_) => number <= ROOM_PASSED,
+        Call::Deliver(_) | Call::Update(..) => number <= ROOM_PASSED,
         Call::Mark | Call::Desktop => [0, STATE_UNFIT].contains(&number),
         Call::StepBack(_) => [0, STATE_UNFIT, TOO_MANY_STEPS].contains(&number),
         Call::Window(_) | Call::Icon(..) | Call::Cell(_) => {

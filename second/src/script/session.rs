@@ -10,9 +10,10 @@ use crate::book::Book;
 use crate::ids::{NotifyIconId, WindowId};
 use crate::number::STATE_UNFIT;
 use crate::order::CellPlace;
+use crate::update::{self, Report};
 
 /// The kinds of items.
-pub const KINDS: &[u8] = b"EDMBWNCSTX";
+pub const KINDS: &[u8] = b"EDUMBWNCSTX";
 
 /// The kinds of items that print nothing.
 pub const SILENT: &[u8] = b"TX";
@@ -24,6 +25,8 @@ pub enum Call<'a> {
     Empty,
     /// Delivery of an order.
     Deliver(&'a [u8]),
+    /// Delivery of an update's orders, up to so many.
+    Update(u32, &'a [u8]),
     /// A mark.
     Mark,
     /// That many steps back.
@@ -48,6 +51,9 @@ pub fn call<'a>(item: Item<'a>, parts: &Parts) -> Option<Call<'a>> {
     Some(match (item.kind, payload) {
         (b'E', []) => Call::Empty,
         (b'D', order) => Call::Deliver(order),
+        (b'U', &[a, b, c, d, ref orders @ ..]) => {
+            Call::Update(u32::from_le_bytes([a, b, c, d]), orders)
+        }
         (b'M', []) => Call::Mark,
         (b'B', _) => Call::StepBack(u32::from_le_bytes(payload.try_into().ok()?)),
         (b'W', _) => Call::Window(WindowId(u32::from_le_bytes(payload.try_into().ok()?))),
@@ -77,6 +83,8 @@ pub fn call<'a>(item: Item<'a>, parts: &Parts) -> Option<Call<'a>> {
 pub struct Session {
     book: Book,
     short: bool,
+    /// What the last update granted.
+    report: Report,
 }
 
 impl Session {
@@ -96,6 +104,12 @@ impl Session {
         match *call {
             Call::Empty => self.book.empty(),
             Call::Deliver(order) => self.book.deliver(order)?,
+            Call::Update(limit, orders) => {
+                self.report = update::deliver(&mut self.book, limit, orders);
+                if self.report.number != 0 {
+                    return Err(self.report.number);
+                }
+            }
             Call::Mark => self.book.mark(),
             Call::StepBack(steps) => self.book.step_back(steps)?,
             Call::Window(id) => self.book.window(id).map(drop)?,
@@ -104,6 +118,11 @@ impl Session {
             Call::Desktop | Call::Shorten | Call::Fault => {}
         }
         Ok(())
+    }
+
+    /// What the last update granted.
+    pub fn report(&self) -> Report {
+        self.report
     }
 
     /// The book as the calls have left it.
@@ -115,8 +134,13 @@ impl Session {
     fn push_line(&self, line: &mut Vec<u8>, kind: u8, call: &Call<'_>, number: u8) {
         line.push(kind);
         line.extend_from_slice(format!(" {number}").as_bytes());
-        if number != 0 {
+        let is_update = matches!(call, Call::Update(..));
+        if number == STATE_UNFIT || number != 0 && !is_update {
             return;
+        }
+        if is_update {
+            let granted = format!(" {} {}", self.report.orders, self.report.bytes);
+            line.extend_from_slice(granted.as_bytes());
         }
         let standing = self.book.standing();
         let counts = format!(" {} {}", standing.orders, standing.bytes);

@@ -6,6 +6,7 @@ use crate::hex;
 use crate::script::parts::Parts;
 use crate::script::session::{call, Call, SILENT};
 use crate::script::take_item;
+use crate::update::first;
 
 /// Fields whose bytes are texts, and those whose bytes are parts of a picture.
 const TEXTS: [&str; 3] = ["title", "tip", "text"];
@@ -41,7 +42,10 @@ pub fn explain(script: &[u8], output: &str) -> Result<String, String> {
         let line = lines.next();
         let answer = line
             .and_then(|(_, line)| line.strip_prefix(char::from(kind))?.strip_prefix(' '))
-            .and_then(answered);
+            .and_then(|line| match call {
+                Call::Update(..) => reported(line),
+                _ => answered(line),
+            });
         match answer {
             Some(answer) => text += &format!("    {answer}{}\n", why(&call, &answer)),
             None => return Err(parted(number, line)),
@@ -82,6 +86,7 @@ fn asked(call: &Call<'_>) -> String {
     match *call {
         Call::Empty => "empty".into(),
         Call::Deliver(order) => format!("deliver {} bytes: {}", order.len(), told(order)),
+        Call::Update(limit, orders) => updated(limit, orders),
         Call::Mark => "mark".into(),
         Call::StepBack(steps) => format!("step back {steps}"),
         Call::Window(id) => format!("look up window {}", id.0),
@@ -90,6 +95,39 @@ fn asked(call: &Call<'_>) -> String {
         Call::Desktop => "look up the desktop".into(),
         Call::Shorten => "lend the next call too little".into(),
         Call::Fault => "change a byte of the state memory".into(),
+    }
+}
+
+/// An update's orders, each on a line of its own.
+fn updated(limit: u32, orders: &[u8]) -> String {
+    let mut text = format!("update of {} bytes, up to {limit} orders", orders.len());
+    let mut rest = orders;
+    while !rest.is_empty() {
+        let (order, tail) = first(rest);
+        text += &format!("\n  - {} bytes: {}", order.len(), told(order));
+        rest = tail;
+    }
+    text
+}
+
+/// An update's report from its number on; none where it is none.
+fn reported(line: &str) -> Option<String> {
+    let numbers: Vec<u32> = line
+        .split(' ')
+        .map(|word| word.parse().ok())
+        .collect::<Option<_>>()?;
+    match *numbers {
+        [1] => Some(format!("refused, 1: {}", condition(1))),
+        [last @ (0 | 2..=12), granted, bytes, orders, all] => {
+            let end = match last {
+                0 => String::new(),
+                _ => format!("; the next is refused, {last}: {}", condition(last as u8)),
+            };
+            Some(format!(
+                "{granted} orders of {bytes} bytes granted{end}; {orders} orders, {all} bytes after the mark"
+            ))
+        }
+        _ => None,
     }
 }
 

@@ -4,9 +4,7 @@ use crate::book::Book;
 use crate::ids::{NotifyIconId, WindowId};
 use crate::number::ROOM_PASSED;
 use crate::script::{push_item, PAYLOAD_LIMIT};
-
-/// The bytes of the shortest order.
-const SHORTEST: usize = 7;
+use crate::update::first;
 
 /// The script of an update: each order delivered, and after each that changes the
 /// table all windows, all notification icons and the desktop state looked up. Where
@@ -16,7 +14,7 @@ pub fn script(update: &[u8]) -> Vec<u8> {
     let mut book = Book::new();
     let mut rest = update;
     while !rest.is_empty() {
-        let (order, tail) = rest.split_at(order_size(rest));
+        let (order, tail) = first(rest);
         let order = &order[..order.len().min(PAYLOAD_LIMIT)];
         let mut answer = book.deliver(order);
         if answer == Err(ROOM_PASSED) {
@@ -31,18 +29,6 @@ pub fn script(update: &[u8]) -> Vec<u8> {
         rest = tail;
     }
     script
-}
-
-/// The bytes of the first order, by its OrderSize; where it cannot be cut, all.
-fn order_size(rest: &[u8]) -> usize {
-    let size = match *rest {
-        [_, low, high, ..] => usize::from(u16::from_le_bytes([low, high])),
-        _ => 0,
-    };
-    if size < SHORTEST || size > rest.len() {
-        return rest.len();
-    }
-    size
 }
 
 fn push_lookups(script: &mut Vec<u8>, book: &Book) {

@@ -14,6 +14,7 @@ mod scripts;
 mod sets;
 mod side_by_side;
 mod table_rules;
+mod updates;
 mod vectors;
 
 use common::hex;

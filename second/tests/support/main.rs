@@ -129,7 +129,7 @@ fn all_kinds_in_words() {
         N 0700000009000000\n\
         D 2E0F0000000022 07000000 09000000\nD 2E0B000000002107000000\n\
         D 2E10003A000004 07000000 01 07000000\n\
-        D 2E070001000004\n";
+        D 2E070001000004\nU 05000000 2E070001000004 2E05\nT 00 0100\nU 00000000\n";
     let script = second(&["hex-session"], text.as_bytes()).stdout;
     let text = explained(&script).expect("an explanation");
     for line in [
@@ -147,6 +147,10 @@ fn all_kinds_in_words() {
         "16: deliver 15 bytes: notification icon 7/9 deleted",
         "17: deliver 11 bytes: window 7 deleted",
         "19: deliver 7 bytes: desktop none",
+        "20: update of 9 bytes, up to 5 orders",
+        "  - 7 bytes: desktop none",
+        "  - 2 bytes: 2 bytes, fewer than a header has",
+        "    1 orders of 7 bytes granted; the next is refused, 2: fewer than 4 bytes (PDU) or 7 bytes (order); 8 orders, 155 bytes after the mark",
     ] {
         assert!(text.lines().any(|told| told == line), "{line}\n{text}");
     }
@@ -234,7 +238,7 @@ fn explaining_by_command_line() {
 fn unfit_input_is_named() {
     let usage = "usage: second session < script (second --help)\n";
     for (input, fault) in [
-        (&update()[..], "item 1, at byte 0: 2E is no kind of item (E D M B W N C S T X). It may be a raw update: second update-to-script makes a script of it"),
+        (&update()[..], "item 1, at byte 0: 2E is no kind of item (E D U M B W N C S T X). It may be a raw update: second update-to-script makes a script of it"),
         (b"M\0\0M\x01", "item 2, at byte 3: item M is cut"),
         (b"M\0\0B\x02\0\x01\0", "item 2, at byte 3: item B cannot carry these 2 bytes"),
     ] {

@@ -3,9 +3,10 @@
 use crate::coverage::order::expected as order;
 
 /// The calls with the numbers that each can meet.
-const CALLS: [(char, &[u8]); 8] = [
+const CALLS: [(char, &[u8]); 9] = [
     ('E', &[0, 1]),
     ('D', &[0, 1, 2, 3, 4, 5, 6, 7, 8, 9, 10, 11, 12]),
+    ('U', &[0, 1, 2, 3, 4, 5, 6, 7, 8, 9, 10, 11, 12]),
     ('M', &[0, 1]),
     ('B', &[0, 1, 13]),
     ('W', &[0, 1, 9]),
@@ -31,7 +32,7 @@ const PASSING: [&str; 12] = [
 ];
 
 /// Facts of their own.
-const SINGLE: [&str; 12] = [
+const SINGLE: [&str; 25] = [
     "D orders=128 0",
     "D orders=129 12",
     "D bytes=32768 0",
@@ -44,6 +45,19 @@ const SINGLE: [&str; 12] = [
     "B restores icons",
     "B restores cells",
     "B restores desktop",
+    "U limit 0",
+    "U limit 1 reached",
+    "U limit reached, more left",
+    "U limit reached, none left",
+    "U limit not reached",
+    "U no bytes",
+    "U refused first",
+    "U refused after others",
+    "U over 64 orders granted",
+    "U size missing",
+    "U size under 7",
+    "U size past the end",
+    "U orders granted, and 12",
 ];
 
 /// All expected facts.

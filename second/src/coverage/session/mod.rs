@@ -11,6 +11,7 @@ use crate::script::parts::Parts;
 use crate::script::session::{call, Call, Session};
 use crate::script::take_item;
 use crate::table::Table;
+use crate::update::Report;
 
 /// Runs the generated scripts of the seeds `from` to `to`. A fact is a text such
 /// as `D new window 10` (call, sort of order, number) or `D title=522 8` (with a
@@ -59,6 +60,9 @@ impl Coverage {
                 self.facts.add_order(order, &listed, number);
                 self.add_room(standing, order, number);
             }
+            (Call::Update(limit, orders), _) => {
+                self.add_update(*limit, orders, session.report());
+            }
             (Call::StepBack(steps), Some(before)) => {
                 self.add_steps(*steps as usize, standing.orders, number);
                 self.add_restored(&before, session.book().table());
@@ -79,6 +83,49 @@ impl Coverage {
                 refusal: ROOM_PASSED,
             };
             self.facts.add_room(&room, number);
+        }
+    }
+
+    /// Where an update stopped, and how the piece at which it stopped was cut.
+    fn add_update(&mut self, limit: u32, orders: &[u8], report: Report) {
+        let left = &orders[report.bytes..];
+        if orders.is_empty() {
+            self.add("U no bytes".into());
+        }
+        if limit == 0 && !orders.is_empty() {
+            self.add("U limit 0".into());
+        }
+        if limit > 0 && report.orders == limit {
+            if limit == 1 {
+                self.add("U limit 1 reached".into());
+            }
+            let what = if left.is_empty() { "none" } else { "more" };
+            self.add(format!("U limit reached, {what} left"));
+        }
+        if report.number == 0 && report.orders < limit {
+            self.add("U limit not reached".into());
+        }
+        if report.orders > 64 {
+            self.add("U over 64 orders granted".into());
+        }
+        if report.number == 0 {
+            return;
+        }
+        let what = if report.orders == 0 {
+            "first"
+        } else {
+            "after others"
+        };
+        self.add(format!("U refused {what}"));
+        if report.orders > 0 && report.number == ROOM_PASSED {
+            self.add("U orders granted, and 12".into());
+        }
+        let size = left.get(1..3).map(|size| [size[0], size[1]]);
+        match size.map(u16::from_le_bytes).map(usize::from) {
+            None => self.add("U size missing".into()),
+            Some(0..=6) => self.add("U size under 7".into()),
+            Some(size) if size > left.len() => self.add("U size past the end".into()),
+            Some(_) => {}
         }
     }
 

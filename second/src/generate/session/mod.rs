@@ -6,6 +6,7 @@ mod faults;
 mod good;
 mod pair;
 mod slot;
+mod updates;
 
 use good::Maker;
 pub use pair::{may_change_places, pair, pair_for_one};
@@ -134,9 +135,10 @@ impl Writer<'_> {
 
     /// Each call as often as the others.
     fn any_call(&mut self) -> (u8, Vec<u8>) {
-        match self.random.below(6) {
+        match self.random.below(7) {
             0 => (b'E', Vec::new()),
             1 => (b'D', self.order()),
+            6 => self.update(),
             2 => (b'M', Vec::new()),
             3 => self.step_back(),
             _ => self.lookup(),
@@ -145,7 +147,8 @@ impl Writer<'_> {
 
     fn any(&mut self) -> (u8, Vec<u8>) {
         match self.random.below(100) {
-            0..=63 => (b'D', self.order()),
+            0..=55 => (b'D', self.order()),
+            56..=63 => self.update(),
             64..=86 => self.lookup(),
             87..=93 => self.step_back(),
             94..=96 => (b'M', Vec::new()),
@@ -214,6 +217,9 @@ impl Writer<'_> {
     /// Small orders until no more fit, then any, and rarely a mark.
     fn fill_orders(&mut self) -> (u8, Vec<u8>) {
         if self.session.book().standing().orders < ORDERS_ROOM {
+            if self.random.chance(4) {
+                return self.update_of_small();
+            }
             return (b'D', self.maker().small());
         }
         match self.random.below(10) {
@@ -322,7 +328,7 @@ impl Writer<'_> {
             }
             2 => push_item(script, random.pick(b"ARPdmZ\0\xff"), &[]),
             3 => push_item(script, random.pick(b"EMSBWNCTX"), &[0; 9]),
-            4 => push_item(script, random.pick(b"BWNCTX"), &[1, 0]),
+            4 => push_item(script, random.pick(b"BWNCTXU"), &[1, 0]),
             5 if parts < 256 => push_item(script, b'T', &[part, 1, 0]),
             6 if parts < 256 => push_item(script, b'X', &[part, 0, 0, 0, 0, 1]),
             5 | 6 => push_item(script, b'X', &[0, 0, 0, 1, 0, 1]),
