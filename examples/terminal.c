@@ -247,22 +247,41 @@ static void start_afresh(void) {
     known_count = 0;
 }
 
-/* Takes the orders of an update one by one. One that is refused is one order lost: those granted stand, and the next is judged by
- * itself. The mark stays where it is, so that they can be stepped back, until the history is full. */
+/* Learns what the granted orders of an update name; with the last of them `count` stand after the mark. */
+static void learn_all(const uint8_t *at, size_t granted, uint32_t orders, uint32_t count) {
+    size_t length;
+    for (count -= orders; granted != 0; granted -= length, at += length) {
+        length = rail_order_size(at, granted);
+        learn(rail_change_of(at, length), ++count);
+    }
+}
+
+/* Takes the orders of an update: as many in one call as come before a synchronization, then by itself the one at which that call stopped.
+ * One that is refused is one order lost: those granted stand, and the next is judged by itself. The mark stays where it is, so that they can
+ * be stepped back, until the history is full. */
 static void take_update(const uint8_t *update, size_t size) {
-    size_t at, length, taken = 0;
-    for (at = 0; at < size; at += length) {
-        length = rail_order_size(update + at, size - at);
-        const uint32_t number = rail_number(take(update + at, length));
+    size_t at = 0, taken = 0;
+    while (at < size) {
+        const uint64_t report = rail_state_update(&state, rail_orders_before_sync(update + at, size - at), update + at, size - at);
+        const uint32_t granted = rail_update_bytes(report);
+        uint32_t number = rail_number(rail_update_answer(report));
+        learn_all(update + at, granted, rail_update_orders(report), rail_count(rail_update_answer(report)));
+        at += granted;
+        taken += rail_update_orders(report);
+        if (number != RAIL_BAD_STATE && at < size) {
+            const size_t length = rail_order_size(update + at, size - at);
+            number = rail_number(take(update + at, length));
+            if (number == RAIL_DONE)
+                taken++;
+            else if (number != RAIL_BAD_STATE)
+                printf("  order at byte %zu refused, %u: %s\n", at, number, rail_number_words(number));
+            at += length;
+        }
         if (number == RAIL_BAD_STATE) {
             puts("  state memory damaged: emptied");
             start_afresh();
             break;
         }
-        if (number == RAIL_DONE)
-            taken++;
-        else
-            printf("  order at byte %zu refused, %u: %s\n", at, number, rail_number_words(number));
     }
     const uint32_t history = rail_state_history(&state);
     printf("  %zu orders taken; %u with %u bytes stand after the mark\n", taken, rail_count(history), rail_bytes(history));

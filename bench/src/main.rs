@@ -14,6 +14,7 @@ mod search;
 mod state;
 mod table;
 mod time;
+mod updates;
 
 use std::env;
 use std::process::ExitCode;
@@ -21,7 +22,8 @@ use std::process::ExitCode;
 const HELP: &str = "\
 bench: the proved code beside the plain Rust of `second`
 
-  bench                check, time, instructions, chunks, orders, state and search, in turn
+  bench                check, time, instructions, chunks, orders, state, search and
+                       updates, in turn
   bench check          compare the two sides' answers, words and bytes on every
                        benchmark message and on generated ones
   bench time           print nanoseconds per call as a Markdown table
@@ -51,6 +53,11 @@ bench: the proved code beside the plain Rust of `second`
   bench state-calls    list the state calls
   bench search         print instructions of a window's lookup by the place that it is
                        found in, with 32 windows listed, as a Markdown table
+  bench updates        print instructions per order in a whole update, with its share of
+                       the validation, as a Markdown table, beside the book of `second`
+  bench update-one LISTING ORDER LIMIT SIDE N
+                       make N calls and print nothing, for callgrind. ORDER: a label of
+                       that table; SIDE: rail_update or plain_update
 
 Jobs: `read` takes a message's bytes to the 12 words of its record, judged;
 `write` takes 12 words and strings to a message's bytes in an output buffer.
@@ -82,6 +89,10 @@ fn main() -> ExitCode {
         }
         ["state-calls"] => state::list(),
         ["search"] => search::run(),
+        ["updates"] => updates::run(),
+        ["update-one", listing, order, limit, side, calls] => {
+            updates::one(listing, order, limit, side, calls)
+        }
         ["--help" | "-h" | "help"] => {
             print!("{HELP}");
             Ok(())
@@ -113,7 +124,9 @@ fn everything() -> Result<(), String> {
     println!();
     state::run(None)?;
     println!();
-    search::run()
+    search::run()?;
+    println!();
+    updates::run()
 }
 
 fn list_messages() -> Result<(), String> {

@@ -35,6 +35,19 @@ extern "C" {
         order: *const u8,
         order_length: usize,
     ) -> u32;
+    fn rail_update(
+        directory: *const u8,
+        directory_length: usize,
+        bodies: *const u8,
+        bodies_length: usize,
+        cells: *const u8,
+        cells_length: usize,
+        journal: *mut u8,
+        journal_length: usize,
+        limit: u32,
+        orders: *const u8,
+        orders_length: usize,
+    ) -> u64;
     fn rail_checkpoint(
         directory: *mut u8,
         directory_length: usize,
@@ -161,6 +174,26 @@ pub(crate) fn deliver(lent: &mut LentSession<'_>, order: &[u8]) -> u32 {
             lent.journal.len(),
             order.as_ptr(),
             order.len(),
+        )
+    }
+}
+
+pub(crate) fn update(lent: &mut LentSession<'_>, limit: u32, orders: &[u8]) -> u64 {
+    // SAFETY: only the journal is written, which is borrowed mutably and so apart
+    // from the other parts and from the orders; each has its own length.
+    unsafe {
+        rail_update(
+            lent.directory.as_ptr(),
+            lent.directory.len(),
+            lent.bodies.as_ptr(),
+            lent.bodies.len(),
+            lent.cells.as_ptr(),
+            lent.cells.len(),
+            lent.journal.as_mut_ptr(),
+            lent.journal.len(),
+            limit,
+            orders.as_ptr(),
+            orders.len(),
         )
     }
 }

@@ -57,6 +57,7 @@ pub mod protocol;
 mod record;
 mod session;
 mod text;
+mod update;
 
 pub use answer::{Found, Refusal, Standing, UnknownNumber};
 pub use channel::{Channel, CHUNK_SIZE};
@@ -71,6 +72,7 @@ pub use record::{
 };
 pub use session::{NotificationIcons, Session, Windows};
 pub use text::{text_lossy, utf16_bytes};
+pub use update::{Report, Taken};
 
 /// The Rust of the guide compiles.
 #[cfg(doctest)]

@@ -8,6 +8,7 @@ use crate::answer::{state_answer, Found, Refusal, Standing};
 use crate::ffi;
 use crate::ids::{NotifyIconId, WindowId};
 use crate::record::{CacheCell, Desktop, NotificationIcon, Picture, Window};
+use crate::update::Report;
 
 /// The bytes needed of part 0: which ids are listed and which cells are filled.
 pub const DIRECTORY_SIZE: usize = 444;
@@ -147,6 +148,15 @@ impl<'a> LentSession<'a> {
     /// The first of the numbers 1 to 12 that applies.
     pub fn deliver(&mut self, order: &[u8]) -> Result<Standing, Refusal> {
         state_answer(ffi::deliver(self, order))
+    }
+
+    /// Delivers the orders of a whole update one by one, until `limit` are granted, none
+    /// is left or one is refused: see [`Session::update`](crate::Session::update).
+    ///
+    /// # Errors
+    /// [`Refusal::UnfitMemory`]. The refusal of an order is in the report.
+    pub fn update(&mut self, limit: u32, update: &[u8]) -> Result<Report, Refusal> {
+        Report::of(ffi::update(self, limit, update))
     }
 
     /// Sets a checkpoint: nothing before it can be taken back, and the room for

@@ -8,8 +8,9 @@ use crate::answer::{Refusal, Standing};
 use crate::ids::{NotifyIconId, WindowId};
 use crate::memory::Memory;
 use crate::names::Names;
-use crate::order::{Change, Changed};
+use crate::order::{orders, Change, Changed};
 use crate::record::{CacheCell, Desktop, NotificationIcon, Picture, Window};
+use crate::update::{Report, Taken};
 
 /// What the orders of a server make of the terminal's table: windows, notification
 /// icons, icon cache and desktop.
@@ -94,6 +95,75 @@ impl Session {
         self.standing = self.memory.lend().deliver(order)?;
         self.names.learn(order, self.standing);
         Ok(self.standing)
+    }
+
+    /// Delivers the orders of a whole update, which stand in it back to back, one by one
+    /// until `limit` are granted, none is left or one is refused. Each is cut by its
+    /// OrderSize, as [`orders`](crate::orders) cuts. Orders granted before a refusal stay,
+    /// and the refused one changes nothing; the update may have any length.
+    ///
+    /// ```
+    /// use rail::{Refusal, Session};
+    ///
+    /// let window = [0x2E, 11, 0, 0, 0, 0, 0x11, 1, 0, 0, 0];
+    /// let update = [window, window].concat();
+    /// let mut session = Session::new();
+    /// let report = session.update(u32::MAX, &update);
+    /// assert_eq!((report.orders, report.bytes), (1, 11));
+    /// assert_eq!(report.refusal, Some(Refusal::WrongId)); // the window is new only once
+    /// assert_eq!(report.standing, session.standing());
+    /// ```
+    pub fn update(&mut self, limit: u32, update: &[u8]) -> Report {
+        let report = granted(self.memory.lend().update(limit, update));
+        let mut standing = self.standing;
+        for order in orders(&update[..report.bytes]) {
+            standing.orders += 1;
+            self.names.learn(order, standing);
+        }
+        self.standing = report.standing;
+        report
+    }
+
+    /// Takes a whole update as [`take`](Self::take) takes an order: with a checkpoint
+    /// where the history is full, and all windows and notification icons gone before a
+    /// synchronization. A refused order is passed over.
+    ///
+    /// ```
+    /// use rail::{Change, Session, WindowId};
+    ///
+    /// let window = [0x2E, 11, 0, 0, 0, 0, 0x11, 1, 0, 0, 0];
+    /// let mut session = Session::new();
+    /// let taken = session.take_update(&[window, window].concat());
+    /// assert_eq!(taken.changed[0].what, Change::WindowNew(WindowId(1)));
+    /// assert_eq!(taken.refused, [(11, rail::Refusal::WrongId)]);
+    /// ```
+    pub fn take_update(&mut self, update: &[u8]) -> Taken {
+        let mut taken = Taken::default();
+        let mut at = 0;
+        while at < update.len() {
+            let rest = &update[at..];
+            // Up to an order that begins a synchronization, which is taken by itself.
+            let plain = |order: &&[u8]| !Changed::of(order).is_some_and(|it| it.begins_sync());
+            let limit = orders(rest).take_while(plain).count() as u32;
+            let report = self.update(limit, rest);
+            let (done, left) = rest.split_at(report.bytes);
+            taken.changed.extend(orders(done).filter_map(Changed::of));
+            at += report.bytes;
+            match report.refusal {
+                Some(Refusal::HistoryFull) => self.checkpoint(),
+                _ => {
+                    let Some(order) = orders(left).next() else {
+                        break;
+                    };
+                    match report.refusal.map_or_else(|| self.take(order), Err) {
+                        Ok(changed) => taken.changed.push(changed),
+                        Err(refusal) => taken.refused.push((at, refusal)),
+                    }
+                    at += order.len();
+                }
+            }
+        }
+        taken
     }
 
     /// Delivers a windowing order as a terminal in daily use does, and tells what it

@@ -105,6 +105,10 @@ fn make_owned(session: &mut Session, call: &Call<'_>) -> Result<Standing, Refusa
     match *call {
         Call::Empty => session.reset(),
         Call::Deliver(order) => return session.deliver(order),
+        Call::Update(limit, orders) => {
+            let report = session.update(limit, orders);
+            return report.refusal.map_or(Ok(report.standing), Err);
+        }
         Call::Mark => session.checkpoint(),
         Call::StepBack(steps) => return session.undo(steps.into()),
         _ => {}

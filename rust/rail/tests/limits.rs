@@ -63,6 +63,8 @@ fn shorter_memory() {
         for call in [
             Call::Empty,
             Call::Deliver(&NEW_WINDOW),
+            Call::Update(1, &NEW_WINDOW),
+            Call::Update(0, &[]),
             Call::Mark,
             Call::StepBack(0),
             Call::Desktop,

@@ -3,7 +3,7 @@
 
 mod common;
 
-use common::{lend, make, steps, Record};
+use common::{lend, make, number_of, steps, Record};
 use rail::Memory;
 use second::generate::random::Random;
 use second::generate::session::{may_change_places, pair, pair_for_one, script};
@@ -80,8 +80,7 @@ fn states(mut each: impl FnMut(&Memory, &BookSession, &mut Random)) {
         for (at, step) in whole.enumerate() {
             let number = book.make(&step.call);
             let answer = make(&mut memory.lend(), &step.call);
-            let answered = answer.map_or_else(|refusal| refusal.number(), |_| 0);
-            assert_eq!(Some(answered), number);
+            assert_eq!(Some(number_of(&answer)), number);
             if at % EVERY == 0 {
                 each(&memory, &book, &mut random);
             }

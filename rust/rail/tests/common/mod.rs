@@ -6,7 +6,7 @@ pub mod layout;
 
 use rail::{
     CacheCell, Desktop, LentSession, Memory, NotificationIcon, NotifyIconId, Picture, Refusal,
-    Standing, View, Window, WindowId,
+    Report, Standing, View, Window, WindowId,
 };
 use second::order::CellPlace;
 use second::script::parts::Parts;
@@ -77,6 +77,7 @@ pub enum Record {
     NotificationIcon(NotificationIcon),
     Picture(Picture),
     Desktop(Desktop),
+    Report(Report),
 }
 
 /// What a call answers.
@@ -91,6 +92,10 @@ pub fn make(lent: &mut LentSession<'_>, call: &Call<'_>) -> Answer {
     match *call {
         Call::Empty => lent.reset().map(plain),
         Call::Deliver(order) => lent.deliver(order).map(plain),
+        Call::Update(limit, orders) => {
+            let report = lent.update(limit, orders)?;
+            Ok((report.standing, Record::Report(report)))
+        }
         Call::Mark => lent.checkpoint().map(plain),
         Call::StepBack(steps) => lent.undo(steps.into()).map(plain),
         Call::Window(id) => {
@@ -144,9 +149,7 @@ pub fn compare(book: &mut BookSession, step: &Step<'_>, answer: &Answer) -> Resu
         book.make(&Call::Shorten);
     }
     let number = book.make(&step.call).expect("a call has a number");
-    let answered = answer
-        .as_ref()
-        .map_or_else(|refusal| refusal.number(), |_| 0);
+    let answered = number_of(answer);
     if answered != number {
         return Err(format!("answers {answered}, the book {number}"));
     }
@@ -157,13 +160,29 @@ pub fn compare(book: &mut BookSession, step: &Step<'_>, answer: &Answer) -> Resu
     if (standing.orders, standing.bytes) != (expected.orders, expected.bytes) {
         return Err(format!("stands at {standing:?}, the book at {expected:?}"));
     }
+    if let Record::Report(report) = record {
+        let expected = book.report();
+        if (report.orders, report.bytes) != (expected.orders as usize, expected.bytes) {
+            return Err(format!("reports {report:?}, the book {expected:?}"));
+        }
+        return Ok(());
+    }
     alike::found(book.book().table(), &step.call, record)
+}
+
+/// The number of an answer; of an update the last one.
+pub fn number_of(answer: &Answer) -> u8 {
+    match answer {
+        Ok((_, Record::Report(report))) => report.refusal.map_or(0, Refusal::number),
+        Ok(_) => 0,
+        Err(refusal) => refusal.number(),
+    }
 }
 
 /// Whether a call may change memory.
 pub fn may_change(call: &Call<'_>) -> bool {
     matches!(
         call,
-        Call::Empty | Call::Deliver(_) | Call::Mark | Call::StepBack(_)
+        Call::Empty | Call::Deliver(_) | Call::Update(..) | Call::Mark | Call::StepBack(_)
     )
 }

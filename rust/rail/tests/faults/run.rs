@@ -9,7 +9,9 @@ use second::generate::session::script;
 use second::script::parts::Parts;
 use second::script::session::{Call, Session as BookSession};
 
-use crate::common::{compare, lend, lengths, make, may_change, steps, Answer, Lack, Step};
+use crate::common::{
+    compare, lend, lengths, make, may_change, number_of, steps, Answer, Lack, Step,
+};
 
 /// Faults between an emptying and the next.
 const FAULTS: u64 = 4;
@@ -215,16 +217,13 @@ fn strew_part(random: &mut Random, sort: usize, bytes: &mut [u8], older: &[u8]) 
 
 /// Whether a number is listed for a call, whatever its memory holds.
 fn may_answer(call: &Call<'_>, answer: &Answer, lacks: bool) -> bool {
-    let number = match answer {
-        Ok(_) => 0,
-        Err(refusal) => refusal.number(),
-    };
+    let number = number_of(answer);
     if lacks {
         return number == 1;
     }
     match call {
         Call::Empty => number == 0,
-        Call::Deliver(_) => number <= 12,
+        Call::Deliver(_) | Call::Update(..) => number <= 12,
         Call::Mark | Call::Desktop => number <= 1,
         Call::StepBack(_) => [0, 1, 13].contains(&number),
         _ => [0, 1, 9].contains(&number),
