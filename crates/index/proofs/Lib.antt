@@ -1,0 +1,12 @@
+pub mod Searching
+pub mod Memory
+pub mod Soundness
+pub mod Listed
+pub mod Ordered
+pub mod Shared
+pub mod Kept
+pub mod Numbered
+pub mod After
+pub mod Promises
+pub mod Ways
+pub mod Once

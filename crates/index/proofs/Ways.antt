@@ -1,0 +1,420 @@
+-- The laws that the functions' proofs cite, one for each way through them. Assumes nothing.
+use mathlib.Core.Path.{_≡_, refl, sym, ap, _∙_}
+use mathlib.Core.Bool.{Bool, true, false, not}
+use mathlib.Core.List.{List, [], _∷_}
+use Prim.Native.Nat.{ℕ, suc, _+_, _*_, _-_, _≤_, _<_}
+use native.Mathlib.Omega.{arith}
+use lib.Dec.{eqb, leb}
+use lib.Bits.{bitAnd}
+use lib.ListN.{length, getD, take, drop, replicate}
+use borrow.Author.Tests.{eq-eqb, ne-eqb, leb-false, le-leb, lt-leb, le-ltb, lt-ltb}
+use Rattle.wire.specs.Tests.{pick, both, has}
+use Rattle.wire.specs.Numbers.{numAt, bytesOf}
+use Rattle.wire.specs.Parts.{slice, splice}
+use Rattle.wire.proofs.Numbers.{num1-is, num-slice}
+use Rattle.protocol.specs.Flags.{desktopNone, flagBigIcon, flagCachedIcon, flagIcon, flagNew, flagsIcon}
+use Rattle.order.specs.declared.Judged.{Judged}
+use Rattle.order.specs.declared.Judged.the-variants.{Window, Notification, Desktop, Refused}
+use Rattle.order.specs.declared.WindowOrder.{WindowOrder}
+use Rattle.order.specs.declared.NotificationOrder.{NotificationOrder}
+use Rattle.order.specs.declared.DesktopOrder.{DesktopOrder}
+use Rattle.order.specs.declared.Refusal.{Refusal}
+use Rattle.order.specs.Judge.{judgeOf}
+use Rattle.places.specs.declared.Family.{Family}
+use Rattle.places.specs.declared.Family.the-variants.{Windows, Notifications}
+use Rattle.places.specs.declared.Found.{Found}
+use Rattle.places.specs.declared.Found.the-variants.{At, Nothing}
+use Rattle.places.specs.Counts.{firstFrom, onFound}
+use Rattle.places.specs.Memory.{pointerAt, valid}
+use Rattle.places.specs.Changes.{pointAll, freePlace, shareOf, releaseOf, releaseRecordsOf}
+use Rattle.places.proofs.Bytes.{inside}
+use Rattle.index.specs.declared.Searched.{Searched}
+use Rattle.index.specs.declared.RecordOrder.{RecordOrder}
+use Rattle.index.specs.declared.Place.{Place}
+use Rattle.index.specs.declared.Place.the-variants.{Slot, Not}
+use Rattle.index.specs.declared.Change.{Change}
+use Rattle.index.specs.declared.Plan.{Plan}
+use Rattle.index.specs.declared.Plan.the-variants.{ChangeRecord, ChangeDesktop, Refuse}
+use Rattle.index.specs.Families.{start, capacity}
+use Rattle.index.specs.Slots.{usedAt, firstId, secondId, isUsed, isFree, isAt, slotOf, freeOf, searchFrom, searchOf, slotHas}
+use Rattle.index.specs.Orders.{isNew, isDelete, bringsIcon, cellAt, whichOf}
+use Rattle.index.specs.Plans.{slotFor, lacksPicture, pointerFor, changeOf, planAt, planRecord, planOf}
+use Rattle.index.specs.Changes.{listedOf, freedOf, removedOf, picturedOf, changedOf, clearedOf, emptiedOf, appliedOf, Fits, FitsPlan}
+use Rattle.index.specs.Sound.{eachFrom, noPointers, soundIndex, familyOk}
+use Rattle.index.proofs.Soundness.{never, within-slots, found-within, free-within, sound-has}
+
+-- ---- a slot
+
+module _ (slot : List ℕ) (a b : ℕ) {x : ℕ} (e : x ≡ numAt 4 slot 1) where
+  pub ids-other : (x ≡ a → ⊥) → false ≡ slotHas slot a b
+  unfolding slotHas
+  ids-other n = rw (← e, ne-eqb x a n) (sym (both-false (eqb (numAt 1 slot 0) 1)))
+    where
+      both-false : (t : Bool) → both t false ≡ false
+      both-false true = refl
+      both-false false = refl
+
+  module _ (n : x ≡ a) {u : ℕ} (f : u ≡ numAt 1 slot 0) where
+    pub ids-free : (u ≡ 1 → ⊥) → false ≡ slotHas slot a b
+    unfolding slotHas
+    ids-free m = rw (← f, ne-eqb u 1 m)
+
+    pub ids-second : {y : ℕ} → u ≡ 1 → y ≡ numAt 4 slot 5 → eqb y b ≡ slotHas slot a b
+    unfolding slotHas
+    ids-second m g = rw (← f, eq-eqb u 1 m, ← e, eq-eqb x a n, ← g)
+
+pub slot-lent : (x : List ℕ) (a b i base n : ℕ) {u : Bool} → base ≡ 157 + 9 * i → n ≡ 9 → u ≡ slotHas (take n (drop base x)) a b → u ≡ isAt x a b i
+unfolding isAt isUsed usedAt firstId secondId slotHas slice
+slot-lent x a b i base n e f h =
+    let m : 157 + 9 * i + 0 ≡ 157 + 9 * i = omega arith in
+    let p : numAt 1 (slice x base n) 0 ≡ numAt 1 x (157 + 9 * i) = num-slice 1 x base n 0 (omega (arith, f)) ∙ ap (λ (k : ℕ). numAt 1 x (k + 0)) e ∙ ap (numAt 1 x) m in
+    let q : numAt 4 (slice x base n) 1 ≡ numAt 4 x (157 + 9 * i + 1) = num-slice 4 x base n 1 (omega (arith, f)) ∙ ap (λ (k : ℕ). numAt 4 x (k + 1)) e in
+    let r : numAt 4 (slice x base n) 5 ≡ numAt 4 x (157 + 9 * i + 5) = num-slice 4 x base n 5 (omega (arith, f)) ∙ ap (λ (k : ℕ). numAt 4 x (k + 5)) e in
+    rw (← p, ← q, ← r) h
+
+module _ (x : List ℕ) (i : ℕ) where
+  pub slot-unused : (getD x (157 + 9 * i) 0 ≡ 1 → ⊥) → isFree x i ≡ true
+  unfolding isUsed usedAt
+  slot-unused n = rw (← num1-is x (157 + 9 * i), ne-eqb (getD x (157 + 9 * i) 0) 1 n)
+
+  pub slot-taken : getD x (157 + 9 * i) 0 ≡ 1 → isFree x i ≡ false
+  unfolding isUsed usedAt
+  slot-taken e = rw (← num1-is x (157 + 9 * i), eq-eqb (getD x (157 + 9 * i) 0) 1 e)
+
+-- ---- loops over slots
+
+pub first-start : (test : ℕ → Bool) (first count : ℕ) → firstFrom count first test ≡ firstFrom (first + count - first) first test
+first-start test first count = let e : first + count - first ≡ count = omega arith in rw e
+
+pub ok-start : (test : ℕ → Bool) (first count : ℕ) → eachFrom count first test ≡ eachFrom (first + count - first) first test
+ok-start test first count = let e : first + count - first ≡ count = omega arith in rw e
+
+module _ (test : ℕ → Bool) (end i : ℕ) where
+  module _ (more : i < end) {u : Bool} (e : u ≡ test i) where
+    pub first-here : u ≡ true → firstFrom (end - i) i test ≡ At i
+    unfolding firstFrom
+    first-here t = let n : end - i ≡ suc (end - (i + 1)) = omega arith in rw (n, ← e, t)
+
+    pub first-next : u ≡ false → firstFrom (end - i) i test ≡ firstFrom (end - (i + 1)) (i + 1) test
+    unfolding firstFrom
+    first-next t = let n : end - i ≡ suc (end - (i + 1)) = omega arith in rw (n, ← e, t)
+
+    pub ok-stop : u ≡ false → eachFrom (end - i) i test ≡ false
+    unfolding eachFrom
+    ok-stop t = let n : end - i ≡ suc (end - (i + 1)) = omega arith in rw (n, ← e, t)
+
+    pub ok-next : u ≡ true → eachFrom (end - i) i test ≡ eachFrom (end - (i + 1)) (i + 1) test
+    unfolding eachFrom
+    ok-next t = let n : end - i ≡ suc (end - (i + 1)) = omega arith in rw (n, ← e, t)
+
+  module _ (over : end ≤ i) where
+    pub first-none : firstFrom (end - i) i test ≡ Nothing
+    unfolding firstFrom
+    first-none = let n : end - i ≡ 0 = omega arith in rw n
+
+    pub ok-done : eachFrom (end - i) i test ≡ true
+    unfolding eachFrom
+    ok-done = let n : end - i ≡ 0 = omega arith in rw n
+
+-- ---- the search
+
+pub search-is : (test : ℕ → Bool) (first count : ℕ) (w : Found) → firstFrom count first test ≡ w
+    → record { found = w; looked = onFound w count (λ i. i - first + 1) } ≡ searchFrom count first test
+unfolding searchFrom
+search-is test first count w e = rw e
+
+pub find-family : (x : List ℕ) (f g : Family) (a b : ℕ) {r : Searched} → f ≡ g → r ≡ searchOf x g a b → r ≡ searchOf x f a b
+find-family x f g a b e h = rw e h
+
+pub free-family : (x : List ℕ) (f g : Family) {r : Found} → f ≡ g → r ≡ freeOf x g → r ≡ freeOf x f
+free-family x f g e h = rw e h
+
+pub found-is : (test : ℕ → Bool) (first count : ℕ) {r : Searched} {w : Found} → r ≡ searchFrom count first test → r .found ≡ w → firstFrom count first test ≡ w
+unfolding searchFrom
+found-is test first count e g = sym (ap (λ (r : Searched). r .found) e) ∙ g
+
+-- ---- 11
+
+pub cell-of : (s : List ℕ) (icon : ℕ) {c n : ℕ} → c ≡ numAt 1 s (icon + 2) → n ≡ numAt 2 s icon → 6 * c + n ≡ cellAt s icon
+unfolding cellAt
+cell-of s icon e f = rw (e, f)
+
+pub is-big : (flags : ℕ) → (bitAnd flags flagBigIcon ≡ 0 → ⊥) → (1 ≡ whichOf flags) × (1 < 3)
+is-big flags h = (rw (ne-eqb (bitAnd flags flagBigIcon) 0 h), omega arith)
+
+pub not-big : (flags : ℕ) → bitAnd flags flagBigIcon ≡ 0 → (0 ≡ whichOf flags) × (0 < 3)
+not-big flags h = (rw (eq-eqb (bitAnd flags flagBigIcon) 0 h), omega arith)
+
+pub new-window : (f : Family) (flags : ℕ) → f ≡ Windows → both (has flags flagNew) (not (has flags flagsIcon)) ≡ isNew f flags
+new-window f flags e = rw e
+
+pub new-notification : (f : Family) (flags : ℕ) → f ≡ Notifications → has flags flagNew ≡ isNew f flags
+new-notification f flags e = rw e
+
+module _ (x : List ℕ) (flags c : ℕ) where
+  pub lacks-cell : (bitAnd flags flagIcon ≡ 0 → ⊥) → leb 12 c ≡ lacksPicture x flags c
+  unfolding lacksPicture
+  lacks-cell h = rw (ne-eqb (bitAnd flags flagIcon) 0 h)
+
+  module _ (h : bitAnd flags flagIcon ≡ 0) where
+    module _ (g : bitAnd flags flagCachedIcon ≡ 0 → ⊥) where
+      pub cached-past : 12 ≤ c → true ≡ lacksPicture x flags c
+      unfolding lacksPicture
+      cached-past l = rw (eq-eqb (bitAnd flags flagIcon) 0 h, ne-eqb (bitAnd flags flagCachedIcon) 0 g, le-leb 12 c l)
+
+      pub cached-empty : c < 12 → eqb (getD x (c + 1) 0) 0 ≡ lacksPicture x flags c
+      unfolding lacksPicture
+      cached-empty l = rw (eq-eqb (bitAnd flags flagIcon) 0 h, ne-eqb (bitAnd flags flagCachedIcon) 0 g, lt-leb 12 c l, inside x c (omega arith))
+
+    pub lacks-none : bitAnd flags flagCachedIcon ≡ 0 → false ≡ lacksPicture x flags c
+    unfolding lacksPicture
+    lacks-none g = rw (eq-eqb (bitAnd flags flagIcon) 0 h, eq-eqb (bitAnd flags flagCachedIcon) 0 g)
+
+  -- where it lacks none, an icon names a cell
+  pub has-cell : lacksPicture x flags c ≡ false → bringsIcon flags ≡ true → c < 12
+  unfolding lacksPicture
+  has-cell e t =
+      let r : leb 12 c ≡ false = rw t at e in
+      leb-false 12 c r
+
+-- ---- 9 and 10
+
+module _ (x : List ℕ) (o : RecordOrder) {t : Bool} (e : t ≡ isNew (o .family) (o .flags)) {r : Searched}
+    (f : r ≡ searchOf x (o .family) (o .window .id) (o .notify .id)) where
+  module _ {i : ℕ} (g : r .found ≡ At i) where
+    pub slot-listed : t ≡ true → Not 9 ≡ slotFor x o
+    unfolding slotFor
+    slot-listed h = rw (found-is (isAt x (o .window .id) (o .notify .id)) (start (o .family)) (capacity (o .family)) f g, ← e, h)
+
+    pub slot-own : t ≡ false → Slot i ≡ slotFor x o
+    unfolding slotFor
+    slot-own h = rw (found-is (isAt x (o .window .id) (o .notify .id)) (start (o .family)) (capacity (o .family)) f g, ← e, h)
+
+  module _ (g : r .found ≡ Nothing) where
+    pub slot-absent : t ≡ false → Not 9 ≡ slotFor x o
+    unfolding slotFor
+    slot-absent h = rw (found-is (isAt x (o .window .id) (o .notify .id)) (start (o .family)) (capacity (o .family)) f g, ← e, h)
+
+    module _ (h : t ≡ true) {w : Found} (k : w ≡ freeOf x (o .family)) where
+      pub slot-full : w ≡ Nothing → Not 10 ≡ slotFor x o
+      unfolding slotFor
+      slot-full m = rw (found-is (isAt x (o .window .id) (o .notify .id)) (start (o .family)) (capacity (o .family)) f g, ← e, h, ← k, m)
+
+      pub slot-new : {i : ℕ} → w ≡ At i → Slot i ≡ slotFor x o
+      unfolding slotFor
+      slot-new m = rw (found-is (isAt x (o .window .id) (o .notify .id)) (start (o .family)) (capacity (o .family)) f g, ← e, h, ← k, m)
+
+-- a slot that is found is one of 48
+pub slot-small : (x : List ℕ) (o : RecordOrder) {p : Place} {i : ℕ} → p ≡ slotFor x o → p ≡ Slot i → i < 48
+unfolding slotFor
+slot-small x o {p} {i} e g =
+    go (slotOf x (o .family) (o .window .id) (o .notify .id)) (freeOf x (o .family)) (isNew (o .family) (o .flags)) refl refl (sym e ∙ g)
+  where
+    go : (w v : Found) (t : Bool) → slotOf x (o .family) (o .window .id) (o .notify .id) ≡ w → freeOf x (o .family) ≡ v
+        → onFound w (pick t (onFound v (Not 10) Slot) (Not 9)) (λ j. pick t (Not 9) (Slot j)) ≡ Slot i → i < 48
+    go (At j) v true m n h = let z : _≡_ {A = ℕ} 0 1 = cc in absurd (omega arith)
+    go (At j) v false m n h =
+        let k : j ≡ i = cc in
+        let s = within-slots (o .family) j (found-within (o .family) x (o .window .id) (o .notify .id) j m) in
+        omega arith
+    go Nothing (At j) true m n h =
+        let k : j ≡ i = cc in
+        let s = within-slots (o .family) j (free-within (o .family) x j n) in
+        omega arith
+    go Nothing Nothing true m n h = let z : _≡_ {A = ℕ} 0 1 = cc in absurd (omega arith)
+    go Nothing v false m n h = let z : _≡_ {A = ℕ} 0 1 = cc in absurd (omega arith)
+
+-- ---- the plans
+
+pub change-is : (s : List ℕ) (o : RecordOrder) (i place : ℕ) {t : Bool} {c w : ℕ} → t ≡ isNew (o .family) (o .flags) → c ≡ cellAt s (o .icon) → w ≡ whichOf (o .flags)
+    → record {
+      family = o .family;
+      slot = i;
+      fresh = t;
+      deleted = isDelete (o .flags);
+      window = o .window;
+      notify = o .notify;
+      flags = o .flags;
+      icon = o .icon;
+      cell = c;
+      pointer = 12 + 3 * i + w;
+      place = place;
+    }
+    ≡ changeOf s o i place
+change-is s o i place e f g = rw (e, f, g)
+
+module _ (x s : List ℕ) (o : RecordOrder) (i : ℕ) where
+  pub plan-plain : bitAnd (o .flags) flagIcon ≡ 0 → {c : Change} → c ≡ changeOf s o i 0 → ChangeRecord c ≡ planAt x s o i
+  unfolding planAt
+  plan-plain h e = rw (eq-eqb (bitAnd (o .flags) flagIcon) 0 h, e)
+
+  module _ (h : bitAnd (o .flags) flagIcon ≡ 0 → ⊥) {c w : ℕ} (e : c ≡ cellAt s (o .icon)) (g : w ≡ whichOf (o .flags)) {f : Found}
+      (k : f ≡ freePlace x (c ∷ (12 + 3 * i + w) ∷ [])) where
+    place-at : freePlace x (cellAt s (o .icon) ∷ pointerFor i (o .flags) ∷ []) ≡ f
+    place-at = rw (← e, ← g) (sym k)
+
+    pub plan-full : f ≡ Nothing → Refuse 17 ≡ planAt x s o i
+    unfolding planAt
+    plan-full m = rw (ne-eqb (bitAnd (o .flags) flagIcon) 0 h, place-at, m)
+
+    pub plan-taken : {p : ℕ} {r : Change} → f ≡ At p → r ≡ changeOf s o i p → ChangeRecord r ≡ planAt x s o i
+    unfolding planAt
+    plan-taken m n = rw (ne-eqb (bitAnd (o .flags) flagIcon) 0 h, place-at, m, n)
+
+module _ (x s : List ℕ) (o : RecordOrder) {p : Place} (e : p ≡ slotFor x o) where
+  pub record-refused : {n : ℕ} → p ≡ Not n → Refuse n ≡ planRecord x s o
+  unfolding planRecord
+  record-refused g = rw (← e, g)
+
+  module _ {i : ℕ} (g : p ≡ Slot i) {c : ℕ} (f : c ≡ cellAt s (o .icon)) {t : Bool} (h : t ≡ lacksPicture x (o .flags) c) where
+    pub record-lacks : t ≡ true → Refuse 11 ≡ planRecord x s o
+    unfolding planRecord
+    record-lacks k = rw (← e, g, ← f, ← h, k)
+
+    pub record-plan : {r : Plan} → t ≡ false → r ≡ planAt x s o i → r ≡ planRecord x s o
+    unfolding planRecord
+    record-plan k m = rw (← e, g, ← f, ← h, k) m
+
+module _ (x s : List ℕ) {j : Judged} (e : j ≡ judgeOf s) where
+  pub judged-window : {o : WindowOrder} {r : Plan} → j ≡ Window o
+      → r ≡ planRecord x s (record { family = Windows; window = o .window; notify = record { id = 0 }; flags = o .flags; icon = o .icon }) → r ≡ planOf x s
+  unfolding planOf
+  judged-window g h = rw (← e, g) h
+
+  pub judged-notification : {o : NotificationOrder} {r : Plan} → j ≡ Notification o
+      → r ≡ planRecord x s (record { family = Notifications; window = o .window; notify = o .notify; flags = o .flags; icon = o .icon }) → r ≡ planOf x s
+  unfolding planOf
+  judged-notification g h = rw (← e, g) h
+
+  pub judged-desktop : {o : DesktopOrder} → j ≡ Desktop o → ChangeDesktop (o .flags) ≡ planOf x s
+  unfolding planOf
+  judged-desktop g = rw (← e, g)
+
+  pub judged-refused : {r : Refusal} → j ≡ Refused r → Refuse (r .number) ≡ planOf x s
+  unfolding planOf
+  judged-refused g = rw (← e, g)
+
+-- ---- the changes
+
+pub listed-bytes : (x : List ℕ) (i a b : ℕ) {y z w : List ℕ} → y ≡ splice x (157 + 9 * i) (bytesOf 1 1) → z ≡ splice y (157 + 9 * i + 1) (bytesOf 4 a)
+    → w ≡ splice z (157 + 9 * i + 5) (bytesOf 4 b) → w ≡ listedOf x i a b
+unfolding listedOf
+listed-bytes x i a b e f g = rw (← e, ← f) g
+
+pub removed-bytes : (x : List ℕ) (i : ℕ) {y z w v : List ℕ} → y ≡ releaseOf x (12 + 3 * i) → z ≡ releaseOf y (12 + 3 * i + 1) → w ≡ releaseOf z (12 + 3 * i + 2)
+    → v ≡ splice w (157 + 9 * i) (bytesOf 1 0) → v ≡ removedOf x i
+unfolding removedOf freedOf
+removed-bytes x i e f g h =
+    let n : 12 + 3 * i + 0 ≡ 12 + 3 * i = omega arith in
+    rw (n, ← e, ← f, ← g) h
+
+choose-true : {A : Type 0} (t : Bool) (a b : A) → t ≡ true → pick t a b ≡ a
+choose-true true a b e = refl
+choose-true false a b e = never e
+
+choose-false : {A : Type 0} (t : Bool) (a b : A) → t ≡ false → pick t a b ≡ b
+choose-false true a b e = never (sym e)
+choose-false false a b e = refl
+
+module _ (x : List ℕ) (c : Change) where
+  pub picture-taken : {y : List ℕ} → (bitAnd (c .flags) flagIcon ≡ 0 → ⊥) → y ≡ pointAll x (c .cell ∷ c .pointer ∷ []) (c .place + 1) → y ≡ picturedOf x c
+  unfolding picturedOf
+  picture-taken h e = rw (ne-eqb (bitAnd (c .flags) flagIcon) 0 h) e
+
+  module _ (h : bitAnd (c .flags) flagIcon ≡ 0) where
+    pub picture-shared : {y : List ℕ} → (bitAnd (c .flags) flagCachedIcon ≡ 0 → ⊥) → y ≡ shareOf x (c .pointer) (c .cell) → y ≡ picturedOf x c
+    unfolding picturedOf
+    picture-shared g e = rw (eq-eqb (bitAnd (c .flags) flagIcon) 0 h, ne-eqb (bitAnd (c .flags) flagCachedIcon) 0 g) e
+
+    pub picture-none : bitAnd (c .flags) flagCachedIcon ≡ 0 → x ≡ picturedOf x c
+    unfolding picturedOf
+    picture-none g = rw (eq-eqb (bitAnd (c .flags) flagIcon) 0 h, eq-eqb (bitAnd (c .flags) flagCachedIcon) 0 g)
+
+  pub changed-deleted : {y : List ℕ} → c .deleted ≡ true → y ≡ removedOf x (c .slot) → y ≡ changedOf x c
+  unfolding changedOf
+  changed-deleted t e = rw t e
+
+  module _ (t : c .deleted ≡ false) where
+    pub changed-new : {y z : List ℕ} → c .fresh ≡ true → z ≡ listedOf x (c .slot) (c .window .id) (c .notify .id) → y ≡ picturedOf z c → y ≡ changedOf x c
+    unfolding changedOf
+    changed-new u e f =
+        let l = listedOf x (c .slot) (c .window .id) (c .notify .id) in
+        f ∙ ap (λ (m : List ℕ). picturedOf m c) (e ∙ sym (choose-true (c .fresh) l x u))
+        ∙ sym (choose-false (c .deleted) (removedOf x (c .slot)) (picturedOf (pick (c .fresh) l x) c) t)
+
+    pub changed-old : {y : List ℕ} → c .fresh ≡ false → y ≡ picturedOf x c → y ≡ changedOf x c
+    unfolding changedOf
+    changed-old u f =
+        let l = listedOf x (c .slot) (c .window .id) (c .notify .id) in
+        f ∙ ap (λ (m : List ℕ). picturedOf m c) (sym (choose-false (c .fresh) l x u))
+        ∙ sym (choose-false (c .deleted) (removedOf x (c .slot)) (picturedOf (pick (c .fresh) l x) c) t)
+
+pub icon-fits : (c : Change) → Fits c → (bitAnd (c .flags) flagIcon ≡ 0 → ⊥) → c .cell < 156
+icon-fits c f h = f .icon (ap not (ne-eqb (bitAnd (c .flags) flagIcon) 0 h))
+
+pub cached-fits : (c : Change) → Fits c → (bitAnd (c .flags) flagCachedIcon ≡ 0 → ⊥) → c .cell < 156
+cached-fits c f h = f .cached (ap not (ne-eqb (bitAnd (c .flags) flagCachedIcon) 0 h))
+
+pub cleared : (x : List ℕ) {y z : List ℕ} → y ≡ releaseRecordsOf x → z ≡ splice y 157 (replicate 432 0) → z ≡ clearedOf x
+unfolding clearedOf
+cleared x e f = rw (← e) f
+
+pub emptied : (x : List ℕ) (n : ℕ) {y z : List ℕ} → y ≡ splice x 0 (replicate 589 0) → z ≡ splice y 0 (bytesOf 1 n) → z ≡ emptiedOf x n
+unfolding emptiedOf
+emptied x n e f = rw (← e) f
+
+module _ (x : List ℕ) {p : Plan} where
+  pub plan-fits : {c : Change} → p ≡ ChangeRecord c → FitsPlan p → Fits c
+  plan-fits e f = rw e at f
+
+  pub applied-record : {c : Change} {y : List ℕ} → p ≡ ChangeRecord c → y ≡ changedOf x c → y ≡ appliedOf x p
+  unfolding appliedOf
+  applied-record e f = rw e f
+
+  pub applied-none : {flags : ℕ} {y : List ℕ} → p ≡ ChangeDesktop flags → (bitAnd flags desktopNone ≡ 0 → ⊥) → y ≡ clearedOf x → y ≡ appliedOf x p
+  unfolding appliedOf
+  applied-none {flags} e h f = rw (e, ne-eqb (bitAnd flags desktopNone) 0 h) f
+
+  pub applied-desktop : {flags : ℕ} → p ≡ ChangeDesktop flags → bitAnd flags desktopNone ≡ 0 → x ≡ appliedOf x p
+  unfolding appliedOf
+  applied-desktop {flags} e h = rw (e, eq-eqb (bitAnd flags desktopNone) 0 h)
+
+  pub applied-refused : {n : ℕ} → p ≡ Refuse n → x ≡ appliedOf x p
+  unfolding appliedOf
+  applied-refused e = rw e
+
+-- ---- the rule
+
+pub sound-long : (x : List ℕ) → soundIndex x ≡ true → 589 ≤ length x
+sound-long x e = sound-has x e .long
+
+pub sound-holders : (x : List ℕ) → soundIndex x ≡ true → valid x ≡ true
+sound-holders x e = sound-has x e .holders
+
+pub pointers-none : (x : List ℕ) (i : ℕ) → i < 48
+    → both (eqb (getD x (12 + 3 * i + 1) 0) 0) (both (eqb (getD x (12 + 3 * i + 1 + 1) 0) 0) (eqb (getD x (12 + 3 * i + 1 + 2) 0) 0)) ≡ noPointers x i
+unfolding noPointers
+pointers-none x i l =
+    let a : getD x (12 + 3 * i + 1) 0 ≡ pointerAt x (12 + 3 * i + 0) = (let m : 12 + 3 * i + 1 ≡ 12 + 3 * i + 0 + 1 = omega arith in ap (λ (k : ℕ). getD x k 0) m) ∙ sym (inside x (12 + 3 * i + 0) (omega arith)) in
+    let b : getD x (12 + 3 * i + 1 + 1) 0 ≡ pointerAt x (12 + 3 * i + 1) = sym (inside x (12 + 3 * i + 1) (omega arith)) in
+    let c : getD x (12 + 3 * i + 1 + 2) 0 ≡ pointerAt x (12 + 3 * i + 2) = (let m : 12 + 3 * i + 1 + 2 ≡ 12 + 3 * i + 2 + 1 = omega arith in ap (λ (k : ℕ). getD x k 0) m) ∙ sym (inside x (12 + 3 * i + 2) (omega arith)) in
+    rw (← a, ← b, ← c)
+
+module _ (x : List ℕ) where
+  pub sound-short : length x < 589 → false ≡ soundIndex x
+  unfolding soundIndex
+  sound-short h = rw (lt-ltb (length x) 589 h)
+
+  module _ (h : 589 ≤ length x) {v : Bool} (k : v ≡ valid x) where
+    pub sound-invalid : v ≡ false → false ≡ soundIndex x
+    unfolding soundIndex
+    sound-invalid m = rw (le-ltb (length x) 589 h, ← k, m)
+
+    module _ (m : v ≡ true) {t : Bool} (e : t ≡ familyOk x Windows) where
+      pub sound-windows : t ≡ false → false ≡ soundIndex x
+      unfolding soundIndex
+      sound-windows f = rw (le-ltb (length x) 589 h, ← k, m, ← e, f)
+
+      pub sound-rest : {u : Bool} → t ≡ true → u ≡ familyOk x Notifications → u ≡ soundIndex x
+      unfolding soundIndex
+      sound-rest f g = rw (le-ltb (length x) 589 h, ← k, m, ← e, f) g

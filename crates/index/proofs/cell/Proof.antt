@@ -1,0 +1,20 @@
+use Rattle.index.proofs.Ways.{cell-of}
+use denote.Ref.{now}
+use borrow.Author.Needs.{needs}
+use Rattle.index.proofs.cell.Statement.{statement}
+use Rattle.index.proofs.cell.Tie as tie
+
+pub cell-spec : {M : Type 1} → statement M
+cell-spec =
+    tie.close
+    (tie.spec
+    (λ c κs. search needs)
+    (λ c. search needs)
+    (λ c. search needs)
+    (λ c κs. search needs)
+    (λ c. search needs)
+    (λ c. search needs)
+    (λ c. search needs)
+    (λ c.  -- returns
+    let a = c .before .before .before .args in
+    (cell-of (now (a .s)) (a .icon) (c .read-u8 .ensures) (c .before .read-u16 .ensures), search needs)))

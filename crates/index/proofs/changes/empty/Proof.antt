@@ -1,0 +1,16 @@
+use Rattle.index.proofs.Ways.{emptied}
+use denote.Ref.{now}
+use borrow.Author.Needs.{needs}
+use Rattle.index.proofs.changes.empty.Statement.{statement}
+use Rattle.index.proofs.changes.empty.Tie as tie
+
+pub empty-spec : {M : Type 1} → statement M
+empty-spec =
+    tie.close
+    (tie.spec
+    (λ c κs. search needs)
+    (λ c κs. search needs)
+    (λ c. search needs)
+    (λ c.  -- returns
+    let a = c .before .before .before .before .before .before .before .before .before .args in
+    emptied (now (a .index)) (a .places) (c .before .before .before .before .before .before .clear .ensures) (c .before .before .write-u8 .ensures)))

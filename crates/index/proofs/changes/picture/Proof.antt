@@ -1,0 +1,29 @@
+use Rattle.index.proofs.Ways.{picture-taken, picture-shared, picture-none, icon-fits, cached-fits}
+use denote.Ref.{now}
+use borrow.Author.Needs.{needs}
+use Rattle.index.proofs.changes.picture.Statement.{statement}
+use Rattle.index.proofs.changes.picture.Tie as tie
+
+pub picture-spec : {M : Type 1} → statement M
+picture-spec =
+    tie.close
+    (tie.spec
+    (λ c κs.  -- take-at-requires
+    let s = c .before .before .before in
+    let f = s .pre .1 in
+    (search needs, icon-fits (s .args .c) f (c .before .if1 .taken), f .pointer, f .place))
+    (λ c. search needs)
+    (λ c.  -- returns
+    let a = c .before .before .before .before .before .before .args in
+    picture-taken (now (a .index)) (a .c) (c .before .before .before .before .if1 .taken) (c .before .before .take-at .ensures))
+    (λ c κs.  -- share-requires
+    let s = c .before .before .before .before in
+    let f = s .pre .1 in
+    (search needs, cached-fits (s .args .c) f (c .before .if2 .taken), f .pointer))
+    (λ c. search needs)
+    (λ c.  -- returns-2
+    let a = c .before .before .before .before .before .before .before .args in
+    picture-shared (now (a .index)) (a .c) (c .before .before .before .before .before .if1 .left) (c .before .before .before .before .if2 .taken) (c .before .before .share .ensures))
+    (λ c.  -- returns-3
+    let a = c .before .before .before .args in
+    picture-none (now (a .index)) (a .c) (c .before .if1 .left) (c .if2 .left)))

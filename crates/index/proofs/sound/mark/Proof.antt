@@ -1,0 +1,14 @@
+use Rattle.index.proofs.Once.{mark-is}
+use borrow.Author.Needs.{needs}
+use Rattle.index.proofs.sound.mark.Statement.{statement}
+use Rattle.index.proofs.sound.mark.Tie as tie
+
+pub mark-spec : {M : Type 1} → statement M
+mark-spec =
+    tie.close
+    (tie.spec
+    (λ c. search needs)
+    (λ c. search needs)
+    (λ c. search needs)
+    (λ c.  -- returns
+    mark-is (c .args .a) (c .args .b)))

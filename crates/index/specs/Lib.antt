@@ -1,0 +1,9 @@
+pub mod Families
+pub mod Slots
+pub mod Orders
+pub mod Index
+pub mod Memory
+pub mod Plans
+pub mod Changes
+pub mod Sound
+pub mod Promises

@@ -1,0 +1,55 @@
+-- Orders for records of either family. Assumes nothing.
+use Prim.Native.Nat.{ℕ, _+_, _*_}
+use mathlib.Core.Bool.{Bool, not}
+use mathlib.Core.List.{List, [], _∷_}
+use Rattle.wire.specs.Tests.{pick, both, has}
+use Rattle.wire.specs.Numbers.{numAt}
+use Rattle.order.specs.declared.Judged.{Judged}
+use Rattle.order.specs.declared.Judged.the-variants.{Window, Notification, Desktop, Refused}
+use Rattle.protocol.specs.Flags.{flagBigIcon, flagCachedIcon, flagDeleted, flagIcon, flagNew, flagsIcon}
+use Rattle.places.specs.declared.Family.{Family}
+use Rattle.places.specs.declared.Family.the-variants.{Windows, Notifications}
+use Rattle.places.specs.Holder.{Holder, cell, icon}
+use Rattle.index.specs.declared.RecordOrder.{RecordOrder}
+
+-- an order for a record, one for the desktop with its flags, or the number of a refusal
+abbrev pub onJudged : {A : Type 0} → Judged → (RecordOrder → A) → (ℕ → A) → (ℕ → A) → A
+onJudged (Window o) change desktop refused =
+    change (record { family = Windows; window = o .window; notify = record { id = 0 }; flags = o .flags; icon = o .icon })
+onJudged (Notification o) change desktop refused =
+    change (record { family = Notifications; window = o .window; notify = o .notify; flags = o .flags; icon = o .icon })
+onJudged (Desktop o) change desktop refused = desktop (o .flags)
+onJudged (Refused r) change desktop refused = refused (r .number)
+
+-- a new record is asked for; on window icon orders the new bit is ignored
+abbrev pub isNew : Family → ℕ → Bool
+isNew Windows flags = both (has flags flagNew) (not (has flags flagsIcon))
+isNew Notifications flags = has flags flagNew
+
+abbrev pub isDelete : ℕ → Bool
+isDelete flags = has flags flagDeleted
+
+abbrev pub bringsIcon : ℕ → Bool
+bringsIcon flags = has flags flagIcon
+
+abbrev pub bringsCached : ℕ → Bool
+bringsCached flags = has flags flagCachedIcon
+
+-- the cell that an icon or cached icon names: entry 2, cache id 1
+unfoldable pub cellAt : List ℕ → ℕ → ℕ
+cellAt s at = 6 * numAt 1 s (at + 2) + numAt 2 s at
+
+-- cache id FF names none
+abbrev pub noCell : ℕ
+noCell = 0xFF
+
+-- which of a record's icons is set: a window's big one, or else its small or only one
+abbrev pub whichOf : ℕ → ℕ
+whichOf flags = pick (has flags flagBigIcon) 1 0
+
+abbrev pub pointerOf : RecordOrder → Holder
+pointerOf o = icon (o .family) (o .window .id) (o .notify .id) (whichOf (o .flags))
+
+-- the holders of the picture that an icon brings: its cell and its pointer
+abbrev pub holdersOf : List ℕ → RecordOrder → List Holder
+holdersOf s o = cell (cellAt s (o .icon)) ∷ pointerOf o ∷ []

@@ -1,0 +1,79 @@
+-- An order judged whole, on its bytes and on the memory of an index. Assumes nothing.
+use Prim.Native.Nat.{ℕ}
+use mathlib.Core.Bool.{Bool, false}
+use mathlib.Core.List.{List, [], _∷_}
+use lib.Dec.{eqb, leb}
+use Rattle.wire.specs.Tests.{pick, either}
+use Rattle.order.specs.Judge.{judgeOf}
+use Rattle.places.specs.Sizes.{cellCount}
+use Rattle.places.specs.Counts.{onFound}
+use Rattle.places.specs.Memory.{pointerAt}
+use Rattle.places.specs.Changes.{freePlace}
+use Rattle.places.specs.Holder.{iconNumber}
+use Rattle.index.specs.declared.RecordOrder.{RecordOrder}
+use Rattle.index.specs.declared.Place.{Place}
+use Rattle.index.specs.declared.Place.the-variants.{Slot, Not}
+use Rattle.index.specs.declared.Change.{Change}
+use Rattle.index.specs.declared.Plan.{Plan}
+use Rattle.index.specs.declared.Plan.the-variants.{ChangeRecord, ChangeDesktop, Refuse}
+use Rattle.index.specs.Slots.{slotOf, freeOf}
+use Rattle.index.specs.Orders.{onJudged, isNew, isDelete, bringsIcon, bringsCached, cellAt, whichOf}
+
+-- 9 and 10, or the record's slot: for a new record, the first free one
+unfoldable pub slotFor : List ℕ → RecordOrder → Place
+slotFor x o =
+    onFound (slotOf x (o .family) (o .window .id) (o .notify .id))
+    (pick (isNew (o .family) (o .flags)) (onFound (freeOf x (o .family)) (Not 10) Slot) (Not 9))
+    (λ i. pick (isNew (o .family) (o .flags)) (Not 9) (Slot i))
+
+-- 11
+unfoldable pub lacksPicture : List ℕ → ℕ → ℕ → Bool
+lacksPicture x flags c =
+    pick (bringsIcon flags) (leb cellCount c)
+    (pick (bringsCached flags) (either (leb cellCount c) (eqb (pointerAt x c) 0))
+    false)
+
+-- the number of the pointer that an icon sets
+abbrev pub pointerFor : ℕ → ℕ → ℕ
+pointerFor i flags = iconNumber i (whichOf flags)
+
+-- a record's change in slot i, its icon at a place (0 where it brings none)
+abbrev pub changeOf : List ℕ → RecordOrder → ℕ → ℕ → Change
+changeOf s o i place =
+    record {
+      family = o .family;
+      slot = i;
+      fresh = isNew (o .family) (o .flags);
+      deleted = isDelete (o .flags);
+      window = o .window;
+      notify = o .notify;
+      flags = o .flags;
+      icon = o .icon;
+      cell = cellAt s (o .icon);
+      pointer = pointerFor i (o .flags);
+      place = place;
+    }
+
+-- 17, or the place
+unfoldable pub planAt : List ℕ → List ℕ → RecordOrder → ℕ → Plan
+planAt x s o i =
+    pick (bringsIcon (o .flags))
+    (onFound (freePlace x (cellAt s (o .icon) ∷ pointerFor i (o .flags) ∷ [])) (Refuse 17) (λ p. ChangeRecord (changeOf s o i p)))
+    (ChangeRecord (changeOf s o i 0))
+
+abbrev pub onPlace : Place → (ℕ → Plan) → Plan
+onPlace (Slot i) plan = plan i
+onPlace (Not n) plan = Refuse n
+
+unfoldable pub planRecord : List ℕ → List ℕ → RecordOrder → Plan
+planRecord x s o =
+    onPlace (slotFor x o) (λ i. pick (lacksPicture x (o .flags) (cellAt s (o .icon))) (Refuse 11) (planAt x s o i))
+
+unfoldable pub planOf : List ℕ → List ℕ → Plan
+planOf x s = onJudged (judgeOf s) (planRecord x s) ChangeDesktop Refuse
+
+-- the paper's number of a plan
+abbrev pub planNumber : Plan → ℕ
+planNumber (ChangeRecord c) = 0
+planNumber (ChangeDesktop flags) = 0
+planNumber (Refuse n) = n

@@ -1,0 +1,263 @@
+// The index of a table: which windows and notification icons are listed, and which cells and icons share a place of the
+// picture store. The numbers 9, 10, 11 and 17 depend on nothing else of a table. The memory, 589 bytes: those of `places`, then
+// 48 slots.
+ghost use mathlib.Core.Path.{_≡_};
+ghost use mathlib.Core.Bool.{true};
+ghost use Prim.Native.Nat.{_<_, _≤_};
+ghost use lib.ListN.{length};
+ghost use Rattle.index.specs.Orders.{isNew, bringsIcon, cellAt, whichOf};
+ghost use Rattle.index.specs.Plans.{lacksPicture, slotFor, changeOf, planAt, planRecord, planOf, planNumber};
+ghost use Rattle.index.specs.Sound.{soundIndex};
+use order::Judged;
+use places::Family;
+use places::Found;
+use protocol::NotifyIconId;
+use protocol::WindowId;
+
+pub mod changes;
+pub mod slots;
+pub mod sound;
+
+// The bytes of an index.
+pub const LENGTH: usize = 589;
+
+// What a search for a record found, and how many slots it looked at.
+pub struct Searched {
+    pub found: Found,
+    pub looked: usize,
+}
+
+// An order for a record of either family; a window's notify-icon id is 0. Where its icon or cached icon begins is icon: the
+// order's end where there is none.
+pub struct RecordOrder {
+    pub family: Family,
+    pub window: WindowId,
+    pub notify: NotifyIconId,
+    pub flags: u32,
+    pub icon: u32,
+}
+
+// The slot of the record that an order changes, or the number of its refusal.
+pub enum Place {
+    Slot(usize),
+    Not(u8),
+}
+
+// What an order changes that is not refused: the record of the ids, in its slot; for a new record, in the first free slot.
+// The cell and the pointer (numbers of holders) of an icon or cached icon, and the place that an icon takes.
+pub struct Change {
+    pub family: Family,
+    pub slot: usize,
+    pub fresh: bool,
+    pub deleted: bool,
+    pub window: WindowId,
+    pub notify: NotifyIconId,
+    pub flags: u32,
+    pub icon: u32,
+    pub cell: usize,
+    pub pointer: usize,
+    pub place: usize,
+}
+
+// An order judged whole, on its bytes and on the index.
+pub enum Plan {
+    ChangeRecord(Change),
+    ChangeDesktop(u32),
+    Refuse(u8),
+}
+
+// The cell that an icon or cached icon at index icon names.
+fn cell(s: &[u8], icon: u32) -> usize
+    ensures { λ r. ⌜ (r ≡ cellAt (now (s .entry)) icon) × (r < 67073) ⌝ }
+{
+    let at = icon as usize;
+    let entry = wire::read_u16(s, at) as usize;
+    let cache = wire::read_u8(s, at + 2) as usize;
+    6 * cache + entry
+}
+
+// Which of a record's icons is set.
+fn which(flags: u32) -> usize
+    ensures { λ r. ⌜ (r ≡ whichOf flags) × (r < 3) ⌝ }
+{
+    if flags & protocol::BIG_ICON != 0 {
+        1
+    } else {
+        0
+    }
+}
+
+// 11: an icon that names no cell, or a cached icon whose cell points at nothing.
+fn lacks_picture(index: &[u8], flags: u32, cell: usize) -> bool
+    requires { ⌜ 589 ≤ length (now index) ⌝ }
+    ensures { λ r. ⌜ r ≡ lacksPicture (now (index .entry)) flags cell ⌝ }
+{
+    if flags & protocol::ICON != 0 {
+        return places::CELLS <= cell;
+    }
+    if flags & protocol::CACHED_ICON != 0 {
+        if places::CELLS <= cell {
+            return true;
+        }
+        return index[cell + 1] == 0;
+    }
+    false
+}
+
+// A new record is asked for.
+fn is_new(family: Family, flags: u32) -> bool
+    ensures { λ r. ⌜ r ≡ isNew family flags ⌝ }
+{
+    match family {
+        Family::Windows => (flags & protocol::NEW != 0) & !(flags & protocol::ANY_ICON != 0),
+        Family::Notifications => flags & protocol::NEW != 0,
+    }
+}
+
+// 9, 10, or the slot of the record that an order changes.
+fn slot_for(index: &[u8], o: RecordOrder) -> Place
+    requires { ⌜ 589 ≤ length (now index) ⌝ }
+    ensures { λ r. ⌜ r ≡ slotFor (now (index .entry)) o ⌝ }
+{
+    let family = o.family;
+    let fresh = is_new(family, o.flags);
+    let f = slots::find(index, family, o.window, o.notify);
+    let w = f.found;
+    match w {
+        Found::At(i) => {
+            if fresh {
+                return Place::Not(9);
+            }
+            Place::Slot(i)
+        }
+        Found::Nothing => {
+            if !fresh {
+                return Place::Not(9);
+            }
+            let g = slots::free(index, family);
+            let Found::At(i) = g else {
+                return Place::Not(10);
+            };
+            Place::Slot(i)
+        }
+    }
+}
+
+// The change of a record in slot i, its icon at a place.
+fn change_at(s: &[u8], o: RecordOrder, i: usize, place: usize) -> Change
+    requires { ⌜ i < 48 ⌝ }
+    ensures { λ r. ⌜ r ≡ changeOf (now (s .entry)) o i place ⌝ }
+{
+    let family = o.family;
+    let flags = o.flags;
+    let fresh = is_new(family, flags);
+    let deleted = flags & protocol::DELETED != 0;
+    let window = o.window;
+    let notify = o.notify;
+    let icon = o.icon;
+    let c = cell(s, icon);
+    let w = which(flags);
+    Change {
+        family,
+        slot: i,
+        fresh,
+        deleted,
+        window,
+        notify,
+        flags,
+        icon,
+        cell: c,
+        pointer: places::CELLS + places::ICONS_EACH * i + w,
+        place,
+    }
+}
+
+// 17, or the change of a record in slot i.
+fn plan_at(index: &[u8], s: &[u8], o: RecordOrder, i: usize) -> Plan
+    requires { ⌜ (soundIndex (now index) ≡ true) × (i < 48) ⌝ }
+    requires { ⌜ (bringsIcon (o .flags) ≡ true → cellAt (now s) (o .icon) < 12) ⌝ }
+    ensures { λ r. ⌜ r ≡ planAt (now (index .entry)) (now (s .entry)) o i ⌝ }
+{
+    let flags = o.flags;
+    if flags & protocol::ICON == 0 {
+        return Plan::ChangeRecord(change_at(s, o, i, 0));
+    }
+    let c = cell(s, o.icon);
+    let w = which(flags);
+    let f = places::free_place(index, c, places::CELLS + places::ICONS_EACH * i + w);
+    let Found::At(p) = f else {
+        return Plan::Refuse(17);
+    };
+    Plan::ChangeRecord(change_at(s, o, i, p))
+}
+
+// 9, 10, 11 and 17, or the change of a record.
+fn plan_record(index: &[u8], s: &[u8], o: RecordOrder) -> Plan
+    requires { ⌜ soundIndex (now index) ≡ true ⌝ }
+    ensures { λ r. ⌜ r ≡ planRecord (now (index .entry)) (now (s .entry)) o ⌝ }
+{
+    let p = slot_for(index, o);
+    match p {
+        Place::Not(n) => Plan::Refuse(n),
+        Place::Slot(i) => {
+            let c = cell(s, o.icon);
+            if lacks_picture(index, o.flags, c) {
+                return Plan::Refuse(11);
+            }
+            plan_at(index, s, o, i)
+        }
+    }
+}
+
+// The first of the numbers 2 to 11 and 17 that applies to an order, or what it changes.
+pub fn judge(index: &[u8], s: &[u8]) -> Plan
+    requires { ⌜ soundIndex (now index) ≡ true ⌝ }
+    ensures { λ r. ⌜ r ≡ planOf (now (index .entry)) (now (s .entry)) ⌝ }
+{
+    let j = order::judge(s);
+    match j {
+        Judged::Window(o) => {
+            let family = Family::Windows;
+            let window = o.window;
+            let notify = NotifyIconId { id: 0 };
+            let flags = o.flags;
+            let icon = o.icon;
+            let r = RecordOrder {
+                family,
+                window,
+                notify,
+                flags,
+                icon,
+            };
+            plan_record(index, s, r)
+        }
+        Judged::Notification(o) => {
+            let family = Family::Notifications;
+            let window = o.window;
+            let notify = o.notify;
+            let flags = o.flags;
+            let icon = o.icon;
+            let r = RecordOrder {
+                family,
+                window,
+                notify,
+                flags,
+                icon,
+            };
+            plan_record(index, s, r)
+        }
+        Judged::Desktop(o) => Plan::ChangeDesktop(o.flags),
+        Judged::Refused(r) => Plan::Refuse(r.number),
+    }
+}
+
+// The number of a plan.
+pub fn number(p: Plan) -> u8
+    ensures { λ r. ⌜ r ≡ planNumber p ⌝ }
+{
+    match p {
+        Plan::ChangeRecord(_) => 0,
+        Plan::ChangeDesktop(_) => 0,
+        Plan::Refuse(n) => n,
+    }
+}

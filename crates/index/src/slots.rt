@@ -1,0 +1,92 @@
+// The slots of the index, 9 bytes each (used 1, window id 4, notify-icon id 4): 32 of windows, then 16 of notification icons.
+ghost use mathlib.Core.Path.{_≡_};
+ghost use Prim.Native.Nat.{_+_, _≤_};
+ghost use lib.ListN.{length};
+ghost use Rattle.places.specs.Counts.{firstFrom};
+ghost use Rattle.index.specs.Slots.{isFree, isAt, slotHas, freeOf, searchFrom, searchOf};
+use crate::Searched;
+use places::Family;
+use places::Found;
+use protocol::NotifyIconId;
+use protocol::WindowId;
+
+pub const WINDOWS: usize = 32;
+
+pub const NOTIFICATIONS: usize = 16;
+
+pub const SLOT: usize = 9;
+
+// The 9 bytes of a slot that has the record of the ids a and b.
+fn has_ids(slot: &[u8], a: u32, b: u32) -> bool
+    ensures { λ r. ⌜ r ≡ slotHas (now (slot .entry)) a b ⌝ }
+{
+    if wire::read_u32(slot, 1) != a {
+        return false;
+    }
+    if wire::read_u8(slot, 0) != 1 {
+        return false;
+    }
+    wire::read_u32(slot, 5) == b
+}
+
+// The first of count slots that has the record of the ids a and b, and how many slots were looked at.
+pub fn search(index: &[u8], first: usize, count: usize, a: u32, b: u32) -> Searched
+    requires { ⌜ (first + count ≤ 48) × (589 ≤ length (now index)) ⌝ }
+    ensures { λ r. ⌜ r ≡ searchFrom count first (isAt (now (index .entry)) a b) ⌝ }
+{
+    let end = first + count;
+    let mut i = first;
+    while i < end {
+        let base = places::LENGTH + SLOT * i;
+        let past = base + SLOT;
+        if has_ids(&index[base..past], a, b) {
+            return Searched {
+                found: Found::At(i),
+                looked: i - first + 1,
+            };
+        }
+        i += 1;
+    }
+    Searched {
+        found: Found::Nothing,
+        looked: count,
+    }
+}
+
+// The first of count slots that has no record.
+fn unused(index: &[u8], first: usize, count: usize) -> Found
+    requires { ⌜ (first + count ≤ 48) × (589 ≤ length (now index)) ⌝ }
+    ensures { λ r. ⌜ r ≡ firstFrom count first (isFree (now (index .entry))) ⌝ }
+{
+    let end = first + count;
+    let mut i = first;
+    while i < end {
+        if index[places::LENGTH + SLOT * i] != 1 {
+            return Found::At(i);
+        }
+        i += 1;
+    }
+    Found::Nothing
+}
+
+// The slot of a record, and how many slots the search looked at.
+pub fn find(index: &[u8], family: Family, window: WindowId, notify: NotifyIconId) -> Searched
+    requires { ⌜ 589 ≤ length (now index) ⌝ }
+    ensures { λ r. ⌜ r ≡ searchOf (now (index .entry)) family (window .id) (notify .id) ⌝ }
+{
+    match family {
+        Family::Windows => search(index, 0, WINDOWS, window.id, notify.id),
+        Family::Notifications => search(index, WINDOWS, NOTIFICATIONS, window.id, notify.id),
+    }
+}
+
+// The first slot of a family that has no record.
+pub fn free(index: &[u8], family: Family) -> Found
+    requires { ⌜ 589 ≤ length (now index) ⌝ }
+    ensures { λ r. ⌜ r ≡ freeOf (now (index .entry)) family ⌝ }
+{
+    match family {
+        Family::Windows => unused(index, 0, WINDOWS),
+        Family::Notifications => unused(index, WINDOWS, NOTIFICATIONS),
+    }
+}
