@@ -285,6 +285,9 @@ module _ (x s : List ℕ) (ok : soundIndex x ≡ true) (bytes : Bytes s) where
       go (Desktop o) e = tt
       go (Refused r) e = tt
 
+pub judged-fits : (x s : List ℕ) → soundIndex x ≡ true → Bytes s → {p : Plan} → p ≡ planOf x s → FitsPlan p
+judged-fits x s ok bytes e = rw e (plan-fits x s ok bytes)
+
 -- ---- an emptied memory
 
 module _ (x : List ℕ) (n : ℕ) (long : 589 ≤ length x) (small : n < 256) where

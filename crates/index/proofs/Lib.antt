@@ -7,6 +7,7 @@ pub mod Shared
 pub mod Kept
 pub mod Numbered
 pub mod After
+pub mod Decided
 pub mod Promises
 pub mod Ways
 pub mod Once

@@ -7,6 +7,7 @@ ghost use Prim.Native.Nat.{_<_, _≤_};
 ghost use lib.ListN.{length};
 ghost use Rattle.index.specs.Orders.{isNew, bringsIcon, cellAt, whichOf};
 ghost use Rattle.index.specs.Plans.{lacksPicture, slotFor, changeOf, planAt, planRecord, planOf, planNumber};
+ghost use Rattle.index.specs.Changes.{appliedOf};
 ghost use Rattle.index.specs.Sound.{soundIndex};
 use order::Judged;
 use places::Family;
@@ -260,4 +261,15 @@ pub fn number(p: Plan) -> u8
         Plan::ChangeDesktop(_) => 0,
         Plan::Refuse(n) => n,
     }
+}
+
+// Judges an order on the index and, where it is not refused, carries it out. Its number.
+pub fn step(index: &mut [u8], s: &[u8]) -> u8
+    requires { ⌜ soundIndex (now index) ≡ true ⌝ }
+    ensures { λ r. ⌜ r ≡ planNumber (planOf (now (index .entry)) (now (s .entry))) ⌝ }
+    ensures { λ r. ⌜ now (index .exit) ≡ appliedOf (now (index .entry)) (planOf (now (index .entry)) (now (s .entry))) ⌝ }
+{
+    let p = judge(index, s);
+    changes::apply(index, p);
+    number(p)
 }
