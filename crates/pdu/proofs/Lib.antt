@@ -1,5 +1,6 @@
 pub mod Answers
 pub mod Strings
+pub mod Settings
 pub mod Writing
 pub mod ReadBack
 pub mod WriteBack

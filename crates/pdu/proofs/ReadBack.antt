@@ -7,31 +7,38 @@ use native.Mathlib.Omega.{arith}
 use lib.ListN.{length, getD, drop}
 use lib.Dec.{leb, ltb, eqb}
 use borrow.Author.Tests.{leb-true, le-ltb, eq-eqb}
-use Rattle.wire.specs.Tests.{both}
+use Rattle.wire.specs.Tests.{both, pick}
 use Rattle.wire.specs.Parts.{splice}
 use Rattle.wire.specs.Numbers.{numAt, numsAt, putAll, total, fitsIn, allFit}
 use Rattle.wire.proofs.Tests.{both-left, both-right}
 use Rattle.wire.proofs.Numbers.{nums-put, length-put, fits2}
 use Rattle.pdu.specs.declared.Pdu.{Pdu}
-use Rattle.pdu.specs.declared.Pdu.the-variants.{Execute, Activate, SystemCommand, Handshake, NotifyEvent, WindowMove, MoveSize, MinMaxInfo, ClientInformation, SystemMenu, GetApplicationId, ApplicationIdResponse, ExecuteResult}
+use Rattle.pdu.specs.declared.Pdu.the-variants.{Execute, Activate, SystemCommand, Handshake, NotifyEvent, WindowMove, MoveSize, MinMaxInfo, ClientInformation, SystemMenu, GetApplicationId, ApplicationIdResponse, ExecuteResult, SystemParameters, HandshakeEx}
 use Rattle.pdu.specs.declared.Span.{Span}
 use Rattle.pdu.specs.declared.Execute as E
 use Rattle.pdu.specs.declared.ExecuteResult as X
 use Rattle.pdu.specs.declared.Read.the-variants.{Message}
+use Rattle.pdu.specs.declared.Setting.{Setting}
 use Rattle.pdu.specs.Layout.{oneOf, known, widths}
-use Rattle.pdu.specs.Records.{isYes, yesNumber, recordOf, kindOf, numsOf, sizeOf, spansOf}
+use Rattle.pdu.specs.Settings.{settingWidths, Data, numberOf, dataOf, dataSpans, dataSize, dataAllowed, settingWith, moved}
+use Rattle.pdu.specs.Records.{isYes, yesNumber, recordOf, kindOf, numsOf, widthsOf, sizeOf, spansOf}
 use Rattle.pdu.specs.Rules.{textOk, executeFlagsOk, execResults, executeAllowed, executeResultAllowed, allowed}
-use Rattle.pdu.specs.Reading.{recordAs, bodyNumber, readNumber, answerAs, readOf}
+use Rattle.pdu.specs.Reading.{recordAs, unknownSetting, lengthsAgree, bodyNumber, readNumber, answerAs, readOf}
 use Rattle.pdu.specs.Writing.{partOf, zeros, filled, stringsOf, joined, row, line, encode, grants}
 use Rattle.pdu.specs.RoundTrip.{rebased, typed, ReadsBack}
 use Rattle.pdu.proofs.Strings.{spansFrom, parts, parts-back, filled-whole}
 use Rattle.pdu.proofs.Writing.{allowed-of, stringLengths, string-lengths, length-encode}
+use Rattle.pdu.proofs.Settings.{shape, Made, made, moved-shape, moved-size, moved-allowed, least-size, most-size, data-back, spans-shape, filled-data, lines-fine}
 
 -- ---- the record
 
 is-yes : (b : Bool) → isYes (yesNumber b) ≡ b
 is-yes true = refl
 is-yes false = refl
+
+-- a setting with its string where writing puts it
+moved-made : (s : Setting) → Made (numberOf s) (moved (dataOf s)) (settingWith (numberOf s) (moved (dataOf s)))
+moved-made s = made (numberOf s) (moved (dataOf s)) (moved-shape (numberOf s) (dataOf s) (shape s))
 
 -- the numbers of a record make the record
 record-back : (p : Pdu) → recordOf (kindOf p) (numsOf p) ≡ rebased p
@@ -50,6 +57,10 @@ record-back (SystemMenu e) = refl
 record-back (GetApplicationId e) = refl
 record-back (ApplicationIdResponse e) = refl
 record-back (ExecuteResult e) = refl
+record-back (SystemParameters e) =
+    let c = numberOf (e .setting) in
+    ap (λ (d : Data). SystemParameters (record { setting = settingWith c d })) (data-back c (dataOf (e .setting)) (shape (e .setting)))
+record-back (HandshakeEx e) = refl
 
 size-back : (p : Pdu) → sizeOf (rebased p) ≡ sizeOf p
 unfolding sizeOf rebased
@@ -66,6 +77,8 @@ size-back (SystemMenu e) = refl
 size-back (GetApplicationId e) = refl
 size-back (ApplicationIdResponse e) = refl
 size-back (ExecuteResult e) = refl
+size-back (SystemParameters e) = ap dataSize (moved-made (e .setting) .body) ∙ moved-size (dataOf (e .setting))
+size-back (HandshakeEx e) = refl
 
 allowed-back : (p : Pdu) → allowed p ≡ true → allowed (rebased p) ≡ true
 unfolding allowed rebased
@@ -82,6 +95,8 @@ allowed-back (SystemMenu e) a = a
 allowed-back (GetApplicationId e) a = a
 allowed-back (ApplicationIdResponse e) a = refl
 allowed-back (ExecuteResult e) a = a
+allowed-back (SystemParameters e) a = ap dataAllowed (moved-made (e .setting) .body) ∙ moved-allowed (dataOf (e .setting)) ∙ a
+allowed-back (HandshakeEx e) a = a
 
 known-kind : (p : Pdu) → known (kindOf p) ≡ true
 unfolding known kindOf
@@ -98,6 +113,8 @@ known-kind (SystemMenu e) = refl
 known-kind (GetApplicationId e) = refl
 known-kind (ApplicationIdResponse e) = refl
 known-kind (ExecuteResult e) = refl
+known-kind (SystemParameters e) = refl
+known-kind (HandshakeEx e) = refl
 
 -- ---- the numbers of a granted record fit their widths
 
@@ -142,6 +159,8 @@ size-small (SystemMenu e) a = omega arith
 size-small (GetApplicationId e) a = omega arith
 size-small (ApplicationIdResponse e) a = omega arith
 size-small (ExecuteResult e) a = omega (arith, result-small e a)
+size-small (SystemParameters e) a = omega (arith, most-size (dataOf (e .setting)) a)
+size-small (HandshakeEx e) a = omega arith
 
 kind-small : (p : Pdu) → kindOf p < 65536
 unfolding kindOf
@@ -158,6 +177,8 @@ kind-small (SystemMenu e) = omega arith
 kind-small (GetApplicationId e) = omega arith
 kind-small (ApplicationIdResponse e) = omega arith
 kind-small (ExecuteResult e) = omega arith
+kind-small (SystemParameters e) = omega arith
+kind-small (HandshakeEx e) = omega arith
 
 header-within : (p : Pdu) → 4 ≤ sizeOf p
 unfolding sizeOf
@@ -174,6 +195,8 @@ header-within (SystemMenu e) = omega arith
 header-within (GetApplicationId e) = omega arith
 header-within (ApplicationIdResponse e) = omega arith
 header-within (ExecuteResult e) = omega arith
+header-within (SystemParameters e) = omega (arith, least-size (dataOf (e .setting)))
+header-within (HandshakeEx e) = omega arith
 
 row-fits : (k n : ℕ) (ws ns : List ℕ) → fitsIn 2 k ≡ true → fitsIn 2 n ≡ true → allFit ws ns ≡ true → allFit (2 ∷ 2 ∷ ws) (k ∷ n ∷ ns) ≡ true
 unfolding allFit
@@ -182,15 +205,41 @@ row-fits k n ws ns a b c = rw (a, b) c
 -- ---- reading what was written
 
 -- a message that no line of the ladder refuses
-pub granted : (s : List ℕ) (p : Pdu) → ltb (length s) 4 ≡ false → eqb (numAt 2 s 2) (length s) ≡ true → known (numAt 2 s 0) ≡ true → recordAs (numAt 2 s 0) s ≡ p
-    → eqb (sizeOf p) (length s) ≡ true → allowed p ≡ true → readOf s ≡ Message p
+pub granted : (s : List ℕ) (k : ℕ) (p : Pdu) → ltb (length s) 4 ≡ false → eqb (numAt 2 s 2) (length s) ≡ true → numAt 2 s 0 ≡ k → known k ≡ true → recordAs k s ≡ p
+    → (unknownSetting k s ≡ false) × (lengthsAgree k s ≡ true) → eqb (sizeOf p) (length s) ≡ true → allowed p ≡ true → readOf s ≡ Message p
 unfolding readOf readNumber bodyNumber answerAs
-granted s p a b c r z w = rw (a, b, c, r, z, w)
+granted s k p a b e c r l z w = rw (a, b, e, c, l .0, r, z, l .1, w)
+
+-- the widths of the numbers that are seen again are those that were written
+seen-widths : (t : Bool) (ws ns s : List ℕ) → numsAt (pick t (4 ∷ settingWidths (getD ns 0 0)) ws) s 4 ≡ ns
+    → pick t (4 ∷ settingWidths (numAt 4 s 4)) ws ≡ pick t (4 ∷ settingWidths (getD ns 0 0)) ws
+unfolding numsAt
+seen-widths true ws ns s e = let q : numAt 4 s 4 ≡ getD ns 0 0 = ap (λ (l : List ℕ). getD l 0 0) e in rw q
+seen-widths false ws ns s e = refl
+
+-- what is seen again names a known setting, and its lengths agree
+setting-fine : (p : Pdu) (s : List ℕ) → numsAt (widthsOf p) s 4 ≡ numsOf p → (unknownSetting (kindOf p) s ≡ false) × (lengthsAgree (kindOf p) s ≡ true)
+unfolding kindOf numsOf
+setting-fine (Execute e) s b = (refl, refl)
+setting-fine (Activate e) s b = (refl, refl)
+setting-fine (SystemCommand e) s b = (refl, refl)
+setting-fine (Handshake e) s b = (refl, refl)
+setting-fine (NotifyEvent e) s b = (refl, refl)
+setting-fine (WindowMove e) s b = (refl, refl)
+setting-fine (MoveSize e) s b = (refl, refl)
+setting-fine (MinMaxInfo e) s b = (refl, refl)
+setting-fine (ClientInformation e) s b = (refl, refl)
+setting-fine (SystemMenu e) s b = (refl, refl)
+setting-fine (GetApplicationId e) s b = (refl, refl)
+setting-fine (ApplicationIdResponse e) s b = (refl, refl)
+setting-fine (ExecuteResult e) s b = (refl, refl)
+setting-fine (SystemParameters e) s b = lines-fine (numberOf (e .setting)) (dataOf (e .setting)) s (shape (e .setting)) b
+setting-fine (HandshakeEx e) s b = (refl, refl)
 
 module _ (p : Pdu) (src : List ℕ) (g : grants p src ≡ true) (t : typed p ≡ true) where
   fits : allFit (row p) (line p) ≡ true
   unfolding typed
-  fits = row-fits (kindOf p) (sizeOf p) (widths (kindOf p)) (numsOf p) (fits2 (kindOf p) (kind-small p)) (fits2 (sizeOf p) (size-small p (allowed-of p src g))) t
+  fits = row-fits (kindOf p) (sizeOf p) (widthsOf p) (numsOf p) (fits2 (kindOf p) (kind-small p)) (fits2 (sizeOf p) (size-small p (allowed-of p src g))) t
 
   nums : numsAt (row p) (encode p src) 0 ≡ line p
   unfolding encode
@@ -204,22 +253,28 @@ module _ (p : Pdu) (src : List ℕ) (g : grants p src ≡ true) (t : typed p ≡
   unfolding numsAt
   size = ap (λ (l : List ℕ). getD l 1 0) nums
 
-  body : numsAt (widths (kindOf p)) (encode p src) 4 ≡ numsOf p
+  body : numsAt (widthsOf p) (encode p src) 4 ≡ numsOf p
   unfolding numsAt
   body = ap (drop 2) nums
 
-  seen : recordAs (numAt 2 (encode p src) 0) (encode p src) ≡ rebased p
+  seen : recordAs (kindOf p) (encode p src) ≡ rebased p
   unfolding recordAs
-  seen = rw (kind, body) (record-back p)
+  seen =
+      let b = encode p src in
+      ap (λ (ws : List ℕ). recordOf (kindOf p) (numsAt ws b 4)) (seen-widths (eqb (kindOf p) 0x03) (widths (kindOf p)) (numsOf p) b body)
+      ∙ ap (recordOf (kindOf p)) body
+      ∙ record-back p
 
   message-back : readOf (encode p src) ≡ Message (rebased p)
   message-back =
       let l = length-encode p src g in
-      granted (encode p src) (rebased p)
+      granted (encode p src) (kindOf p) (rebased p)
       (le-ltb (length (encode p src)) 4 (omega (arith, header-within p, l)))
       (eq-eqb (numAt 2 (encode p src) 2) (length (encode p src)) (size ∙ sym l))
-      (rw kind (known-kind p))
+      kind
+      (known-kind p)
       seen
+      (setting-fine p (encode p src) body)
       (eq-eqb (sizeOf (rebased p)) (length (encode p src)) (size-back p ∙ sym l))
       (allowed-back p (allowed-of p src g))
 
@@ -227,7 +282,7 @@ module _ (p : Pdu) (src : List ℕ) (g : grants p src ≡ true) (t : typed p ≡
 
 -- writing puts the strings one after the other behind the numbers
 spans-back : (p : Pdu) → spansOf (rebased p) ≡ spansFrom (total (row p)) (stringLengths p)
-unfolding spansOf rebased total widths kindOf stringLengths
+unfolding spansOf rebased total widths kindOf numsOf stringLengths
 spans-back (Execute e) = refl
 spans-back (Activate e) = refl
 spans-back (SystemCommand e) = refl
@@ -241,6 +296,8 @@ spans-back (SystemMenu e) = refl
 spans-back (GetApplicationId e) = refl
 spans-back (ApplicationIdResponse e) = refl
 spans-back (ExecuteResult e) = refl
+spans-back (SystemParameters e) = ap dataSpans (moved-made (e .setting) .body) ∙ spans-shape (numberOf (e .setting)) (dataOf (e .setting)) (shape (e .setting))
+spans-back (HandshakeEx e) = refl
 
 kind-back : (p : Pdu) → kindOf (rebased p) ≡ kindOf p
 unfolding kindOf rebased
@@ -257,6 +314,8 @@ kind-back (SystemMenu e) = refl
 kind-back (GetApplicationId e) = refl
 kind-back (ApplicationIdResponse e) = refl
 kind-back (ExecuteResult e) = refl
+kind-back (SystemParameters e) = refl
+kind-back (HandshakeEx e) = refl
 
 -- filling out again changes nothing
 filled-again : (p : Pdu) (src : List ℕ) → grants p src ≡ true → map (filled (kindOf p)) (stringsOf p src) ≡ stringsOf p src
@@ -275,6 +334,8 @@ filled-again (GetApplicationId e) src g = refl
 filled-again (ApplicationIdResponse e) src g =
     ap (λ (x : List ℕ). x ∷ []) (filled-whole (splice zeros 0 (partOf src (e .«application_id»))) (ap (λ (l : List ℕ). getD l 0 0) (string-lengths (ApplicationIdResponse e) src g)))
 filled-again (ExecuteResult e) src g = refl
+filled-again (SystemParameters e) src g = filled-data (dataOf (e .setting)) src
+filled-again (HandshakeEx e) src g = refl
 
 map-map : (f : List ℕ → List ℕ) (b : List ℕ) (ts : List Span) → map (λ (t : Span). f (partOf b t)) ts ≡ map f (parts b ts)
 map-map f b [] = refl

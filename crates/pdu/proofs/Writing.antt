@@ -14,14 +14,16 @@ use Rattle.wire.proofs.Tests.{both-left, both-right}
 use Rattle.wire.proofs.Parts.{splice-start}
 use Rattle.wire.proofs.Numbers.{length-put}
 use Rattle.pdu.specs.declared.Pdu.{Pdu}
-use Rattle.pdu.specs.declared.Pdu.the-variants.{Execute, Activate, SystemCommand, Handshake, NotifyEvent, WindowMove, MoveSize, MinMaxInfo, ClientInformation, SystemMenu, GetApplicationId, ApplicationIdResponse, ExecuteResult}
+use Rattle.pdu.specs.declared.Pdu.the-variants.{Execute, Activate, SystemCommand, Handshake, NotifyEvent, WindowMove, MoveSize, MinMaxInfo, ClientInformation, SystemMenu, GetApplicationId, ApplicationIdResponse, ExecuteResult, SystemParameters, HandshakeEx}
 use Rattle.pdu.specs.declared.ApplicationIdResponse as A
 use Rattle.pdu.specs.declared.Written.the-variants as W
 use Rattle.pdu.specs.Layout.{widths}
-use Rattle.pdu.specs.Records.{kindOf, sizeOf, spansOf}
+use Rattle.pdu.specs.Settings.{numberOf, dataOf, dataNums, dataSpans}
+use Rattle.pdu.specs.Records.{kindOf, numsOf, sizeOf, spansOf}
 use Rattle.pdu.specs.Rules.{allowed}
 use Rattle.pdu.specs.Writing.{partOf, allLie, zeros, filled, stringsOf, joined, row, line, encode, grants, writtenNumber, writtenOf, outAfter}
-use Rattle.pdu.proofs.Strings.{lens-lie, sum, length-joined, length-filled}
+use Rattle.pdu.proofs.Strings.{lens, lens-lie, sum, length-joined, length-filled}
+use Rattle.pdu.proofs.Settings.{shape, size-shape}
 
 pub allowed-of : (p : Pdu) (src : List ℕ) → grants p src ≡ true → allowed p ≡ true
 unfolding grants
@@ -48,6 +50,8 @@ stringLengths (SystemMenu e) = []
 stringLengths (GetApplicationId e) = []
 stringLengths (ApplicationIdResponse e) = 520 ∷ []
 stringLengths (ExecuteResult e) = e .«exe_or_file» .len ∷ []
+stringLengths (SystemParameters e) = lens (dataSpans (dataOf (e .setting)))
+stringLengths (HandshakeEx e) = []
 
 id-length : (e : A.ApplicationIdResponse) (src : List ℕ) → grants (ApplicationIdResponse e) src ≡ true → length (splice zeros 0 (partOf src (e .«application_id»))) ≡ 520
 unfolding allowed spansOf
@@ -72,10 +76,12 @@ string-lengths (SystemMenu e) src g = refl
 string-lengths (GetApplicationId e) src g = refl
 string-lengths (ApplicationIdResponse e) src g = ap (λ (k : ℕ). k ∷ []) (id-length e src g)
 string-lengths (ExecuteResult e) src g = lens-lie (spansOf (ExecuteResult e)) src (lie-of (ExecuteResult e) src g)
+string-lengths (SystemParameters e) src g = lens-lie (spansOf (SystemParameters e)) src (lie-of (SystemParameters e) src g)
+string-lengths (HandshakeEx e) src g = refl
 
 -- a record takes its numbers and its strings
 pub size-is : (p : Pdu) → total (row p) + sum (stringLengths p) ≡ sizeOf p
-unfolding total widths kindOf stringLengths sizeOf
+unfolding total widths kindOf numsOf stringLengths sizeOf
 size-is (Execute e) = omega arith
 size-is (Activate e) = refl
 size-is (SystemCommand e) = refl
@@ -89,6 +95,8 @@ size-is (SystemMenu e) = refl
 size-is (GetApplicationId e) = refl
 size-is (ApplicationIdResponse e) = refl
 size-is (ExecuteResult e) = ap (λ (k : ℕ). 16 + k) (add-zero (e .«exe_or_file» .len))
+size-is (SystemParameters e) = size-shape (numberOf (e .setting)) (dataOf (e .setting)) (shape (e .setting))
+size-is (HandshakeEx e) = refl
 
 pub length-encode : (p : Pdu) (src : List ℕ) → grants p src ≡ true → length (encode p src) ≡ sizeOf p
 unfolding encode

@@ -1,5 +1,5 @@
 -- The layouts: which types there are, and the widths of the numbers that follow each type's header (orderType 2, orderLength 2).
--- Strings follow the numbers. Assumes nothing.
+-- Strings follow the numbers. Those of type 0003 are in Settings.antt, by its setting. Assumes nothing.
 use Prim.Native.Nat.{ℕ}
 use mathlib.Core.Bool.{Bool}
 use mathlib.Core.List.{List, [], _∷_, map}
@@ -11,7 +11,7 @@ abbrev pub oneOf : ℕ → List ℕ → Bool
 oneOf v xs = any (map (λ (x : ℕ). eqb v x) xs)
 
 abbrev pub types : List ℕ
-types = 0x01 ∷ 0x02 ∷ 0x04 ∷ 0x05 ∷ 0x06 ∷ 0x08 ∷ 0x09 ∷ 0x0A ∷ 0x0B ∷ 0x0C ∷ 0x0E ∷ 0x0F ∷ 0x80 ∷ []
+types = 0x01 ∷ 0x02 ∷ 0x04 ∷ 0x05 ∷ 0x06 ∷ 0x08 ∷ 0x09 ∷ 0x0A ∷ 0x0B ∷ 0x0C ∷ 0x0E ∷ 0x0F ∷ 0x03 ∷ 0x13 ∷ 0x80 ∷ []
 
 unfoldable pub known : ℕ → Bool
 known k = oneOf k types
@@ -31,4 +31,5 @@ widths k =
     (pick (eqb k 0x0E) (4 ∷ [])
     (pick (eqb k 0x0F) (4 ∷ [])
     (pick (eqb k 0x80) (2 ∷ 2 ∷ 4 ∷ 2 ∷ 2 ∷ [])
-    []))))))))))))
+    (pick (eqb k 0x13) (4 ∷ 4 ∷ [])
+    [])))))))))))))

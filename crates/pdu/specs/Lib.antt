@@ -1,4 +1,5 @@
 pub mod Layout
+pub mod Settings
 pub mod Records
 pub mod Rules
 pub mod Answers

@@ -7,7 +7,8 @@ use lib.Dec.{eqb}
 use Rattle.wire.specs.Tests.{pick}
 use Rattle.pdu.specs.declared.Span.{Span}
 use Rattle.pdu.specs.declared.Pdu.{Pdu}
-use Rattle.pdu.specs.declared.Pdu.the-variants.{Execute, Activate, SystemCommand, Handshake, NotifyEvent, WindowMove, MoveSize, MinMaxInfo, ClientInformation, SystemMenu, GetApplicationId, ApplicationIdResponse, ExecuteResult}
+use Rattle.pdu.specs.declared.Pdu.the-variants.{Execute, Activate, SystemCommand, Handshake, NotifyEvent, WindowMove, MoveSize, MinMaxInfo, ClientInformation, SystemMenu, GetApplicationId, ApplicationIdResponse, ExecuteResult, SystemParameters, HandshakeEx}
+use Rattle.pdu.specs.Settings.{numberOf, dataOf, settingWith, dataAt, dataNums, dataSize, dataSpans, widthsWith}
 
 abbrev pub span : ℕ → ℕ → Span
 span a n = record { at = a; len = n }
@@ -46,7 +47,11 @@ recordOf k n =
     (GetApplicationId (record { «window_id» = record { id = getD n 0 0 } }))
     (pick (eqb k 0x0F)
     (ApplicationIdResponse (record { «window_id» = record { id = getD n 0 0 }; «application_id» = span 8 520 }))
-    (ExecuteResult (record { flags = getD n 0 0; «exec_result» = getD n 1 0; «raw_result» = getD n 2 0; «exe_or_file» = span 16 (getD n 4 0) })))))))))))))
+    (pick (eqb k 0x03)
+    (SystemParameters (record { setting = settingWith (getD n 0 0) (dataAt (getD n 0 0) n) }))
+    (pick (eqb k 0x13)
+    (HandshakeEx (record { «build_number» = getD n 0 0; flags = getD n 1 0 }))
+    (ExecuteResult (record { flags = getD n 0 0; «exec_result» = getD n 1 0; «raw_result» = getD n 2 0; «exe_or_file» = span 16 (getD n 4 0) })))))))))))))))
 
 -- the type of a record
 unfoldable pub kindOf : Pdu → ℕ
@@ -63,6 +68,8 @@ kindOf (SystemMenu e) = 0x0C
 kindOf (GetApplicationId e) = 0x0E
 kindOf (ApplicationIdResponse e) = 0x0F
 kindOf (ExecuteResult e) = 0x80
+kindOf (SystemParameters e) = 0x03
+kindOf (HandshakeEx e) = 0x13
 
 -- the numbers of a record after the header; Padding is 0, and start 0 or 1
 unfoldable pub numsOf : Pdu → List ℕ
@@ -79,6 +86,12 @@ numsOf (SystemMenu e) = e .«window_id» .id ∷ e .left ∷ e .top ∷ []
 numsOf (GetApplicationId e) = e .«window_id» .id ∷ []
 numsOf (ApplicationIdResponse e) = e .«window_id» .id ∷ []
 numsOf (ExecuteResult e) = e .flags ∷ e .«exec_result» ∷ e .«raw_result» ∷ 0 ∷ e .«exe_or_file» .len ∷ []
+numsOf (SystemParameters e) = numberOf (e .setting) ∷ dataNums (dataOf (e .setting))
+numsOf (HandshakeEx e) = e .«build_number» ∷ e .flags ∷ []
+
+-- their widths
+abbrev pub widthsOf : Pdu → List ℕ
+widthsOf p = widthsWith (kindOf p) (getD (numsOf p) 0 0)
 
 -- the bytes that a record takes
 unfoldable pub sizeOf : Pdu → ℕ
@@ -95,6 +108,8 @@ sizeOf (SystemMenu e) = 12
 sizeOf (GetApplicationId e) = 8
 sizeOf (ApplicationIdResponse e) = 528
 sizeOf (ExecuteResult e) = 16 + e .«exe_or_file» .len
+sizeOf (SystemParameters e) = dataSize (dataOf (e .setting))
+sizeOf (HandshakeEx e) = 12
 
 -- the places of a record's strings, in carried order
 unfoldable pub spansOf : Pdu → List Span
@@ -111,3 +126,5 @@ spansOf (SystemMenu e) = []
 spansOf (GetApplicationId e) = []
 spansOf (ApplicationIdResponse e) = e .«application_id» ∷ []
 spansOf (ExecuteResult e) = e .«exe_or_file» ∷ []
+spansOf (SystemParameters e) = dataSpans (dataOf (e .setting))
+spansOf (HandshakeEx e) = []

@@ -9,13 +9,13 @@ use Rattle.wire.specs.Tests.{pick}
 use Rattle.wire.specs.Parts.{splice}
 use Rattle.wire.specs.Numbers.{numAt, allFit}
 use Rattle.pdu.specs.declared.Pdu.{Pdu}
-use Rattle.pdu.specs.declared.Pdu.the-variants.{Execute, Activate, SystemCommand, Handshake, NotifyEvent, WindowMove, MoveSize, MinMaxInfo, ClientInformation, SystemMenu, GetApplicationId, ApplicationIdResponse, ExecuteResult}
+use Rattle.pdu.specs.declared.Pdu.the-variants.{Execute, Activate, SystemCommand, Handshake, NotifyEvent, WindowMove, MoveSize, MinMaxInfo, ClientInformation, SystemMenu, GetApplicationId, ApplicationIdResponse, ExecuteResult, SystemParameters, HandshakeEx}
 use Rattle.pdu.specs.declared.Read.{Read}
 use Rattle.pdu.specs.declared.Read.the-variants as R
 use Rattle.pdu.specs.declared.Written.{Written}
 use Rattle.pdu.specs.declared.Written.the-variants as W
-use Rattle.pdu.specs.Layout.{widths}
-use Rattle.pdu.specs.Records.{span, isYes, yesNumber, kindOf, numsOf, sizeOf}
+use Rattle.pdu.specs.Settings.{numberOf, dataOf, settingWith, moved}
+use Rattle.pdu.specs.Records.{span, isYes, yesNumber, kindOf, numsOf, widthsOf, sizeOf}
 use Rattle.pdu.specs.Answers.{answers, readSays, writtenSays}
 use Rattle.pdu.specs.Reading.{typeAt, recordAs, readOf, readNumber}
 use Rattle.pdu.specs.Writing.{stringsOf, encode, grants, writtenOf, writtenNumber, outAfter}
@@ -42,10 +42,12 @@ rebased (GetApplicationId e) = GetApplicationId e
 rebased (ApplicationIdResponse e) = ApplicationIdResponse (record { «window_id» = e .«window_id»; «application_id» = span 8 520 })
 rebased (ExecuteResult e) =
     ExecuteResult (record { flags = e .flags; «exec_result» = e .«exec_result»; «raw_result» = e .«raw_result»; «exe_or_file» = span 16 (e .«exe_or_file» .len) })
+rebased (SystemParameters e) = SystemParameters (record { setting = settingWith (numberOf (e .setting)) (moved (dataOf (e .setting))) })
+rebased (HandshakeEx e) = HandshakeEx e
 
 -- the numbers of a record fit their fields, as those of every value in memory that writing grants do
 unfoldable pub typed : Pdu → Bool
-typed p = allFit (widths (kindOf p)) (numsOf p)
+typed p = allFit (widthsOf p) (numsOf p)
 
 -- the bytes of a message with Padding 0 and a nonzero start 1
 unfoldable pub tidyAs : ℕ → List ℕ → List ℕ

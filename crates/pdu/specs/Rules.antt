@@ -8,8 +8,9 @@ use Rattle.pdu.specs.declared.Execute as E
 use Rattle.pdu.specs.declared.MoveSize as M
 use Rattle.pdu.specs.declared.ExecuteResult as X
 use Rattle.pdu.specs.declared.Pdu.{Pdu}
-use Rattle.pdu.specs.declared.Pdu.the-variants.{Execute, Activate, SystemCommand, Handshake, NotifyEvent, WindowMove, MoveSize, MinMaxInfo, ClientInformation, SystemMenu, GetApplicationId, ApplicationIdResponse, ExecuteResult}
+use Rattle.pdu.specs.declared.Pdu.the-variants.{Execute, Activate, SystemCommand, Handshake, NotifyEvent, WindowMove, MoveSize, MinMaxInfo, ClientInformation, SystemMenu, GetApplicationId, ApplicationIdResponse, ExecuteResult, SystemParameters, HandshakeEx}
 use Rattle.pdu.specs.Layout.{oneOf}
+use Rattle.pdu.specs.Settings.{dataOf, dataAllowed}
 
 -- a string of low to high bytes, an even number of them (house rule)
 abbrev pub textOk : ℕ → ℕ → ℕ → Bool
@@ -50,6 +51,7 @@ allowed (SystemCommand e) = oneOf (e .command) commands
 allowed (MoveSize e) = moveSizeAllowed e
 allowed (ApplicationIdResponse e) = leb (e .«application_id» .len) 520
 allowed (ExecuteResult e) = executeResultAllowed e
+allowed (SystemParameters e) = dataAllowed (dataOf (e .setting))
 allowed (Handshake e) = true
 allowed (NotifyEvent e) = true
 allowed (WindowMove e) = true
@@ -57,3 +59,4 @@ allowed (MinMaxInfo e) = true
 allowed (ClientInformation e) = true
 allowed (SystemMenu e) = true
 allowed (GetApplicationId e) = true
+allowed (HandshakeEx e) = true

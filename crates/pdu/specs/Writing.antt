@@ -11,8 +11,7 @@ use Rattle.pdu.specs.declared.Span.{Span}
 use Rattle.pdu.specs.declared.Pdu.{Pdu}
 use Rattle.pdu.specs.declared.Written.{Written}
 use Rattle.pdu.specs.declared.Written.the-variants.{Bytes, Refused}
-use Rattle.pdu.specs.Layout.{widths}
-use Rattle.pdu.specs.Records.{kindOf, numsOf, sizeOf, spansOf}
+use Rattle.pdu.specs.Records.{kindOf, numsOf, widthsOf, sizeOf, spansOf}
 use Rattle.pdu.specs.Rules.{allowed}
 
 -- the part of src where a string stands, and whether src of n bytes has it whole
@@ -44,7 +43,7 @@ joined (x ∷ xs) = x ++ joined xs
 
 -- the widths and the numbers of a record with its header
 abbrev pub row : Pdu → List ℕ
-row p = 2 ∷ 2 ∷ widths (kindOf p)
+row p = 2 ∷ 2 ∷ widthsOf p
 
 abbrev pub line : Pdu → List ℕ
 line p = kindOf p ∷ sizeOf p ∷ numsOf p

@@ -4,6 +4,7 @@ use protocol::WindowId;
 ghost use mathlib.Core.Path.{_≡_};
 ghost use Rattle.pdu.specs.Rules.{textOk, executeFlagsOk, commands, execResults, executeAllowed, moveSizeAllowed, executeResultAllowed};
 ghost use Rattle.pdu.specs.Layout.{oneOf};
+ghost use Rattle.pdu.specs.Settings.{isByte, isArea, settingWith, byte, area, schemeFits};
 ghost use lib.Dec.{leb};
 
 // The part of the lent bytes where a string stands.
@@ -106,6 +107,55 @@ pub struct ExecuteResult {
     pub exe_or_file: Span,
 }
 
+// TS_RECTANGLE_16
+pub struct Rectangle {
+    pub left: u16,
+    pub top: u16,
+    pub right: u16,
+    pub bottom: u16,
+}
+
+// TS_HIGHCONTRAST
+pub struct HighContrast {
+    pub flags: u32,
+    pub color_scheme: Span,
+}
+
+// SystemParam with its body. The client sends the first eight, the server the last two.
+pub enum Setting {
+    // SPI_SETDRAGFULLWINDOWS, 00000025
+    DragFullWindows(u8),
+    // SPI_SETKEYBOARDCUES, 0000100B
+    KeyboardCues(u8),
+    // SPI_SETKEYBOARDPREF, 00000045
+    KeyboardPref(u8),
+    // SPI_SETMOUSEBUTTONSWAP, 00000021
+    MouseButtonSwap(u8),
+    // SPI_SETWORKAREA, 0000002F
+    WorkArea(Rectangle),
+    // RAIL_SPI_TASKBARPOS, 0000F000
+    TaskbarPos(Rectangle),
+    // RAIL_SPI_DISPLAYCHANGE, 0000F001
+    DisplayChange(Rectangle),
+    // SPI_SETHIGHCONTRAST, 00000043
+    HighContrast(HighContrast),
+    // SPI_SETSCREENSAVEACTIVE, 00000011
+    ScreenSaveActive(u8),
+    // SPI_SETSCREENSAVESECURE, 00000077
+    ScreenSaveSecure(u8),
+}
+
+// TS_RAIL_ORDER_SYSPARAM, type 0003
+pub struct SystemParameters {
+    pub setting: Setting,
+}
+
+// TS_RAIL_ORDER_HANDSHAKE_EX, type 0013
+pub struct HandshakeEx {
+    pub build_number: u32,
+    pub flags: u32,
+}
+
 pub enum Pdu {
     Execute(Execute),
     Activate(Activate),
@@ -120,6 +170,8 @@ pub enum Pdu {
     GetApplicationId(GetApplicationId),
     ApplicationIdResponse(ApplicationIdResponse),
     ExecuteResult(ExecuteResult),
+    SystemParameters(SystemParameters),
+    HandshakeEx(HandshakeEx),
 }
 
 // What reading answers: the record, or the number of the refusal.
@@ -206,4 +258,54 @@ pub fn execute_result_allowed(e: ExecuteResult) -> bool
     ensures { λ r. ⌜ r ≡ executeResultAllowed e ⌝ }
 {
     exec_result_ok(e.exec_result) & (1 <= e.exe_or_file.len) & (e.exe_or_file.len <= 520)
+}
+
+pub fn high_contrast_allowed(e: HighContrast) -> bool
+    ensures { λ r. ⌜ r ≡ schemeFits e ⌝ }
+{
+    e.color_scheme.len <= 520
+}
+
+// ---- settings by number
+
+// A setting whose body is one byte, a rectangle.
+pub fn is_byte_setting(number: u32) -> bool
+    ensures { λ r. ⌜ r ≡ isByte number ⌝ }
+{
+    (number == 0x25)
+        | (number == 0x100B)
+        | (number == 0x45)
+        | (number == 0x21)
+        | (number == 0x11)
+        | (number == 0x77)
+}
+
+pub fn is_area_setting(number: u32) -> bool
+    ensures { λ r. ⌜ r ≡ isArea number ⌝ }
+{
+    (number == 0x2F) | (number == 0xF000) | (number == 0xF001)
+}
+
+// The setting of a number with such a body, the last where the number has another.
+pub fn byte_setting(number: u32, value: u8) -> Setting
+    ensures { λ r. ⌜ r ≡ settingWith number (byte value) ⌝ }
+{
+    match number {
+        0x25 => Setting::DragFullWindows(value),
+        0x100B => Setting::KeyboardCues(value),
+        0x45 => Setting::KeyboardPref(value),
+        0x21 => Setting::MouseButtonSwap(value),
+        0x11 => Setting::ScreenSaveActive(value),
+        _ => Setting::ScreenSaveSecure(value),
+    }
+}
+
+pub fn area_setting(number: u32, place: Rectangle) -> Setting
+    ensures { λ r. ⌜ r ≡ settingWith number (area place) ⌝ }
+{
+    match number {
+        0x2F => Setting::WorkArea(place),
+        0xF000 => Setting::TaskbarPos(place),
+        _ => Setting::DisplayChange(place),
+    }
 }

@@ -13,16 +13,20 @@ use mir.Val.{Val}
 use denote.Laws.{Is}
 use denote.Enum.Declared.{row, variants}
 use denote.Enum.Laws.{Fields, spellss, owed}
-use Rattle.wire.specs.Tests.{both, allAfter}
+use Rattle.wire.specs.Tests.{both, either, pick, allAfter}
 use Rattle.wire.proofs.Tests.{both-left, both-right, Each, one-of}
 use Rattle.pdu.proofs.Pdu.{the-type}
 use Rattle.pdu.proofs.Pdu.Laws.{the-laws}
 use Rattle.pdu.specs.declared.Pdu.{Pdu}
-use Rattle.pdu.specs.declared.Pdu.the-variants.{Execute, Activate, SystemCommand, Handshake, NotifyEvent, WindowMove, MoveSize, MinMaxInfo, ClientInformation, SystemMenu, GetApplicationId, ApplicationIdResponse, ExecuteResult}
+use Rattle.pdu.specs.declared.Pdu.the-variants.{Execute, Activate, SystemCommand, Handshake, NotifyEvent, WindowMove, MoveSize, MinMaxInfo, ClientInformation, SystemMenu, GetApplicationId, ApplicationIdResponse, ExecuteResult, SystemParameters, HandshakeEx}
+use Rattle.pdu.specs.declared.Setting.{Setting}
+use Rattle.pdu.specs.declared.Setting.the-variants.{DragFullWindows, KeyboardCues, KeyboardPref, MouseButtonSwap, WorkArea, TaskbarPos, DisplayChange, HighContrast, ScreenSaveActive, ScreenSaveSecure}
 use Rattle.pdu.specs.Layout.{types, known}
+use Rattle.pdu.specs.Settings.{isByte, isArea, highContrast, knownSetting, Data, byte, area, scheme, numberOf, dataOf, settingWith}
 use Rattle.pdu.specs.Records.{isYes, yesNumber, kindOf}
-use Rattle.pdu_words.specs.Words.{wordsOf}
-use Rattle.pdu_words.specs.FromWords.{u8, u16, u32, most, within, Within, stand, Stands, recordFrom, pduOf, fits}
+use Rattle.pdu.proofs.Settings.{Shape, shape, setting-again, made, not-byte, not-area, by-shape}
+use Rattle.pdu_words.specs.Words.{settingWords, wordsOf}
+use Rattle.pdu_words.specs.FromWords.{u8, u16, u32, nothing, most, byteMost, areaMost, schemeMost, settingMost, limits, within, Within, stand, Stands, areaFrom, schemeFrom, dataFrom, recordFrom, pduOf, fits}
 
 -- ---- limits
 
@@ -77,25 +81,27 @@ NoneOf k (x ∷ xs) = NoneOf k xs × (k ≡ x → ⊥)
 
 -- the types but the last, in the order in which a match leaves them behind
 abbrev pub Others : ℕ → Type 0
-Others k = NoneOf k (0x0F ∷ 0x0E ∷ 0x0C ∷ 0x0B ∷ 0x0A ∷ 0x09 ∷ 0x08 ∷ 0x06 ∷ 0x05 ∷ 0x04 ∷ 0x02 ∷ 0x01 ∷ [])
+Others k = NoneOf k (0x13 ∷ 0x03 ∷ 0x0F ∷ 0x0E ∷ 0x0C ∷ 0x0B ∷ 0x0A ∷ 0x09 ∷ 0x08 ∷ 0x06 ∷ 0x05 ∷ 0x04 ∷ 0x02 ∷ 0x01 ∷ [])
 
 -- then the type is known where it is the last
 others : (k : ℕ) → Others k → known k ≡ eqb k 0x80
 unfolding known
 others k h =
     rw (
-      ne-eqb k 0x01 (h .0 .0 .0 .0 .0 .0 .0 .0 .0 .0 .0 .1),
-      ne-eqb k 0x02 (h .0 .0 .0 .0 .0 .0 .0 .0 .0 .0 .1),
-      ne-eqb k 0x04 (h .0 .0 .0 .0 .0 .0 .0 .0 .0 .1),
-      ne-eqb k 0x05 (h .0 .0 .0 .0 .0 .0 .0 .0 .1),
-      ne-eqb k 0x06 (h .0 .0 .0 .0 .0 .0 .0 .1),
-      ne-eqb k 0x08 (h .0 .0 .0 .0 .0 .0 .1),
-      ne-eqb k 0x09 (h .0 .0 .0 .0 .0 .1),
-      ne-eqb k 0x0A (h .0 .0 .0 .0 .1),
-      ne-eqb k 0x0B (h .0 .0 .0 .1),
-      ne-eqb k 0x0C (h .0 .0 .1),
-      ne-eqb k 0x0E (h .0 .1),
-      ne-eqb k 0x0F (h .1),
+      ne-eqb k 0x01 (h .0 .0 .0 .0 .0 .0 .0 .0 .0 .0 .0 .0 .0 .1),
+      ne-eqb k 0x02 (h .0 .0 .0 .0 .0 .0 .0 .0 .0 .0 .0 .0 .1),
+      ne-eqb k 0x04 (h .0 .0 .0 .0 .0 .0 .0 .0 .0 .0 .0 .1),
+      ne-eqb k 0x05 (h .0 .0 .0 .0 .0 .0 .0 .0 .0 .0 .1),
+      ne-eqb k 0x06 (h .0 .0 .0 .0 .0 .0 .0 .0 .0 .1),
+      ne-eqb k 0x08 (h .0 .0 .0 .0 .0 .0 .0 .0 .1),
+      ne-eqb k 0x09 (h .0 .0 .0 .0 .0 .0 .0 .1),
+      ne-eqb k 0x0A (h .0 .0 .0 .0 .0 .0 .1),
+      ne-eqb k 0x0B (h .0 .0 .0 .0 .0 .1),
+      ne-eqb k 0x0C (h .0 .0 .0 .0 .1),
+      ne-eqb k 0x0E (h .0 .0 .0 .1),
+      ne-eqb k 0x0F (h .0 .0 .1),
+      ne-eqb k 0x03 (h .0 .1),
+      ne-eqb k 0x13 (h .1),
     )
 
 pub no-type : (k : ℕ) → Others k × (k ≡ 0x80 → ⊥) → known k ≡ false
@@ -103,7 +109,7 @@ no-type k h = others k (h .0) ∙ ne-eqb k 0x80 (h .1)
 
 module _ (w : List ℕ) where
   -- the words of a known type stand where each is within its field
-  pub standing : {k : ℕ} {r : Bool} → getD w 0 0 ≡ k → known k ≡ true → r ≡ within w (most k) → r ≡ stand w
+  pub standing : {k : ℕ} {r : Bool} → getD w 0 0 ≡ k → known k ≡ true → r ≡ within w (limits k (getD w 1 0)) → r ≡ stand w
   unfolding stand
   standing q u e = e ∙ rw (q, u)
 
@@ -113,18 +119,63 @@ module _ (w : List ℕ) where
 
   known-type : stand w ≡ true → known (getD w 0 0) ≡ true
   unfolding stand
-  known-type h = both-left (known (getD w 0 0)) (within w (most (getD w 0 0))) h
+  known-type h = both-left (known (getD w 0 0)) (within w (limits (getD w 0 0) (getD w 1 0))) h
 
-  within-type : stand w ≡ true → within w (most (getD w 0 0)) ≡ true
+  within-type : stand w ≡ true → within w (limits (getD w 0 0) (getD w 1 0)) ≡ true
   unfolding stand
-  within-type h = both-right (known (getD w 0 0)) (within w (most (getD w 0 0))) h
+  within-type h = both-right (known (getD w 0 0)) (within w (limits (getD w 0 0) (getD w 1 0))) h
 
 -- words that stand and have none of the other types have the last
 pub last-type : {w : List ℕ} → Stands w → Others (getD w 0 0) → getD w 0 0 ≡ 0x80
 last-type {w} h o = eqb-true (getD w 0 0) 0x80 (sym (others (getD w 0 0) o) ∙ known-type w (h .holds))
 
-pub inside : (k : ℕ) {w : List ℕ} → Stands w → getD w 0 0 ≡ k → Within w (most k)
-inside k {w} h q = all-within w (most k) (ap (λ (i : ℕ). within w (most i)) (sym q) ∙ within-type w (h .holds))
+pub inside : (k : ℕ) {w : List ℕ} → Stands w → getD w 0 0 ≡ k → Within w (limits k (getD w 1 0))
+inside k {w} h q = all-within w (limits k (getD w 1 0)) (ap (λ (i : ℕ). within w (limits i (getD w 1 0))) (sym q) ∙ within-type w (h .holds))
+
+-- ---- settings
+
+pub byte-limits : (c : ℕ) → isByte c ≡ true → settingMost c ≡ byteMost c
+byte-limits c h = rw h
+
+pub area-limits : (c : ℕ) → isByte c ≡ false → isArea c ≡ true → settingMost c ≡ areaMost c
+area-limits c g h = rw (g, h)
+
+pub scheme-limits : (c : ℕ) → c ≡ highContrast → settingMost c ≡ schemeMost c
+scheme-limits c h = rw (h, not-byte, not-area)
+
+pub inside-byte : {w : List ℕ} → Within w (settingMost (getD w 1 0)) → isByte (getD w 1 0) ≡ true → Within w (byteMost (getD w 1 0))
+inside-byte {w} i h = subst (Within w) (byte-limits (getD w 1 0) h) i
+
+pub inside-area : {w : List ℕ} → Within w (settingMost (getD w 1 0)) → isByte (getD w 1 0) ≡ false → isArea (getD w 1 0) ≡ true → Within w (areaMost (getD w 1 0))
+inside-area {w} i g h = subst (Within w) (area-limits (getD w 1 0) g h) i
+
+-- the setting of words that are within their limits is known
+pub setting-known : (w : List ℕ) → getD w 0 0 ≡ 0x03 → within w (settingMost (getD w 1 0)) ≡ true → knownSetting (getD w 1 0) ≡ true
+unfolding knownSetting
+setting-known w q = go (isByte (getD w 1 0)) (isArea (getD w 1 0)) (eqb (getD w 1 0) highContrast)
+  where
+    go : (a b d : Bool) → within w (pick a (byteMost (getD w 1 0)) (pick b (areaMost (getD w 1 0)) (pick d (schemeMost (getD w 1 0)) nothing))) ≡ true → either (either a b) d ≡ true
+    go true b d h = refl
+    go false true d h = refl
+    go false false true h = refl
+    go false false false h = let z : _≡_ {A = Bool} false true = rw q at h in z
+
+pub unknown-limits : (w : List ℕ) → getD w 0 0 ≡ 0x03 → isByte (getD w 1 0) ≡ false → isArea (getD w 1 0) ≡ false → eqb (getD w 1 0) highContrast ≡ false → false ≡ within w (settingMost (getD w 1 0))
+unknown-limits w q f g h = rw (f, g, h, q)
+
+-- the record of words of type 0003, by the shape of its setting
+module _ (w : List ℕ) where
+  pub from-byte : (c : ℕ) → isByte c ≡ true → dataFrom c w ≡ byte (getD w 2 0)
+  unfolding dataFrom
+  from-byte c h = rw h
+
+  pub from-area : (c : ℕ) → isByte c ≡ false → isArea c ≡ true → dataFrom c w ≡ area (areaFrom w)
+  unfolding dataFrom
+  from-area c g h = rw (g, h)
+
+  pub from-scheme : (c : ℕ) → isByte c ≡ false → isArea c ≡ false → dataFrom c w ≡ scheme (schemeFrom w)
+  unfolding dataFrom
+  from-scheme c g h = rw (g, h)
 
 of-type : (w : List ℕ) (k : ℕ) {p : Pdu} → getD w 0 0 ≡ k → p ≡ recordFrom k w → pduOf w ≡ p
 unfolding pduOf
@@ -139,6 +190,21 @@ is-type k {w} h q e = of-type w k q e
 is-yes : (b : Bool) → isYes (yesNumber b) ≡ b
 is-yes true = refl
 is-yes false = refl
+
+first-two : (c : ℕ) (d : Data) → (getD (settingWords c d) 0 0 ≡ 0x03) × (getD (settingWords c d) 1 0 ≡ c)
+first-two c (byte v) = (refl, refl)
+first-two c (area a) = (refl, refl)
+first-two c (scheme h) = (refl, refl)
+
+data-again : (c : ℕ) (d : Data) → Shape c d → dataFrom c (settingWords c d) ≡ d
+unfolding dataFrom
+data-again c (byte v) h = rw h
+data-again c (area a) h = rw (h .0, h .1)
+data-again c (scheme d) h = rw (h, not-byte, not-area)
+
+setting-words-again : (s : Setting) → settingWith (getD (settingWords (numberOf s) (dataOf s)) 1 0) (dataFrom (getD (settingWords (numberOf s) (dataOf s)) 1 0) (settingWords (numberOf s) (dataOf s))) ≡ s
+setting-words-again s =
+    rw (first-two (numberOf s) (dataOf s) .1, data-again (numberOf s) (dataOf s) (shape s)) (setting-again s)
 
 record-again : (p : Pdu) → recordFrom (kindOf p) (wordsOf p) ≡ p
 unfolding kindOf wordsOf recordFrom
@@ -155,6 +221,9 @@ record-again (SystemMenu e) = refl
 record-again (GetApplicationId e) = refl
 record-again (ApplicationIdResponse e) = refl
 record-again (ExecuteResult e) = refl
+record-again (SystemParameters e) =
+    ap (λ (x : Setting). SystemParameters (record { setting = x })) (setting-words-again (e .setting))
+record-again (HandshakeEx e) = refl
 
 -- the first word is the type, which is known
 kind-word : (p : Pdu) → (getD (wordsOf p) 0 0 ≡ kindOf p) × (known (kindOf p) ≡ true)
@@ -172,11 +241,13 @@ kind-word (SystemMenu e) = (refl, refl)
 kind-word (GetApplicationId e) = (refl, refl)
 kind-word (ApplicationIdResponse e) = (refl, refl)
 kind-word (ExecuteResult e) = (refl, refl)
+kind-word (SystemParameters e) = (first-two (numberOf (e .setting)) (dataOf (e .setting)) .0, refl)
+kind-word (HandshakeEx e) = (refl, refl)
 
 -- a record's words stand for it
 pub words-stand : (p : Pdu) → fits p ≡ true → Stands (wordsOf p)
 unfolding fits
-words-stand p f = record { holds = sym (standing (wordsOf p) (kind-word p .0) (kind-word p .1) (sym f)) }
+words-stand p f = record { holds = f }
 
 pub words-back : (p : Pdu) → pduOf (wordsOf p) ≡ p
 words-back p = of-type (wordsOf p) (kindOf p) (kind-word p .0) (sym (record-again p))
@@ -211,13 +282,32 @@ module _ (w : List ℕ) where
   after : (k j : ℕ) → within w (most k) ≡ true → (j + (11 - j) ≡ 11) × (listed (most k) (run (11 - j) (suc j)) ≡ replicate (11 - j) 0) → listed w (run (11 - j) (suc j)) ≡ replicate (11 - j) 0
   after k j h e = pad (most k) h (11 - j) j (e .0) (e .1)
 
+  -- words of type 0003 are those of the data d that they make of the setting
+  setting-same : (d : Data) (m : List ℕ) (j : ℕ) → Shape (getD w 1 0) d → dataFrom (getD w 1 0) w ≡ d → settingMost (getD w 1 0) ≡ m → within w (settingMost (getD w 1 0)) ≡ true
+      → (j + (11 - j) ≡ 11) × (listed m (run (11 - j) (suc j)) ≡ replicate (11 - j) 0)
+      → (listed w (run (11 - j) (suc j)) ≡ replicate (11 - j) 0 → settingWords (getD w 1 0) d ≡ listed w (run 12 0))
+      → wordsOf (recordFrom 0x03 w) ≡ listed w (run 12 0)
+  unfolding wordsOf recordFrom
+  setting-same d m j s e l h z f =
+      let c = getD w 1 0 in
+      let x = made c d s in
+      rw (e, x .number, x .body) (f (pad m (ap (within w) (sym l) ∙ h) (11 - j) j (z .0) (z .1)))
+
   abbrev Same : ℕ → Type 0
-  Same k = within w (most k) ≡ true → getD w 0 0 ≡ k → wordsOf (recordFrom k w) ≡ listed w (run 12 0)
+  Same k = within w (limits k (getD w 1 0)) ≡ true → getD w 0 0 ≡ k → wordsOf (recordFrom k w) ≡ listed w (run 12 0)
+
+  setting-words : Same 0x03
+  setting-words h q =
+      let c = getD w 1 0 in
+      by-shape c (setting-known w q h) (wordsOf (recordFrom 0x03 w) ≡ listed w (run 12 0))
+      (λ b. setting-same (byte (getD w 2 0)) (byteMost c) 2 b (from-byte w c b) (byte-limits c b) h (refl, refl) (λ p. rw (q, p)))
+      (λ b a. setting-same (area (areaFrom w)) (areaMost c) 5 (b, a) (from-area w c b a) (area-limits c b a) h (refl, refl) (λ p. rw (q, p)))
+      (λ e. setting-same (scheme (schemeFrom w)) (schemeMost c) 4 e (from-scheme w c (ap isByte e ∙ not-byte) (ap isArea e ∙ not-area)) (scheme-limits c e) h (refl, refl) (λ p. rw (q, p)))
 
   each-kind : Each Same types
   unfolding wordsOf recordFrom
   each-kind =
-      (λ h q. rw (q, after 0x01 7 h (refl, refl)), (λ h q. rw (q, after 0x02 2 h (refl, refl)), (λ h q. rw (q, after 0x04 2 h (refl, refl)), (λ h q. rw (q, after 0x05 1 h (refl, refl)), (λ h q. rw (q, after 0x06 3 h (refl, refl)), (λ h q. rw (q, after 0x08 5 h (refl, refl)), (λ h q. rw (q, start-back (getD w 2 0) (below w (most 0x09) h 1 (omega arith)), after 0x09 5 h (refl, refl)), (λ h q. rw (q, after 0x0A 9 h (refl, refl)), (λ h q. rw (q, after 0x0B 1 h (refl, refl)), (λ h q. rw (q, after 0x0C 3 h (refl, refl)), (λ h q. rw (q, after 0x0E 1 h (refl, refl)), (λ h q. rw (q, after 0x0F 3 h (refl, refl)), (λ h q. rw (q, after 0x80 5 h (refl, refl)), tt)))))))))))))
+      (λ h q. rw (q, after 0x01 7 h (refl, refl)), (λ h q. rw (q, after 0x02 2 h (refl, refl)), (λ h q. rw (q, after 0x04 2 h (refl, refl)), (λ h q. rw (q, after 0x05 1 h (refl, refl)), (λ h q. rw (q, after 0x06 3 h (refl, refl)), (λ h q. rw (q, after 0x08 5 h (refl, refl)), (λ h q. rw (q, start-back (getD w 2 0) (below w (most 0x09) h 1 (omega arith)), after 0x09 5 h (refl, refl)), (λ h q. rw (q, after 0x0A 9 h (refl, refl)), (λ h q. rw (q, after 0x0B 1 h (refl, refl)), (λ h q. rw (q, after 0x0C 3 h (refl, refl)), (λ h q. rw (q, after 0x0E 1 h (refl, refl)), (λ h q. rw (q, after 0x0F 3 h (refl, refl)), (setting-words, (λ h q. rw (q, after 0x13 2 h (refl, refl)), (λ h q. rw (q, after 0x80 5 h (refl, refl)), tt)))))))))))))))
 
   pub words-forth : length w ≡ 12 → Stands w → (wordsOf (pduOf w) ≡ w) × (fits (pduOf w) ≡ true)
   unfolding known pduOf fits
@@ -225,8 +315,7 @@ module _ (w : List ℕ) where
       let k = getD w 0 0 in
       let p = recordFrom k w in
       let x : wordsOf p ≡ w = one-of Same types k (known-type w (h .holds)) each-kind (within-type w (h .holds)) refl ∙ list-whole 12 0 w l in
-      let y : kindOf p ≡ k = sym (kind-word p .0) ∙ ap (λ (v : List ℕ). getD v 0 0) x in
-      (x, ap (within (wordsOf p)) (ap most y) ∙ ap (λ (v : List ℕ). within v (most k)) x ∙ within-type w (h .holds))
+      (x, ap stand x ∙ h .holds)
 
 -- ---- the fields of a record in memory fit
 
@@ -237,8 +326,38 @@ start-most : (b : Bool) → leb (yesNumber b) 1 ≡ true
 start-most true = refl
 start-most false = refl
 
+-- what is known of a setting's data in memory
+abbrev pub HeldData : Data → Type 0
+HeldData (byte v) = v ≤ u8
+HeldData (area a) = (a .left ≤ u16) × (a .top ≤ u16) × (a .right ≤ u16) × (a .bottom ≤ u16)
+HeldData (scheme h) = (h .flags ≤ u32) × (h .«color_scheme» .at ≤ u32) × (h .«color_scheme» .len ≤ u32)
+
+pub held-data : (s : Setting) → Held (SystemParameters (record { setting = s })) → HeldData (dataOf s)
+unfolding dataOf
+held-data (DragFullWindows v) g = omega (arith, g)
+held-data (KeyboardCues v) g = omega (arith, g)
+held-data (KeyboardPref v) g = omega (arith, g)
+held-data (MouseButtonSwap v) g = omega (arith, g)
+held-data (WorkArea a) g = (omega (arith, g), omega (arith, g), omega (arith, g), omega (arith, g))
+held-data (TaskbarPos a) g = (omega (arith, g), omega (arith, g), omega (arith, g), omega (arith, g))
+held-data (DisplayChange a) g = (omega (arith, g), omega (arith, g), omega (arith, g), omega (arith, g))
+held-data (HighContrast h) g = (omega (arith, g), omega (arith, g), omega (arith, g))
+held-data (ScreenSaveActive v) g = omega (arith, g)
+held-data (ScreenSaveSecure v) g = omega (arith, g)
+
+data-fits : (c : ℕ) (d : Data) → Shape c d → HeldData d → within (settingWords c d) (settingMost c) ≡ true
+data-fits c (byte v) h g = rw (byte-limits c h, le-leb c c (omega arith), le-leb v u8 g)
+data-fits c (area a) h g = rw (area-limits c (h .0) (h .1), le-leb c c (omega arith), le-leb (a .left) u16 (g .0), le-leb (a .top) u16 (g .1), le-leb (a .right) u16 (g .2), le-leb (a .bottom) u16 (g .3))
+data-fits c (scheme d) h g = rw (scheme-limits c h, le-leb c c (omega arith), le-leb (d .flags) u32 (g .0), le-leb (d .«color_scheme» .at) u32 (g .1), le-leb (d .«color_scheme» .len) u32 (g .2))
+
+setting-fits : (c : ℕ) (d : Data) → Shape c d → HeldData d → stand (settingWords c d) ≡ true
+unfolding stand known
+setting-fits c (byte v) h g = data-fits c (byte v) h g
+setting-fits c (area a) h g = data-fits c (area a) h g
+setting-fits c (scheme d) h g = data-fits c (scheme d) h g
+
 held-fits : (p : Pdu) → Held p → fits p ≡ true
-unfolding fits wordsOf kindOf
+unfolding fits stand known wordsOf
 held-fits (Execute e) g = rw (le-leb (e .flags) u16 (omega (arith, g)), le-leb (e .«exe_or_file» .at) u32 (omega (arith, g)), le-leb (e .«exe_or_file» .len) u32 (omega (arith, g)), le-leb (e .«working_dir» .at) u32 (omega (arith, g)), le-leb (e .«working_dir» .len) u32 (omega (arith, g)), le-leb (e .arguments .at) u32 (omega (arith, g)), le-leb (e .arguments .len) u32 (omega (arith, g)))
 held-fits (Activate e) g = rw (le-leb (e .«window_id» .id) u32 (omega (arith, g)), le-leb (e .enabled) u8 (omega (arith, g)))
 held-fits (SystemCommand e) g = rw (le-leb (e .«window_id» .id) u32 (omega (arith, g)), le-leb (e .command) u16 (omega (arith, g)))
@@ -252,6 +371,8 @@ held-fits (SystemMenu e) g = rw (le-leb (e .«window_id» .id) u32 (omega (arith
 held-fits (GetApplicationId e) g = rw (le-leb (e .«window_id» .id) u32 (omega (arith, g)))
 held-fits (ApplicationIdResponse e) g = rw (le-leb (e .«window_id» .id) u32 (omega (arith, g)), le-leb (e .«application_id» .at) u32 (omega (arith, g)), le-leb (e .«application_id» .len) u32 (omega (arith, g)))
 held-fits (ExecuteResult e) g = rw (le-leb (e .flags) u16 (omega (arith, g)), le-leb (e .«exec_result») u16 (omega (arith, g)), le-leb (e .«raw_result») u32 (omega (arith, g)), le-leb (e .«exe_or_file» .at) u32 (omega (arith, g)), le-leb (e .«exe_or_file» .len) u32 (omega (arith, g)))
+held-fits (SystemParameters e) g = setting-fits (numberOf (e .setting)) (dataOf (e .setting)) (shape (e .setting)) (held-data (e .setting) g)
+held-fits (HandshakeEx e) g = rw (le-leb (e .«build_number») u32 (omega (arith, g)), le-leb (e .flags) u32 (omega (arith, g)))
 
 pub memory-fits : (p : Pdu) (vs : List Val) → Is (row the-type) p vs → fits p ≡ true
 memory-fits p vs h = held-fits p (owed the-type the-laws p vs h)

@@ -7,7 +7,7 @@ use lib.ListN.{getD}
 use lib.Dec.{leb, eqb}
 use Rattle.wire.specs.Tests.{pick, both, all}
 use Rattle.pdu.specs.declared.Pdu.{Pdu}
-use Rattle.pdu.specs.declared.Pdu.the-variants.{Execute, Activate, SystemCommand, Handshake, NotifyEvent, WindowMove, MoveSize, MinMaxInfo, ClientInformation, SystemMenu, GetApplicationId, ApplicationIdResponse, ExecuteResult}
+use Rattle.pdu.specs.declared.Pdu.the-variants.{Execute, Activate, SystemCommand, Handshake, NotifyEvent, WindowMove, MoveSize, MinMaxInfo, ClientInformation, SystemMenu, GetApplicationId, ApplicationIdResponse, ExecuteResult, SystemParameters, HandshakeEx}
 use Rattle.pdu.specs.declared.Execute as E01
 use Rattle.pdu.specs.declared.Activate as A02
 use Rattle.pdu.specs.declared.SystemCommand as S04
@@ -21,8 +21,14 @@ use Rattle.pdu.specs.declared.SystemMenu as S0C
 use Rattle.pdu.specs.declared.GetApplicationId as G0E
 use Rattle.pdu.specs.declared.ApplicationIdResponse as A0F
 use Rattle.pdu.specs.declared.ExecuteResult as E80
+use Rattle.pdu.specs.declared.SystemParameters as S03
+use Rattle.pdu.specs.declared.HandshakeEx as H13
+use Rattle.pdu.specs.declared.Rectangle.{Rectangle}
+use Rattle.pdu.specs.declared.HighContrast as H
+use Rattle.pdu.specs.declared.Setting.{Setting}
 use Rattle.pdu.specs.Layout.{known}
-use Rattle.pdu.specs.Records.{span, isYes, kindOf}
+use Rattle.pdu.specs.Records.{span, isYes}
+use Rattle.pdu.specs.Settings.{isByte, isArea, highContrast, Data, byte, area, scheme, settingWith}
 use Rattle.pdu_words.specs.Words.{wordsOf}
 
 -- the greatest numbers of 8, 16 and 32 bits
@@ -34,6 +40,10 @@ u16 = 0xFFFF
 
 abbrev pub u32 : ℕ
 u32 = 0xFFFFFFFF
+
+-- the limits of no record, whose first word is a type
+abbrev pub nothing : List ℕ
+nothing = 0 ∷ 0 ∷ 0 ∷ 0 ∷ 0 ∷ 0 ∷ 0 ∷ 0 ∷ 0 ∷ 0 ∷ 0 ∷ 0 ∷ []
 
 -- the greatest number that each word of a record of type k may be: that of its field; 1 for start; 0 after the last field
 abbrev pub most : ℕ → List ℕ
@@ -51,7 +61,25 @@ most k =
     (pick (eqb k 0x0E) (0x0E ∷ u32 ∷ 0 ∷ 0 ∷ 0 ∷ 0 ∷ 0 ∷ 0 ∷ 0 ∷ 0 ∷ 0 ∷ 0 ∷ [])
     (pick (eqb k 0x0F) (0x0F ∷ u32 ∷ u32 ∷ u32 ∷ 0 ∷ 0 ∷ 0 ∷ 0 ∷ 0 ∷ 0 ∷ 0 ∷ 0 ∷ [])
     (pick (eqb k 0x80) (0x80 ∷ u16 ∷ u16 ∷ u32 ∷ u32 ∷ u32 ∷ 0 ∷ 0 ∷ 0 ∷ 0 ∷ 0 ∷ 0 ∷ [])
-    (0 ∷ 0 ∷ 0 ∷ 0 ∷ 0 ∷ 0 ∷ 0 ∷ 0 ∷ 0 ∷ 0 ∷ 0 ∷ 0 ∷ [])))))))))))))
+    (pick (eqb k 0x13) (0x13 ∷ u32 ∷ u32 ∷ 0 ∷ 0 ∷ 0 ∷ 0 ∷ 0 ∷ 0 ∷ 0 ∷ 0 ∷ 0 ∷ [])
+    nothing)))))))))))))
+
+-- the same of type 0003 with setting c: its number in the second word, then its data
+abbrev pub byteMost : ℕ → List ℕ
+byteMost c = 0x03 ∷ c ∷ u8 ∷ 0 ∷ 0 ∷ 0 ∷ 0 ∷ 0 ∷ 0 ∷ 0 ∷ 0 ∷ 0 ∷ []
+
+abbrev pub areaMost : ℕ → List ℕ
+areaMost c = 0x03 ∷ c ∷ u16 ∷ u16 ∷ u16 ∷ u16 ∷ 0 ∷ 0 ∷ 0 ∷ 0 ∷ 0 ∷ 0 ∷ []
+
+abbrev pub schemeMost : ℕ → List ℕ
+schemeMost c = 0x03 ∷ c ∷ u32 ∷ u32 ∷ u32 ∷ 0 ∷ 0 ∷ 0 ∷ 0 ∷ 0 ∷ 0 ∷ 0 ∷ []
+
+abbrev pub settingMost : ℕ → List ℕ
+settingMost c = pick (isByte c) (byteMost c) (pick (isArea c) (areaMost c) (pick (eqb c highContrast) (schemeMost c) nothing))
+
+-- that of words whose first two are k and c
+abbrev pub limits : ℕ → ℕ → List ℕ
+limits k c = pick (eqb k 0x03) (settingMost c) (most k)
 
 -- each word is at most its number of another twelve
 abbrev pub within : List ℕ → List ℕ → Bool
@@ -71,9 +99,9 @@ pub record Within (w m : List ℕ) : Type 0 where
   pub at10 : getD w 10 0 ≤ getD m 10 0
   pub at11 : getD w 11 0 ≤ getD m 11 0
 
--- the words stand for a record: the type is known, and each word is within its field, those after the last 0
+-- the words stand for a record: the type and the setting are known, and each word is within its field, those after the last 0
 unfoldable pub stand : List ℕ → Bool
-stand w = both (known (getD w 0 0)) (within w (most (getD w 0 0)))
+stand w = both (known (getD w 0 0)) (within w (limits (getD w 0 0) (getD w 1 0)))
 
 pub record Stands (w : List ℕ) : Type 0 where
   pub holds : stand w ≡ true
@@ -119,6 +147,24 @@ applicationIdResponseFrom w = record { «window_id» = record { id = getD w 1 0 
 abbrev pub executeResultFrom : List ℕ → E80.ExecuteResult
 executeResultFrom w = record { flags = getD w 1 0; «exec_result» = getD w 2 0; «raw_result» = getD w 3 0; «exe_or_file» = span (getD w 4 0) (getD w 5 0) }
 
+abbrev pub areaFrom : List ℕ → Rectangle
+areaFrom w = record { left = getD w 2 0; top = getD w 3 0; right = getD w 4 0; bottom = getD w 5 0 }
+
+abbrev pub schemeFrom : List ℕ → H.HighContrast
+schemeFrom w = record { flags = getD w 2 0; «color_scheme» = span (getD w 3 0) (getD w 4 0) }
+
+unfoldable pub dataFrom : ℕ → List ℕ → Data
+dataFrom c w = pick (isByte c) (byte (getD w 2 0)) (pick (isArea c) (area (areaFrom w)) (scheme (schemeFrom w)))
+
+abbrev pub settingFrom : List ℕ → Setting
+settingFrom w = settingWith (getD w 1 0) (dataFrom (getD w 1 0) w)
+
+abbrev pub systemParametersFrom : List ℕ → S03.SystemParameters
+systemParametersFrom w = record { setting = settingFrom w }
+
+abbrev pub handshakeExFrom : List ℕ → H13.HandshakeEx
+handshakeExFrom w = record { «build_number» = getD w 1 0; flags = getD w 2 0 }
+
 -- ---- the record that words stand for
 
 unfoldable pub recordFrom : ℕ → List ℕ → Pdu
@@ -135,11 +181,13 @@ recordFrom k w =
     (pick (eqb k 0x0C) (SystemMenu (systemMenuFrom w))
     (pick (eqb k 0x0E) (GetApplicationId (getApplicationIdFrom w))
     (pick (eqb k 0x0F) (ApplicationIdResponse (applicationIdResponseFrom w))
-    (ExecuteResult (executeResultFrom w)))))))))))))
+    (pick (eqb k 0x03) (SystemParameters (systemParametersFrom w))
+    (pick (eqb k 0x13) (HandshakeEx (handshakeExFrom w))
+    (ExecuteResult (executeResultFrom w)))))))))))))))
 
 unfoldable pub pduOf : List ℕ → Pdu
 pduOf w = recordFrom (getD w 0 0) w
 
 -- each field of a record is within its type, as those of every value in memory are
 unfoldable pub fits : Pdu → Bool
-fits p = within (wordsOf p) (most (kindOf p))
+fits p = stand (wordsOf p)

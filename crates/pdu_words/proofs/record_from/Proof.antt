@@ -1,7 +1,7 @@
 -- Each arm has the type that the words tell, the last the one that is left; within its limits the words make its record.
 use mathlib.Core.Path.{sym, ap}
 use borrow.Author.Needs.{needs}
-use Rattle.pdu.specs.declared.Pdu.the-variants.{Execute, Activate, SystemCommand, Handshake, NotifyEvent, WindowMove, MoveSize, MinMaxInfo, ClientInformation, SystemMenu, GetApplicationId, ApplicationIdResponse, ExecuteResult}
+use Rattle.pdu.specs.declared.Pdu.the-variants.{Execute, Activate, SystemCommand, Handshake, NotifyEvent, WindowMove, MoveSize, MinMaxInfo, ClientInformation, SystemMenu, GetApplicationId, ApplicationIdResponse, ExecuteResult, SystemParameters, HandshakeEx}
 use Rattle.pdu_words.specs.FromWords.{recordFrom}
 use Rattle.pdu_words.proofs.FromWords.{last-type, inside, is-type}
 use Rattle.pdu_words.proofs.record_from.Statement.{statement}
@@ -25,6 +25,8 @@ record-from-spec =
     (λ c κs. inside 0x0C (c .before .before .pre) (c .match .keys10))
     (λ c κs. inside 0x0E (c .before .before .pre) (c .match .keys11))
     (λ c κs. inside 0x0F (c .before .before .pre) (c .match .keys12))
+    (λ c κs. inside 0x03 (c .before .before .pre) (c .match .keys13))
+    (λ c κs. inside 0x13 (c .before .before .pre) (c .match .keys14))
     (λ c κs. let b = c .before .before in inside 0x80 (b .pre) (last-type (b .pre) (c .match .rest)))
     (λ c. let b = c .before .before .before in sym (is-type 0x01 (b .pre) (c .before .match .keys1) (ap Execute (c .execute-from .ensures))))
     (λ c. let b = c .before .before .before in sym (is-type 0x02 (b .pre) (c .before .match .keys2) (ap Activate (c .activate-from .ensures))))
@@ -38,4 +40,6 @@ record-from-spec =
     (λ c. let b = c .before .before .before in sym (is-type 0x0C (b .pre) (c .before .match .keys10) (ap SystemMenu (c .system-menu-from .ensures))))
     (λ c. let b = c .before .before .before in sym (is-type 0x0E (b .pre) (c .before .match .keys11) (ap GetApplicationId (c .get-application-id-from .ensures))))
     (λ c. let b = c .before .before .before in sym (is-type 0x0F (b .pre) (c .before .match .keys12) (ap ApplicationIdResponse (c .application-id-response-from .ensures))))
+    (λ c. let b = c .before .before .before in sym (is-type 0x03 (b .pre) (c .before .match .keys13) (ap SystemParameters (c .system-parameters-from .ensures))))
+    (λ c. let b = c .before .before .before in sym (is-type 0x13 (b .pre) (c .before .match .keys14) (ap HandshakeEx (c .handshake-ex-from .ensures))))
     (λ c. let b = c .before .before .before in sym (is-type 0x80 (b .pre) (last-type (b .pre) (c .before .match .rest)) (ap ExecuteResult (c .execute-result-from .ensures)))))
