@@ -83,12 +83,12 @@ pub not-area : isArea highContrast ≡ false
 unfolding isArea
 not-area = refl
 
-byte-other : (c : ℕ) → isByte c ≡ true → eqb c highContrast ≡ false
+pub byte-other : (c : ℕ) → isByte c ≡ true → eqb c highContrast ≡ false
 unfolding isByte
 byte-other c h =
     one-of (λ (k : ℕ). eqb k highContrast ≡ false) (0x25 ∷ 0x100B ∷ 0x45 ∷ 0x21 ∷ 0x11 ∷ 0x77 ∷ []) c h (refl, (refl, (refl, (refl, (refl, (refl, tt))))))
 
-area-other : (c : ℕ) → isArea c ≡ true → eqb c highContrast ≡ false
+pub area-other : (c : ℕ) → isArea c ≡ true → eqb c highContrast ≡ false
 unfolding isArea
 area-other c h = one-of (λ (k : ℕ). eqb k highContrast ≡ false) (0x2F ∷ 0xF000 ∷ 0xF001 ∷ []) c h (refl, (refl, (refl, tt)))
 

@@ -54,7 +54,7 @@ zero-number : (n : ℕ) (r p : Pdu) (t : Bool) → eqb n 0 ≡ t → pick t (Mes
 zero-number n r p true z e = (eqb-true n 0 z, message-inj r p e)
 zero-number n r p false z e = let y : _≡_ {A = ℕ} 0 1 = cc in absurd (omega arith)
 
-not-not : (b : Bool) → not b ≡ false → b ≡ true
+pub not-not : (b : Bool) → not b ≡ false → b ≡ true
 not-not true e = refl
 not-not false e = sym e
 

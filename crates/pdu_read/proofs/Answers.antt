@@ -15,16 +15,20 @@ use Rattle.pdu.specs.declared.Pdu.{Pdu}
 use Rattle.pdu.specs.declared.Read.{Read}
 use Rattle.pdu.specs.declared.Read.the-variants.{Message, Refused}
 use Rattle.pdu.specs.Layout.{types, known, widths}
+use Rattle.pdu.specs.declared.Rectangle.{Rectangle}
+use Rattle.pdu.specs.Settings.{highContrast, knownSetting}
+use Rattle.pdu.specs.Settings as S
 use Rattle.pdu.specs.Records.{isYes, yesNumber, recordOf, kindOf, sizeOf}
 use Rattle.pdu.specs.Rules.{allowed}
 use Rattle.pdu.specs.Answers.{Answer}
-use Rattle.pdu.specs.Reading.{typeAt, recordAs, bodyNumber, readNumber, answerAs, readOf}
+use Rattle.pdu.specs.Reading.{typeAt, settingAt, recordAs, unknownSetting, lengthsAgree, bodyNumber, readNumber, answerAs, readOf}
 use Rattle.pdu.proofs.Answers.{read-says}
-use Rattle.pdu.proofs.WriteBack.{reading}
+use Rattle.pdu.proofs.Settings.{by-shape, byte-is, area-is, scheme-is}
+use Rattle.pdu.proofs.WriteBack.{not-not, reading}
 use Rattle.pdu_words.specs.Words.{wordsOf}
 use Rattle.pdu_read.specs.Told.{wordsAfter, Told}
-use Rattle.pdu_words.specs.FromWords.{u8, u16, u32, Stands, pduOf, fits}
-use Rattle.pdu_words.proofs.FromWords.{words-stand, words-back}
+use Rattle.pdu_words.specs.FromWords.{u8, u16, u32, stand, Stands, pduOf, fits}
+use Rattle.pdu_words.proofs.FromWords.{words-stand, words-back, setting-fits}
 use Rattle.pdu_read.specs.Answers.{Answerable, answerOf}
 
 -- ---- the numbers of a record that was read fit their fields
@@ -62,32 +66,54 @@ module _ (s : List ℕ) (ok : Bytes s) where
   third : leb (12 + numAt 2 s 6 + numAt 2 s 8) u32 ≡ true
   third = le-leb (12 + numAt 2 s 6 + numAt 2 s 8) u32 (omega (arith, num-under 2 s 6 ok, num-under 2 s 8 ok))
 
-  each-fits : Each (λ (k : ℕ). fits (recordAs k s) ≡ true) types
-  unfolding widths numsAt recordOf recordAs wordsOf kindOf fits
+  -- a message whose setting, if it has one, is known
+  abbrev Fits : ℕ → Type 0
+  Fits k = unknownSetting k s ≡ false → fits (recordAs k s) ≡ true
+
+  under : (w m at : ℕ) → 256 ^ w ≤ suc m → numAt w s at ≤ m
+  under w m at h = omega (arith, num-under w s at ok)
+
+  setting-fits-read : Fits 0x03
+  setting-fits-read u =
+      let place : Rectangle = record { left = numAt 2 s 8; top = numAt 2 s 10; right = numAt 2 s 12; bottom = numAt 2 s 14 } in
+      by-shape (settingAt s) (not-not (knownSetting (settingAt s)) u) (fits (recordAs 0x03 s) ≡ true)
+      (λ h. ap fits (byte-is s h refl refl) ∙ setting-fits (settingAt s) (S.byte (numAt 1 s 8)) h (under 1 u8 8 (omega arith)))
+      (λ g h.
+      ap fits (area-is s g h refl refl refl refl refl)
+      ∙ setting-fits (settingAt s) (S.area place) (g, h) (under 2 u16 8 (omega arith), under 2 u16 10 (omega arith), under 2 u16 12 (omega arith), under 2 u16 14 (omega arith)))
+      (λ h.
+      ap fits (scheme-is s (sym h) refl refl)
+      ∙ setting-fits highContrast (S.scheme (record { flags = numAt 4 s 8; «color_scheme» = record { at = 18; len = numAt 2 s 16 } })) refl (under 4 u32 8 (omega arith), omega arith, under 2 u32 16 (omega arith)))
+
+  each-fits : Each Fits types
+  unfolding widths numsAt recordOf recordAs wordsOf fits stand known
   each-fits =
-      (rw (half 4, long 6, second, long 8, third, long 10), (rw (full 4, byte 8), (rw (full 4, half 8), (rw (full 4), (rw (full 4, full 8, full 12), (rw (full 4, half 8, half 10, half 12, half 14), (rw (full 4, start-most (isYes (numAt 2 s 8)), half 10, half 12, half 14), (rw (full 4, half 8, half 10, half 12, half 14, half 16, half 18, half 20, half 22), (rw (full 4), (rw (full 4, half 8, half 10), (rw (full 4), (rw (full 4), (rw (half 4, half 6, full 8, long 14), tt)))))))))))))
+      (λ u. rw (half 4, long 6, second, long 8, third, long 10), (λ u. rw (full 4, byte 8), (λ u. rw (full 4, half 8), (λ u. rw (full 4), (λ u. rw (full 4, full 8, full 12), (λ u. rw (full 4, half 8, half 10, half 12, half 14), (λ u. rw (full 4, start-most (isYes (numAt 2 s 8)), half 10, half 12, half 14), (λ u. rw (full 4, half 8, half 10, half 12, half 14, half 16, half 18, half 20, half 22), (λ u. rw (full 4), (λ u. rw (full 4, half 8, half 10), (λ u. rw (full 4), (λ u. rw (full 4), (setting-fits-read, (λ u. rw (full 4, full 8), (λ u. rw (half 4, half 6, full 8, long 14), tt)))))))))))))))
 
   -- the record of each message that reading grants has numbers that fit their fields
   read-fits : (p : Pdu) → readOf s ≡ Message p → fits p ≡ true
   unfolding known
   read-fits p e =
       let g = reading s p e in
-      subst (λ (q : Pdu). fits q ≡ true) (g .same-record) (one-of (λ (k : ℕ). fits (recordAs k s) ≡ true) types (numAt 2 s 0) (g .kind-known) each-fits)
+      subst (λ (q : Pdu). fits q ≡ true) (g .same-record) (one-of Fits types (numAt 2 s 0) (g .kind-known) each-fits (g .named))
 
 -- the ladder's numbers
 pub number-small : (s : List ℕ) → readNumber s < 256
 unfolding readNumber bodyNumber
 number-small s =
     let p = recordAs (typeAt s) s in
-    go (ltb (length s) 4) (not (eqb (numAt 2 s 2) (length s))) (not (known (typeAt s))) (not (eqb (sizeOf p) (length s))) (not (allowed p))
+    go (ltb (length s) 4) (not (eqb (numAt 2 s 2) (length s))) (not (known (typeAt s))) (unknownSetting (typeAt s) s) (ltb (length s) 8) (not (eqb (sizeOf p) (length s))) (not (lengthsAgree (typeAt s) s)) (not (allowed p))
   where
-    go : (a b d e f : Bool) → pick a 2 (pick b 3 (pick d 4 (pick e 7 (pick f 8 0)))) < 256
-    go true b d e f = omega arith
-    go false true d e f = omega arith
-    go false false true e f = omega arith
-    go false false false true f = omega arith
-    go false false false false true = omega arith
-    go false false false false false = omega arith
+    go : (a b d u v e g f : Bool) → pick a 2 (pick b 3 (pick d 4 (pick u (pick v 7 8) (pick e 7 (pick g 7 (pick f 8 0)))))) < 256
+    go true b d u v e g f = omega arith
+    go false true d u v e g f = omega arith
+    go false false true u v e g f = omega arith
+    go false false false true true e g f = omega arith
+    go false false false true false e g f = omega arith
+    go false false false false v true g f = omega arith
+    go false false false false v false true f = omega arith
+    go false false false false v false false true = omega arith
+    go false false false false v false false false = omega arith
 
 -- ---- the answer
 

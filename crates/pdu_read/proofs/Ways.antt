@@ -1,25 +1,29 @@
 -- The record of each type from the numbers read, and the ways through reading. Assumes nothing.
 use mathlib.Core.Path.{_≡_, refl, sym, ap, _∙_, subst}
-use mathlib.Core.Bool.{true, false}
-use mathlib.Core.List.{List}
+use mathlib.Core.Bool.{Bool, true, false}
+use mathlib.Core.List.{List, _∷_}
 use Prim.Native.Nat.{ℕ, _+_, _≤_, _<_}
-use lib.ListN.{length}
+use native.Mathlib.Omega.{arith}
+use lib.ListN.{length, getD}
+use lib.Dec.{eqb}
 use borrow.Author.Tests.{eq-eqb, ne-eqb, le-ltb, lt-ltb}
 use Rattle.wire.specs.Numbers.{numAt, numsAt}
 use Rattle.wire.proofs.Numbers.{Bytes}
 use Rattle.pdu.specs.declared.Pdu.{Pdu}
-use Rattle.pdu.specs.declared.Pdu.the-variants.{Execute, Activate, SystemCommand, Handshake, NotifyEvent, WindowMove, MoveSize, MinMaxInfo, ClientInformation, SystemMenu, GetApplicationId, ApplicationIdResponse, ExecuteResult}
+use Rattle.pdu.specs.declared.Pdu.the-variants.{Execute, Activate, SystemCommand, Handshake, NotifyEvent, WindowMove, MoveSize, MinMaxInfo, ClientInformation, SystemMenu, GetApplicationId, ApplicationIdResponse, ExecuteResult, SystemParameters, HandshakeEx}
 use Rattle.pdu.specs.declared.Read.{Read}
 use Rattle.pdu.specs.declared.Read.the-variants.{Message, Refused}
 use Rattle.pdu.specs.Layout.{known, widths}
+use Rattle.pdu.specs.Settings.{isByte, isArea, highContrast, knownSetting, Data, byte, area, scheme, numberOf, dataOf, settingWith, dataAt, dataSize, dataAllowed, settingWidths}
 use Rattle.pdu.specs.Records.{span, isYes, recordOf, sizeOf}
 use Rattle.pdu.specs.Rules.{allowed}
 use Rattle.pdu.specs.Answers.{readSays}
-use Rattle.pdu.specs.Reading.{recordAs, bodyNumber, readNumber, answerAs, readOf, bodyOf}
+use Rattle.pdu.specs.Reading.{recordAs, unknownSetting, lengthsAgree, bodyNumber, readNumber, answerAs, readOf, bodyOf}
 use Rattle.pdu.specs.RoundTrip.{ReadAgain, ReadOutcome}
-use Rattle.pdu_words.specs.Words.{wordsOf}
+use Rattle.pdu_words.specs.Words.{settingWords, wordsOf}
 use Rattle.pdu_read.specs.Told.{wordsAfter, Told}
 use Rattle.pdu.proofs.Answers.{read-says}
+use Rattle.pdu.proofs.Settings.{Shape, made, shape-known, byte-other, area-other, least-size}
 use Rattle.pdu.proofs.WriteBack.{writes-back}
 
 -- ---- the record of each type
@@ -90,21 +94,49 @@ module _ (s : List ℕ) where
   unfolding recordAs recordOf widths numsAt
   execute-result-is e0 e1 e2 e3 = rw (e0, e1, e2, e3)
 
+  pub handshake-ex-is : {a b : ℕ} → a ≡ numAt 4 s 4 → b ≡ numAt 4 s 8
+      → recordAs 0x13 s ≡ HandshakeEx (record { «build_number» = a; flags = b })
+  unfolding recordAs recordOf widths numsAt
+  handshake-ex-is e0 e1 = rw (e0, e1)
+
 -- ---- the ways through the body of a type
 
-module _ (k : ℕ) (s : List ℕ) where
-  pub unfilled : (sizeOf (recordAs k s) ≡ length s → ⊥) → Refused 7 ≡ bodyOf k s
+-- of a message whose setting, if it has one, is known
+module _ (k : ℕ) (s : List ℕ) (u : unknownSetting k s ≡ false) where
+  named-unfilled : (sizeOf (recordAs k s) ≡ length s → ⊥) → Refused 7 ≡ bodyOf k s
   unfolding bodyOf bodyNumber answerAs
-  unfilled h = rw (ne-eqb (sizeOf (recordAs k s)) (length s) h)
+  named-unfilled h = rw (u, ne-eqb (sizeOf (recordAs k s)) (length s) h)
+
+  module _ (p : Pdu) (r : recordAs k s ≡ p) (z : sizeOf p ≡ length s) where
+    named-apart : lengthsAgree k s ≡ false → Refused 7 ≡ bodyOf k s
+    unfolding bodyOf bodyNumber answerAs
+    named-apart a = rw (u, r, eq-eqb (sizeOf p) (length s) z, a)
+
+    named-outside : lengthsAgree k s ≡ true → allowed p ≡ false → Refused 8 ≡ bodyOf k s
+    unfolding bodyOf bodyNumber answerAs
+    named-outside a w = rw (u, r, eq-eqb (sizeOf p) (length s) z, a, w)
+
+    named-fine : lengthsAgree k s ≡ true → allowed p ≡ true → Message p ≡ bodyOf k s
+    unfolding bodyOf bodyNumber answerAs
+    named-fine a w = rw (u, r, eq-eqb (sizeOf p) (length s) z, a, w)
+
+-- of a type that has no settings
+module _ (k : ℕ) (n : eqb k 0x03 ≡ false) (s : List ℕ) where
+  no-setting : unknownSetting k s ≡ false
+  no-setting = rw n
+
+  no-lengths : lengthsAgree k s ≡ true
+  no-lengths = rw n
+
+  pub unfilled : (sizeOf (recordAs k s) ≡ length s → ⊥) → Refused 7 ≡ bodyOf k s
+  unfilled h = named-unfilled k s no-setting h
 
   module _ (p : Pdu) (r : recordAs k s ≡ p) (z : sizeOf p ≡ length s) where
     pub outside : allowed p ≡ false → Refused 8 ≡ bodyOf k s
-    unfolding bodyOf bodyNumber answerAs
-    outside w = rw (r, eq-eqb (sizeOf p) (length s) z, w)
+    outside w = named-outside k s no-setting p r z no-lengths w
 
     pub fine : allowed p ≡ true → Message p ≡ bodyOf k s
-    unfolding bodyOf bodyNumber answerAs
-    fine w = rw (r, eq-eqb (sizeOf p) (length s) z, w)
+    fine w = named-fine k s no-setting p r z no-lengths w
 
 -- ---- what is told of an answer in words
 
@@ -118,6 +150,74 @@ told-message {words = words} {ws = ws} e w = subst (λ (a : Read). Told a words 
 
 pub told-as : {a b : Read} {n : ℕ} {words ws : List ℕ} → a ≡ b → Told a words n ws → Told b words n ws
 told-as {n = n} {words = words} {ws = ws} e w = subst (λ (r : Read). Told r words n ws) e w
+
+-- ---- system parameters
+
+small-size : (s : List ℕ) → length s < 8 → sizeOf (recordAs 0x03 s) ≡ length s → ⊥
+unfolding recordAs recordOf sizeOf
+small-size s h q =
+    let n = numsAt (4 ∷ settingWidths (numAt 4 s 4)) s 4 in
+    let d = dataOf (settingWith (getD n 0 0) (dataAt (getD n 0 0) n)) in
+    omega (arith, least-size d, q)
+
+cut-unknown : (s : List ℕ) → length s < 8 → knownSetting (numAt 4 s 4) ≡ false → Refused 7 ≡ bodyOf 0x03 s
+unfolding bodyOf bodyNumber answerAs
+cut-unknown s h e = rw (e, lt-ltb (length s) 8 h)
+
+module _ (s : List ℕ) where
+  -- without the four bytes that name a setting; with those of none
+  pub setting-cut : length s < 8 → Refused 7 ≡ bodyOf 0x03 s
+  setting-cut h = go (knownSetting (numAt 4 s 4)) refl
+    where
+      go : (b : Bool) → knownSetting (numAt 4 s 4) ≡ b → Refused 7 ≡ bodyOf 0x03 s
+      go true e = named-unfilled 0x03 s (rw e) (λ q. small-size s h q)
+      go false e = cut-unknown s h e
+
+  pub setting-unknown : {c : ℕ} → c ≡ numAt 4 s 4 → 8 ≤ length s → isByte c ≡ false → isArea c ≡ false → (c ≡ highContrast → ⊥) → Refused 8 ≡ bodyOf 0x03 s
+  unfolding bodyOf bodyNumber answerAs knownSetting
+  setting-unknown {c} q l f g n = rw (← q, f, g, ne-eqb c highContrast n, le-ltb (length s) 8 l)
+
+  pub byte-agrees : {c : ℕ} → c ≡ numAt 4 s 4 → isByte c ≡ true → lengthsAgree 0x03 s ≡ true
+  byte-agrees {c} q h = rw (← q, byte-other c h)
+
+  pub area-agrees : {c : ℕ} → c ≡ numAt 4 s 4 → isArea c ≡ true → lengthsAgree 0x03 s ≡ true
+  area-agrees {c} q h = rw (← q, area-other c h)
+
+  pub scheme-agrees : {o n : ℕ} → highContrast ≡ numAt 4 s 4 → o ≡ numAt 4 s 12 → n ≡ numAt 2 s 16 → o ≡ n + 2 → lengthsAgree 0x03 s ≡ true
+  scheme-agrees {o} {n} q a b e = rw (← q, ← a, ← b, eq-eqb o (n + 2) e)
+
+  pub scheme-apart : {o n : ℕ} → highContrast ≡ numAt 4 s 4 → o ≡ numAt 4 s 12 → n ≡ numAt 2 s 16 → (o ≡ n + 2 → ⊥) → lengthsAgree 0x03 s ≡ false
+  scheme-apart {o} {n} q a b e = rw (← q, ← a, ← b, ne-eqb o (n + 2) e)
+
+  -- a message of a setting of number c with data d
+  module _ (c : ℕ) (d : Data) (h : Shape c d) (q : c ≡ numAt 4 s 4) (r : recordAs 0x03 s ≡ SystemParameters (record { setting = settingWith c d })) where
+    named : unknownSetting 0x03 s ≡ false
+    named = rw (← q, shape-known c d h)
+
+    size-of : sizeOf (SystemParameters (record { setting = settingWith c d })) ≡ dataSize d
+    unfolding sizeOf
+    size-of = ap dataSize (made c d h .body)
+
+    allowed-is : allowed (SystemParameters (record { setting = settingWith c d })) ≡ dataAllowed d
+    unfolding allowed
+    allowed-is = ap dataAllowed (made c d h .body)
+
+    words-are : settingWords c d ≡ wordsOf (SystemParameters (record { setting = settingWith c d }))
+    unfolding wordsOf
+    words-are = let m = made c d h in rw (m .number, m .body)
+
+    pub data-unfilled : (dataSize d ≡ length s → ⊥) → Refused 7 ≡ bodyOf 0x03 s
+    data-unfilled n = named-unfilled 0x03 s named (λ z. n (sym size-of ∙ sym (ap sizeOf r) ∙ z))
+
+    module _ (z : dataSize d ≡ length s) where
+      pub data-apart : lengthsAgree 0x03 s ≡ false → Refused 7 ≡ bodyOf 0x03 s
+      data-apart a = named-apart 0x03 s named (SystemParameters (record { setting = settingWith c d })) r (size-of ∙ z) a
+
+      pub data-outside : lengthsAgree 0x03 s ≡ true → dataAllowed d ≡ false → Refused 8 ≡ bodyOf 0x03 s
+      data-outside a w = named-outside 0x03 s named (SystemParameters (record { setting = settingWith c d })) r (size-of ∙ z) a (allowed-is ∙ w)
+
+      pub data-fine : {words ws : List ℕ} → lengthsAgree 0x03 s ≡ true → dataAllowed d ≡ true → ws ≡ settingWords c d → Told (bodyOf 0x03 s) words 0 ws
+      data-fine a w e = told-message (named-fine 0x03 s named (SystemParameters (record { setting = settingWith c d })) r (size-of ∙ z) a (allowed-is ∙ w)) (e ∙ words-are)
 
 -- ---- the ways through reading
 

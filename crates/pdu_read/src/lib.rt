@@ -6,17 +6,23 @@ use pdu::Execute;
 use pdu::ExecuteResult;
 use pdu::GetApplicationId;
 use pdu::Handshake;
+use pdu::HandshakeEx;
+use pdu::HighContrast;
 use pdu::MinMaxInfo;
 use pdu::MoveSize;
 use pdu::NotifyEvent;
 use pdu::Read;
+use pdu::Rectangle;
 use pdu::Span;
 use pdu::SystemCommand;
 use pdu::SystemMenu;
 use pdu::WindowMove;
 use protocol::NotifyIconId;
 use protocol::WindowId;
+ghost use mathlib.Core.Bool.{true, false};
 ghost use mathlib.Core.Path.{_≡_};
+ghost use Rattle.wire.specs.Numbers.{numAt};
+ghost use Rattle.pdu.specs.Settings.{isByte, isArea, highContrast};
 ghost use Rattle.pdu.specs.Reading.{bodyOf, readOf};
 ghost use Rattle.pdu.specs.RoundTrip.{ReadOutcome};
 ghost use Rattle.pdu_read.specs.Told.{Told};
@@ -270,6 +276,95 @@ fn read_execute_result(s: &[u8], words: &mut [u32; 12]) -> u32
     0
 }
 
+// System parameters by the shape of the body: one byte, a rectangle, a color scheme.
+fn read_byte_setting(s: &[u8], number: u32, words: &mut [u32; 12]) -> u32
+    requires { ⌜ (number ≡ numAt 4 (now s) 4) × (isByte number ≡ true) ⌝ }
+    ensures { λ r. ⌜ Told (bodyOf 0x03 (now (s .entry))) (now (words .entry)) r (now (words .exit)) ⌝ }
+{
+    if s.len() != 9 {
+        return 7;
+    }
+    let value = wire::read_u8(s, 8);
+    pdu_words::byte_setting_words(words, number, value);
+    0
+}
+
+fn read_area_setting(s: &[u8], number: u32, words: &mut [u32; 12]) -> u32
+    requires { ⌜ (number ≡ numAt 4 (now s) 4) × (isByte number ≡ false) × (isArea number ≡ true) ⌝ }
+    ensures { λ r. ⌜ Told (bodyOf 0x03 (now (s .entry))) (now (words .entry)) r (now (words .exit)) ⌝ }
+{
+    if s.len() != 16 {
+        return 7;
+    }
+    let place = Rectangle {
+        left: wire::read_u16(s, 8),
+        top: wire::read_u16(s, 10),
+        right: wire::read_u16(s, 12),
+        bottom: wire::read_u16(s, 14),
+    };
+    pdu_words::area_setting_words(words, number, place);
+    0
+}
+
+// The outer length of a color scheme takes in the inner one, 2 bytes.
+fn read_high_contrast(s: &[u8], words: &mut [u32; 12]) -> u32
+    requires { ⌜ highContrast ≡ numAt 4 (now s) 4 ⌝ }
+    ensures { λ r. ⌜ Told (bodyOf 0x03 (now (s .entry))) (now (words .entry)) r (now (words .exit)) ⌝ }
+{
+    if s.len() < 18 {
+        return 7;
+    }
+    let n = wire::read_u16(s, 16) as u32;
+    if (18 + n) as usize != s.len() {
+        return 7;
+    }
+    if wire::read_u32(s, 12) != n + 2 {
+        return 7;
+    }
+    let e = HighContrast {
+        flags: wire::read_u32(s, 8),
+        color_scheme: Span { at: 18, len: n },
+    };
+    if !pdu::high_contrast_allowed(e) {
+        return 8;
+    }
+    pdu_words::high_contrast_words(words, e);
+    0
+}
+
+fn read_system_parameters(s: &[u8], words: &mut [u32; 12]) -> u32
+    ensures { λ r. ⌜ Told (bodyOf 0x03 (now (s .entry))) (now (words .entry)) r (now (words .exit)) ⌝ }
+{
+    if s.len() < 8 {
+        return 7;
+    }
+    let number = wire::read_u32(s, 4);
+    if pdu::is_byte_setting(number) {
+        return read_byte_setting(s, number, words);
+    }
+    if pdu::is_area_setting(number) {
+        return read_area_setting(s, number, words);
+    }
+    if number == 0x43 {
+        return read_high_contrast(s, words);
+    }
+    8
+}
+
+fn read_handshake_ex(s: &[u8], words: &mut [u32; 12]) -> u32
+    ensures { λ r. ⌜ Told (bodyOf 0x13 (now (s .entry))) (now (words .entry)) r (now (words .exit)) ⌝ }
+{
+    if s.len() != 12 {
+        return 7;
+    }
+    let e = HandshakeEx {
+        build_number: wire::read_u32(s, 4),
+        flags: wire::read_u32(s, 8),
+    };
+    pdu_words::handshake_ex_words(words, e);
+    0
+}
+
 // ---- any message
 
 // The number of a message, and the words of its record where that is 0; its strings are where they stand in it.
@@ -296,6 +391,8 @@ pub fn read_words(message: &[u8], words: &mut [u32; 12]) -> u32
         0x0C => read_system_menu(message, words),
         0x0E => read_get_application_id(message, words),
         0x0F => read_application_id_response(message, words),
+        0x03 => read_system_parameters(message, words),
+        0x13 => read_handshake_ex(message, words),
         0x80 => read_execute_result(message, words),
         _ => 4,
     }

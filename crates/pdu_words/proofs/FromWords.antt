@@ -350,11 +350,16 @@ data-fits c (byte v) h g = rw (byte-limits c h, le-leb c c (omega arith), le-leb
 data-fits c (area a) h g = rw (area-limits c (h .0) (h .1), le-leb c c (omega arith), le-leb (a .left) u16 (g .0), le-leb (a .top) u16 (g .1), le-leb (a .right) u16 (g .2), le-leb (a .bottom) u16 (g .3))
 data-fits c (scheme d) h g = rw (scheme-limits c h, le-leb c c (omega arith), le-leb (d .flags) u32 (g .0), le-leb (d .«color_scheme» .at) u32 (g .1), le-leb (d .«color_scheme» .len) u32 (g .2))
 
-setting-fits : (c : ℕ) (d : Data) → Shape c d → HeldData d → stand (settingWords c d) ≡ true
+words-fit : (c : ℕ) (d : Data) → Shape c d → HeldData d → stand (settingWords c d) ≡ true
 unfolding stand known
-setting-fits c (byte v) h g = data-fits c (byte v) h g
-setting-fits c (area a) h g = data-fits c (area a) h g
-setting-fits c (scheme d) h g = data-fits c (scheme d) h g
+words-fit c (byte v) h g = data-fits c (byte v) h g
+words-fit c (area a) h g = data-fits c (area a) h g
+words-fit c (scheme d) h g = data-fits c (scheme d) h g
+
+-- a setting with data of its shape that fits
+pub setting-fits : (c : ℕ) (d : Data) → Shape c d → HeldData d → fits (SystemParameters (record { setting = settingWith c d })) ≡ true
+unfolding fits wordsOf
+setting-fits c d h g = let m = made c d h in rw (m .number, m .body) (words-fit c d h g)
 
 held-fits : (p : Pdu) → Held p → fits p ≡ true
 unfolding fits stand known wordsOf
@@ -371,7 +376,7 @@ held-fits (SystemMenu e) g = rw (le-leb (e .«window_id» .id) u32 (omega (arith
 held-fits (GetApplicationId e) g = rw (le-leb (e .«window_id» .id) u32 (omega (arith, g)))
 held-fits (ApplicationIdResponse e) g = rw (le-leb (e .«window_id» .id) u32 (omega (arith, g)), le-leb (e .«application_id» .at) u32 (omega (arith, g)), le-leb (e .«application_id» .len) u32 (omega (arith, g)))
 held-fits (ExecuteResult e) g = rw (le-leb (e .flags) u16 (omega (arith, g)), le-leb (e .«exec_result») u16 (omega (arith, g)), le-leb (e .«raw_result») u32 (omega (arith, g)), le-leb (e .«exe_or_file» .at) u32 (omega (arith, g)), le-leb (e .«exe_or_file» .len) u32 (omega (arith, g)))
-held-fits (SystemParameters e) g = setting-fits (numberOf (e .setting)) (dataOf (e .setting)) (shape (e .setting)) (held-data (e .setting) g)
+held-fits (SystemParameters e) g = words-fit (numberOf (e .setting)) (dataOf (e .setting)) (shape (e .setting)) (held-data (e .setting) g)
 held-fits (HandshakeEx e) g = rw (le-leb (e .«build_number») u32 (omega (arith, g)), le-leb (e .flags) u32 (omega (arith, g)))
 
 pub memory-fits : (p : Pdu) (vs : List Val) → Is (row the-type) p vs → fits p ≡ true

@@ -15,9 +15,9 @@ unfolding recordAs recordOf sizeOf allowed wordsOf
 read-application-id-response-spec =
     tie.close
     (tie.spec
-    (λ c. told-refused (unfilled 0x0F (now (c .before .before .args .s)) (λ q. c .if1 .taken (sym q))))
+    (λ c. told-refused (unfilled 0x0F refl (now (c .before .before .args .s)) (λ q. c .if1 .taken (sym q))))
     (λ c κs. search needs)
     (λ c κs. search needs)
     (λ c.
     let r1 = c .before .before in let t = r1 .before in let b = t .before .before in
-    told-message (fine 0x0F (now (b .args .s)) _ (application-id-response-is (now (b .args .s)) (r1 .read-u32 .ensures)) (sym (t .if1 .left)) refl) (c .application-id-response-words .ensures)))
+    told-message (fine 0x0F refl (now (b .args .s)) _ (application-id-response-is (now (b .args .s)) (r1 .read-u32 .ensures)) (sym (t .if1 .left)) refl) (c .application-id-response-words .ensures)))

@@ -15,9 +15,9 @@ unfolding recordAs recordOf sizeOf allowed wordsOf
 read-client-information-spec =
     tie.close
     (tie.spec
-    (λ c. told-refused (unfilled 0x0B (now (c .before .before .args .s)) (λ q. c .if1 .taken (sym q))))
+    (λ c. told-refused (unfilled 0x0B refl (now (c .before .before .args .s)) (λ q. c .if1 .taken (sym q))))
     (λ c κs. search needs)
     (λ c κs. search needs)
     (λ c.
     let r1 = c .before .before in let t = r1 .before in let b = t .before .before in
-    told-message (fine 0x0B (now (b .args .s)) _ (client-information-is (now (b .args .s)) (r1 .read-u32 .ensures)) (sym (t .if1 .left)) refl) (c .client-information-words .ensures)))
+    told-message (fine 0x0B refl (now (b .args .s)) _ (client-information-is (now (b .args .s)) (r1 .read-u32 .ensures)) (sym (t .if1 .left)) refl) (c .client-information-words .ensures)))

@@ -1,6 +1,6 @@
 -- 7 where the string does not make the length of the message, 8 where the rule fails, else the words of the record that the numbers make.
 use native.Mathlib.Omega.{arith}
-use mathlib.Core.Path.{sym, _∙_}
+use mathlib.Core.Path.{refl, sym, _∙_}
 use borrow.Author.Tests.{not-true, not-false}
 use denote.Ref.{now}
 use borrow.Author.Needs.{needs}
@@ -19,12 +19,12 @@ unfolding recordAs recordOf widths numsAt sizeOf allowed wordsOf
 read-execute-result-spec =
     tie.close
     (tie.spec
-    (λ c. told-refused (unfilled 0x80 (now (c .before .before .args .s)) (λ q. omega (arith, q, c .if1 .taken))))
+    (λ c. told-refused (unfilled 0x80 refl (now (c .before .before .args .s)) (λ q. omega (arith, q, c .if1 .taken))))
     (λ c κs. search needs)
     (λ c. search needs)
     (λ c. search needs)
     (λ c. search needs)
-    (λ c. told-refused (unfilled 0x80 (now (c .before .before .before .before .args .s)) (λ q. c .if2 .taken (omega (arith, q, c .before .read-u16 .ensures)))))
+    (λ c. told-refused (unfilled 0x80 refl (now (c .before .before .before .before .args .s)) (λ q. c .if2 .taken (omega (arith, q, c .before .read-u16 .ensures)))))
     (λ c κs. search needs)
     (λ c κs. search needs)
     (λ c κs. search needs)
@@ -37,7 +37,7 @@ read-execute-result-spec =
     let u = r2 .before in
     let r1 = u .before in
     let b = r1 .before .before .before in
-    told-refused (outside 0x80 (now (b .args .s)) _ (execute-result-is (now (b .args .s)) (r2 .read-u162 .ensures) (r3 .read-u163 .ensures) (r4 .read-u32 .ensures) (r1 .read-u16 .ensures)) (u .if2 .left) (sym (a .execute-result-allowed .ensures) ∙ not-true (a .execute-result-allowed .result) (c .if3 .taken))))
+    told-refused (outside 0x80 refl (now (b .args .s)) _ (execute-result-is (now (b .args .s)) (r2 .read-u162 .ensures) (r3 .read-u163 .ensures) (r4 .read-u32 .ensures) (r1 .read-u16 .ensures)) (u .if2 .left) (sym (a .execute-result-allowed .ensures) ∙ not-true (a .execute-result-allowed .result) (c .if3 .taken))))
     (λ c κs. search needs)
     (λ c.
     let v = c .before .before in
@@ -48,4 +48,4 @@ read-execute-result-spec =
     let u = r2 .before in
     let r1 = u .before in
     let b = r1 .before .before .before in
-    told-message (fine 0x80 (now (b .args .s)) _ (execute-result-is (now (b .args .s)) (r2 .read-u162 .ensures) (r3 .read-u163 .ensures) (r4 .read-u32 .ensures) (r1 .read-u16 .ensures)) (u .if2 .left) (sym (a .execute-result-allowed .ensures) ∙ not-false (a .execute-result-allowed .result) (v .if3 .left))) (c .execute-result-words .ensures)))
+    told-message (fine 0x80 refl (now (b .args .s)) _ (execute-result-is (now (b .args .s)) (r2 .read-u162 .ensures) (r3 .read-u163 .ensures) (r4 .read-u32 .ensures) (r1 .read-u16 .ensures)) (u .if2 .left) (sym (a .execute-result-allowed .ensures) ∙ not-false (a .execute-result-allowed .result) (v .if3 .left))) (c .execute-result-words .ensures)))

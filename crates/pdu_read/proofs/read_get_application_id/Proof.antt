@@ -15,9 +15,9 @@ unfolding recordAs recordOf sizeOf allowed wordsOf
 read-get-application-id-spec =
     tie.close
     (tie.spec
-    (λ c. told-refused (unfilled 0x0E (now (c .before .before .args .s)) (λ q. c .if1 .taken (sym q))))
+    (λ c. told-refused (unfilled 0x0E refl (now (c .before .before .args .s)) (λ q. c .if1 .taken (sym q))))
     (λ c κs. search needs)
     (λ c κs. search needs)
     (λ c.
     let r1 = c .before .before in let t = r1 .before in let b = t .before .before in
-    told-message (fine 0x0E (now (b .args .s)) _ (get-application-id-is (now (b .args .s)) (r1 .read-u32 .ensures)) (sym (t .if1 .left)) refl) (c .get-application-id-words .ensures)))
+    told-message (fine 0x0E refl (now (b .args .s)) _ (get-application-id-is (now (b .args .s)) (r1 .read-u32 .ensures)) (sym (t .if1 .left)) refl) (c .get-application-id-words .ensures)))

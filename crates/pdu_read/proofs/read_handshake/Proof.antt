@@ -15,9 +15,9 @@ unfolding recordAs recordOf sizeOf allowed wordsOf
 read-handshake-spec =
     tie.close
     (tie.spec
-    (λ c. told-refused (unfilled 0x05 (now (c .before .before .args .s)) (λ q. c .if1 .taken (sym q))))
+    (λ c. told-refused (unfilled 0x05 refl (now (c .before .before .args .s)) (λ q. c .if1 .taken (sym q))))
     (λ c κs. search needs)
     (λ c κs. search needs)
     (λ c.
     let r1 = c .before .before in let t = r1 .before in let b = t .before .before in
-    told-message (fine 0x05 (now (b .args .s)) _ (handshake-is (now (b .args .s)) (r1 .read-u32 .ensures)) (sym (t .if1 .left)) refl) (c .handshake-words .ensures)))
+    told-message (fine 0x05 refl (now (b .args .s)) _ (handshake-is (now (b .args .s)) (r1 .read-u32 .ensures)) (sym (t .if1 .left)) refl) (c .handshake-words .ensures)))

@@ -15,7 +15,7 @@ unfolding recordAs recordOf sizeOf allowed wordsOf
 read-min-max-info-spec =
     tie.close
     (tie.spec
-    (λ c. told-refused (unfilled 0x0A (now (c .before .before .args .s)) (λ q. c .if1 .taken (sym q))))
+    (λ c. told-refused (unfilled 0x0A refl (now (c .before .before .args .s)) (λ q. c .if1 .taken (sym q))))
     (λ c κs. search needs)
     (λ c κs. search needs)
     (λ c κs. search needs)
@@ -28,4 +28,4 @@ read-min-max-info-spec =
     (λ c κs. search needs)
     (λ c.
     let r9 = c .before .before in let r8 = r9 .before in let r7 = r8 .before in let r6 = r7 .before in let r5 = r6 .before in let r4 = r5 .before in let r3 = r4 .before in let r2 = r3 .before in let r1 = r2 .before in let t = r1 .before in let b = t .before .before in
-    told-message (fine 0x0A (now (b .args .s)) _ (min-max-info-is (now (b .args .s)) (r1 .read-u32 .ensures) (r2 .read-u16 .ensures) (r3 .read-u162 .ensures) (r4 .read-u163 .ensures) (r5 .read-u164 .ensures) (r6 .read-u165 .ensures) (r7 .read-u166 .ensures) (r8 .read-u167 .ensures) (r9 .read-u168 .ensures)) (sym (t .if1 .left)) refl) (c .min-max-info-words .ensures)))
+    told-message (fine 0x0A refl (now (b .args .s)) _ (min-max-info-is (now (b .args .s)) (r1 .read-u32 .ensures) (r2 .read-u16 .ensures) (r3 .read-u162 .ensures) (r4 .read-u163 .ensures) (r5 .read-u164 .ensures) (r6 .read-u165 .ensures) (r7 .read-u166 .ensures) (r8 .read-u167 .ensures) (r9 .read-u168 .ensures)) (sym (t .if1 .left)) refl) (c .min-max-info-words .ensures)))

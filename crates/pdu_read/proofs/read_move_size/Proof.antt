@@ -1,5 +1,5 @@
 -- 7 where the length is another, 8 where the rule fails, else the words of the record that the numbers make.
-use mathlib.Core.Path.{sym, _∙_}
+use mathlib.Core.Path.{refl, sym, _∙_}
 use borrow.Author.Tests.{not-true, not-false}
 use denote.Ref.{now}
 use borrow.Author.Needs.{needs}
@@ -16,7 +16,7 @@ unfolding recordAs recordOf sizeOf allowed wordsOf
 read-move-size-spec =
     tie.close
     (tie.spec
-    (λ c. told-refused (unfilled 0x09 (now (c .before .before .args .s)) (λ q. c .if1 .taken (sym q))))
+    (λ c. told-refused (unfilled 0x09 refl (now (c .before .before .args .s)) (λ q. c .if1 .taken (sym q))))
     (λ c κs. search needs)
     (λ c κs. search needs)
     (λ c κs. search needs)
@@ -25,8 +25,8 @@ read-move-size-spec =
     (λ c κs. search needs)
     (λ c.
     let a = c .before in let r5 = a .before in let r4 = r5 .before in let r3 = r4 .before in let r2 = r3 .before in let r1 = r2 .before in let t = r1 .before in let b = t .before .before in
-    told-refused (outside 0x09 (now (b .args .s)) _ (move-size-is (now (b .args .s)) (r1 .read-u32 .ensures) (r2 .read-u16 .ensures) (r3 .read-u162 .ensures) (r4 .read-u163 .ensures) (r5 .read-u164 .ensures)) (sym (t .if1 .left)) (sym (a .move-size-allowed .ensures) ∙ not-true (a .move-size-allowed .result) (c .if2 .taken))))
+    told-refused (outside 0x09 refl (now (b .args .s)) _ (move-size-is (now (b .args .s)) (r1 .read-u32 .ensures) (r2 .read-u16 .ensures) (r3 .read-u162 .ensures) (r4 .read-u163 .ensures) (r5 .read-u164 .ensures)) (sym (t .if1 .left)) (sym (a .move-size-allowed .ensures) ∙ not-true (a .move-size-allowed .result) (c .if2 .taken))))
     (λ c κs. search needs)
     (λ c.
     let v = c .before .before in let a = v .before in let r5 = a .before in let r4 = r5 .before in let r3 = r4 .before in let r2 = r3 .before in let r1 = r2 .before in let t = r1 .before in let b = t .before .before in
-    told-message (fine 0x09 (now (b .args .s)) _ (move-size-is (now (b .args .s)) (r1 .read-u32 .ensures) (r2 .read-u16 .ensures) (r3 .read-u162 .ensures) (r4 .read-u163 .ensures) (r5 .read-u164 .ensures)) (sym (t .if1 .left)) (sym (a .move-size-allowed .ensures) ∙ not-false (a .move-size-allowed .result) (v .if2 .left))) (c .move-size-words .ensures)))
+    told-message (fine 0x09 refl (now (b .args .s)) _ (move-size-is (now (b .args .s)) (r1 .read-u32 .ensures) (r2 .read-u16 .ensures) (r3 .read-u162 .ensures) (r4 .read-u163 .ensures) (r5 .read-u164 .ensures)) (sym (t .if1 .left)) (sym (a .move-size-allowed .ensures) ∙ not-false (a .move-size-allowed .result) (v .if2 .left))) (c .move-size-words .ensures)))

@@ -15,11 +15,11 @@ unfolding recordAs recordOf sizeOf allowed wordsOf
 read-notify-event-spec =
     tie.close
     (tie.spec
-    (λ c. told-refused (unfilled 0x06 (now (c .before .before .args .s)) (λ q. c .if1 .taken (sym q))))
+    (λ c. told-refused (unfilled 0x06 refl (now (c .before .before .args .s)) (λ q. c .if1 .taken (sym q))))
     (λ c κs. search needs)
     (λ c κs. search needs)
     (λ c κs. search needs)
     (λ c κs. search needs)
     (λ c.
     let r3 = c .before .before in let r2 = r3 .before in let r1 = r2 .before in let t = r1 .before in let b = t .before .before in
-    told-message (fine 0x06 (now (b .args .s)) _ (notify-event-is (now (b .args .s)) (r1 .read-u32 .ensures) (r2 .read-u322 .ensures) (r3 .read-u323 .ensures)) (sym (t .if1 .left)) refl) (c .notify-event-words .ensures)))
+    told-message (fine 0x06 refl (now (b .args .s)) _ (notify-event-is (now (b .args .s)) (r1 .read-u32 .ensures) (r2 .read-u322 .ensures) (r3 .read-u323 .ensures)) (sym (t .if1 .left)) refl) (c .notify-event-words .ensures)))

@@ -1,5 +1,5 @@
 -- 7 where the length is another, 8 where the rule fails, else the words of the record that the numbers make.
-use mathlib.Core.Path.{sym, _∙_}
+use mathlib.Core.Path.{refl, sym, _∙_}
 use borrow.Author.Tests.{not-true, not-false}
 use denote.Ref.{now}
 use borrow.Author.Needs.{needs}
@@ -16,14 +16,14 @@ unfolding recordAs recordOf sizeOf allowed wordsOf
 read-system-command-spec =
     tie.close
     (tie.spec
-    (λ c. told-refused (unfilled 0x04 (now (c .before .before .args .s)) (λ q. c .if1 .taken (sym q))))
+    (λ c. told-refused (unfilled 0x04 refl (now (c .before .before .args .s)) (λ q. c .if1 .taken (sym q))))
     (λ c κs. search needs)
     (λ c κs. search needs)
     (λ c κs. search needs)
     (λ c.
     let a = c .before in let r2 = a .before in let r1 = r2 .before in let t = r1 .before in let b = t .before .before in
-    told-refused (outside 0x04 (now (b .args .s)) _ (system-command-is (now (b .args .s)) (r1 .read-u32 .ensures) (r2 .read-u16 .ensures)) (sym (t .if1 .left)) (sym (a .system-command-allowed .ensures) ∙ not-true (a .system-command-allowed .result) (c .if2 .taken))))
+    told-refused (outside 0x04 refl (now (b .args .s)) _ (system-command-is (now (b .args .s)) (r1 .read-u32 .ensures) (r2 .read-u16 .ensures)) (sym (t .if1 .left)) (sym (a .system-command-allowed .ensures) ∙ not-true (a .system-command-allowed .result) (c .if2 .taken))))
     (λ c κs. search needs)
     (λ c.
     let v = c .before .before in let a = v .before in let r2 = a .before in let r1 = r2 .before in let t = r1 .before in let b = t .before .before in
-    told-message (fine 0x04 (now (b .args .s)) _ (system-command-is (now (b .args .s)) (r1 .read-u32 .ensures) (r2 .read-u16 .ensures)) (sym (t .if1 .left)) (sym (a .system-command-allowed .ensures) ∙ not-false (a .system-command-allowed .result) (v .if2 .left))) (c .system-command-words .ensures)))
+    told-message (fine 0x04 refl (now (b .args .s)) _ (system-command-is (now (b .args .s)) (r1 .read-u32 .ensures) (r2 .read-u16 .ensures)) (sym (t .if1 .left)) (sym (a .system-command-allowed .ensures) ∙ not-false (a .system-command-allowed .result) (v .if2 .left))) (c .system-command-words .ensures)))

@@ -15,11 +15,11 @@ unfolding recordAs recordOf sizeOf allowed wordsOf
 read-system-menu-spec =
     tie.close
     (tie.spec
-    (λ c. told-refused (unfilled 0x0C (now (c .before .before .args .s)) (λ q. c .if1 .taken (sym q))))
+    (λ c. told-refused (unfilled 0x0C refl (now (c .before .before .args .s)) (λ q. c .if1 .taken (sym q))))
     (λ c κs. search needs)
     (λ c κs. search needs)
     (λ c κs. search needs)
     (λ c κs. search needs)
     (λ c.
     let r3 = c .before .before in let r2 = r3 .before in let r1 = r2 .before in let t = r1 .before in let b = t .before .before in
-    told-message (fine 0x0C (now (b .args .s)) _ (system-menu-is (now (b .args .s)) (r1 .read-u32 .ensures) (r2 .read-u16 .ensures) (r3 .read-u162 .ensures)) (sym (t .if1 .left)) refl) (c .system-menu-words .ensures)))
+    told-message (fine 0x0C refl (now (b .args .s)) _ (system-menu-is (now (b .args .s)) (r1 .read-u32 .ensures) (r2 .read-u16 .ensures) (r3 .read-u162 .ensures)) (sym (t .if1 .left)) refl) (c .system-menu-words .ensures)))

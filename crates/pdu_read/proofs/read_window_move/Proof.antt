@@ -15,7 +15,7 @@ unfolding recordAs recordOf sizeOf allowed wordsOf
 read-window-move-spec =
     tie.close
     (tie.spec
-    (λ c. told-refused (unfilled 0x08 (now (c .before .before .args .s)) (λ q. c .if1 .taken (sym q))))
+    (λ c. told-refused (unfilled 0x08 refl (now (c .before .before .args .s)) (λ q. c .if1 .taken (sym q))))
     (λ c κs. search needs)
     (λ c κs. search needs)
     (λ c κs. search needs)
@@ -24,4 +24,4 @@ read-window-move-spec =
     (λ c κs. search needs)
     (λ c.
     let r5 = c .before .before in let r4 = r5 .before in let r3 = r4 .before in let r2 = r3 .before in let r1 = r2 .before in let t = r1 .before in let b = t .before .before in
-    told-message (fine 0x08 (now (b .args .s)) _ (window-move-is (now (b .args .s)) (r1 .read-u32 .ensures) (r2 .read-u16 .ensures) (r3 .read-u162 .ensures) (r4 .read-u163 .ensures) (r5 .read-u164 .ensures)) (sym (t .if1 .left)) refl) (c .window-move-words .ensures)))
+    told-message (fine 0x08 refl (now (b .args .s)) _ (window-move-is (now (b .args .s)) (r1 .read-u32 .ensures) (r2 .read-u16 .ensures) (r3 .read-u162 .ensures) (r4 .read-u163 .ensures) (r5 .read-u164 .ensures)) (sym (t .if1 .left)) refl) (c .window-move-words .ensures)))
