@@ -349,6 +349,13 @@ static void take_message(const uint8_t *message, size_t size) {
         printf("  handshake, build %u\n", w[RAIL_WORD_HANDSHAKE_BUILD_NUMBER]);
         greet();
         break;
+    case TS_RAIL_ORDER_HANDSHAKE_EX:
+        printf("  handshake, build %u, flags %08X\n", w[RAIL_WORD_HANDSHAKE_EX_BUILD_NUMBER], w[RAIL_WORD_HANDSHAKE_EX_FLAGS]);
+        greet();
+        break;
+    case TS_RAIL_ORDER_SYSPARAM:
+        printf("  system parameter %08X\n", w[RAIL_WORD_SYSPARAM_SYSTEM_PARAM]);
+        break;
     case TS_RAIL_ORDER_EXEC_RESULT:
         printf("  started ");
         print_string(message + w[RAIL_WORD_EXEC_RESULT_EXE_OR_FILE_AT], w[RAIL_WORD_EXEC_RESULT_EXE_OR_FILE_LENGTH]);

@@ -15,7 +15,7 @@ pub struct Input {
 }
 
 /// Kinds of fixed size.
-const FIXED: [(&str, &str, &str); 10] = [
+const FIXED: [(&str, &str, &str); 14] = [
     ("activate", "Activate", "0200 0900 58000100 01"),
     (
         "system-command",
@@ -54,10 +54,26 @@ const FIXED: [(&str, &str, &str); 10] = [
         "Get Application ID",
         "0E00 0800 58000100",
     ),
+    ("handshake-ex", "HandshakeEx", "1300 0C00 B11D0000 01000000"),
+    (
+        "drag-full-windows",
+        "System Parameters, drag full windows",
+        "0300 0900 25000000 01",
+    ),
+    (
+        "screen-save-secure",
+        "System Parameters, screen saver secure",
+        "0300 0900 77000000 01",
+    ),
+    (
+        "work-area",
+        "System Parameters, work area",
+        "0300 1000 2F000000 0000 0000 8007 1004",
+    ),
 ];
 
 /// Messages that reading refuses, with the number.
-const REFUSED: [(&str, &str, &str, u32); 3] = [
+const REFUSED: [(&str, &str, &str, u32); 4] = [
     ("refused-no-bytes", "Refused: no bytes", "", 2),
     (
         "refused-length",
@@ -69,6 +85,12 @@ const REFUSED: [(&str, &str, &str, u32); 3] = [
         "refused-enabled",
         "Refused: Enabled 2",
         "0200 0900 58000100 02",
+        8,
+    ),
+    (
+        "refused-setting",
+        "Refused: setting 99",
+        "0300 0900 99000000 01",
         8,
     ),
 ];
@@ -83,6 +105,11 @@ pub fn all() -> Vec<Input> {
         application_id_response(),
     ));
     inputs.extend(execute_results());
+    inputs.push(granted(
+        "high-contrast",
+        "System Parameters, high contrast",
+        high_contrast(38),
+    ));
     inputs.extend(REFUSED.map(|(name, label, text, number)| from_hex(name, label, text, number)));
     inputs
 }
@@ -215,6 +242,15 @@ fn execute_result(length: usize) -> Vec<u8> {
     body.extend_from_slice(&(length as u16).to_le_bytes());
     body.extend(string(length));
     with_header(0x0080, &body)
+}
+
+/// Flags, and a color scheme of this length.
+fn high_contrast(length: usize) -> Vec<u8> {
+    let mut body = vec![0x43, 0, 0, 0, 0x7E, 0, 0, 0];
+    body.extend_from_slice(&(length as u32 + 2).to_le_bytes());
+    body.extend_from_slice(&(length as u16).to_le_bytes());
+    body.extend(string(length));
+    with_header(0x0003, &body)
 }
 
 fn application_id_response() -> Vec<u8> {

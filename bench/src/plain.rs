@@ -5,10 +5,12 @@ use std::slice;
 
 use second::ids::{NotifyIconId, WindowId};
 use second::number::OUTSIDE_SET;
+use second::pdu::setting::{self, Area, Body, Contrast, Form};
 use second::pdu::{self, order_type, Record};
 use second::pdu::{
     Activate, ApplicationIdResponse, ClientInformation, Execute, ExecuteResult, GetApplicationId,
-    Handshake, MinMaxInfo, MoveSize, NotifyEvent, SystemCommand, SystemMenu, WindowMove,
+    Handshake, HandshakeEx, MinMaxInfo, MoveSize, NotifyEvent, SystemCommand, SystemMenu,
+    SystemParameters, WindowMove,
 };
 
 use crate::call::Words;
@@ -176,6 +178,39 @@ fn record_of<'a>(words: &Words, strings: &'a [u8]) -> Option<Record<'a>> {
                 exe_or_file: string(4)?,
             })
         }
+        order_type::SYSTEM_PARAMETERS => {
+            let setting = words[1];
+            let body = match setting::form(setting)? {
+                Form::Value => {
+                    ends(3)?;
+                    Body::Value(u8::try_from(words[2]).ok()?)
+                }
+                Form::Area => {
+                    ends(6)?;
+                    Body::Area(Area {
+                        left: half(2)?,
+                        top: half(3)?,
+                        right: half(4)?,
+                        bottom: half(5)?,
+                    })
+                }
+                Form::Contrast => {
+                    ends(5)?;
+                    Body::Contrast(Contrast {
+                        flags: words[2],
+                        color_scheme: string(3)?,
+                    })
+                }
+            };
+            Record::SystemParameters(SystemParameters { setting, body })
+        }
+        order_type::HANDSHAKE_EX => {
+            ends(3)?;
+            Record::HandshakeEx(HandshakeEx {
+                build_number: words[1],
+                flags: words[2],
+            })
+        }
         _ => return None,
     })
 }
@@ -263,6 +298,30 @@ fn words_of(record: &Record<'_>, message: &[u8]) -> Words {
             at(r.exe_or_file),
             length(r.exe_or_file),
         ]),
+        Record::SystemParameters(r) => {
+            let kind = order_type::SYSTEM_PARAMETERS.into();
+            match r.body {
+                Body::Value(value) => filled([kind, r.setting, value.into()]),
+                Body::Area(area) => filled([
+                    kind,
+                    r.setting,
+                    area.left.into(),
+                    area.top.into(),
+                    area.right.into(),
+                    area.bottom.into(),
+                ]),
+                Body::Contrast(contrast) => filled([
+                    kind,
+                    r.setting,
+                    contrast.flags,
+                    at(contrast.color_scheme),
+                    length(contrast.color_scheme),
+                ]),
+            }
+        }
+        Record::HandshakeEx(r) => {
+            filled([order_type::HANDSHAKE_EX.into(), r.build_number, r.flags])
+        }
     }
 }
 

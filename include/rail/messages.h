@@ -16,6 +16,7 @@
 #define RAIL_WORKING_DIR_MAX 520
 #define RAIL_ARGUMENTS_MAX 16000
 #define RAIL_APPLICATION_ID_SIZE 520
+#define RAIL_COLOR_SCHEME_MAX 520
 
 /* TS_RAIL_ORDER_EXEC */
 #define RAIL_WORD_EXEC_FLAGS 1
@@ -77,6 +78,20 @@
 #define RAIL_WORD_EXEC_RESULT_RAW_RESULT 3
 #define RAIL_WORD_EXEC_RESULT_EXE_OR_FILE_AT 4
 #define RAIL_WORD_EXEC_RESULT_EXE_OR_FILE_LENGTH 5
+
+/* TS_RAIL_ORDER_SYSPARAM: the setting, then its data */
+#define RAIL_WORD_SYSPARAM_SYSTEM_PARAM 1 /* SPI_... or RAIL_SPI_... */
+#define RAIL_WORD_SYSPARAM_VALUE 2        /* 0 to 255; of the settings whose body is one byte */
+#define RAIL_WORD_SYSPARAM_LEFT 2         /* these four of SPI_SETWORKAREA, RAIL_SPI_TASKBARPOS and RAIL_SPI_DISPLAYCHANGE */
+#define RAIL_WORD_SYSPARAM_TOP 3
+#define RAIL_WORD_SYSPARAM_RIGHT 4
+#define RAIL_WORD_SYSPARAM_BOTTOM 5
+#define RAIL_WORD_SYSPARAM_FLAGS 2 /* these three of SPI_SETHIGHCONTRAST */
+#define RAIL_WORD_SYSPARAM_COLOR_SCHEME_AT 3
+#define RAIL_WORD_SYSPARAM_COLOR_SCHEME_LENGTH 4
+/* TS_RAIL_ORDER_HANDSHAKE_EX */
+#define RAIL_WORD_HANDSHAKE_EX_BUILD_NUMBER 1
+#define RAIL_WORD_HANDSHAKE_EX_FLAGS 2 /* TS_RAIL_ORDER_HANDSHAKEEX_FLAGS_... */
 
 /* A word that is a coordinate holds its 16 bits as an unsigned number; this reads them as a signed one. */
 static inline int32_t rail_word_coordinate(uint32_t word) {

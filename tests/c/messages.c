@@ -1,4 +1,4 @@
-/* Control messages: the 13 kinds by their words, read, written and refused. */
+/* Control messages: the 15 kinds by their words, read, written and refused. */
 #include "check.h"
 
 /* A kind: builds a message of it in `order`, and its words. */
@@ -115,13 +115,45 @@ static void execute_result(uint32_t *w) {
     put_run(23, 0x61);
 }
 
-#define KINDS 13
+static void byte_setting(uint32_t *w) {
+    begin_message(w[RAIL_WORD_TYPE] = TS_RAIL_ORDER_SYSPARAM);
+    put32(w[RAIL_WORD_SYSPARAM_SYSTEM_PARAM] = SPI_SETKEYBOARDCUES);
+    put8(w[RAIL_WORD_SYSPARAM_VALUE] = 0xFE);
+}
+
+static void area_setting(uint32_t *w) {
+    begin_message(w[RAIL_WORD_TYPE] = TS_RAIL_ORDER_SYSPARAM);
+    put32(w[RAIL_WORD_SYSPARAM_SYSTEM_PARAM] = RAIL_SPI_TASKBARPOS);
+    put16(w[RAIL_WORD_SYSPARAM_LEFT] = 0xFFFF);
+    put16(w[RAIL_WORD_SYSPARAM_TOP] = 0x0102);
+    put16(w[RAIL_WORD_SYSPARAM_RIGHT] = 0x0304);
+    put16(w[RAIL_WORD_SYSPARAM_BOTTOM] = 0x8506);
+}
+
+static void high_contrast(uint32_t *w) {
+    begin_message(w[RAIL_WORD_TYPE] = TS_RAIL_ORDER_SYSPARAM);
+    put32(w[RAIL_WORD_SYSPARAM_SYSTEM_PARAM] = SPI_SETHIGHCONTRAST);
+    put32(w[RAIL_WORD_SYSPARAM_FLAGS] = 0xF000007E);
+    put32(21 + 2);
+    put16(w[RAIL_WORD_SYSPARAM_COLOR_SCHEME_LENGTH] = 21);
+    w[RAIL_WORD_SYSPARAM_COLOR_SCHEME_AT] = (uint32_t)order.size;
+    put_run(21, 0x61);
+}
+
+static void handshake_ex(uint32_t *w) {
+    begin_message(w[RAIL_WORD_TYPE] = TS_RAIL_ORDER_HANDSHAKE_EX);
+    put32(w[RAIL_WORD_HANDSHAKE_EX_BUILD_NUMBER] = 0xF0001DB1);
+    put32(w[RAIL_WORD_HANDSHAKE_EX_FLAGS] = 0xF0000000 | TS_RAIL_ORDER_HANDSHAKEEX_FLAGS_HIDEF);
+}
+
+#define KINDS 17
 static const struct kind kinds[KINDS] = {
     {execute, 8, 0x02},          {activate, 3, 0x04},      {system_command, 3, 0x04},
     {handshake, 2, 0},           {notify_event, 4, 0},     {window_move, 6, 0x3C},
     {move_size, 6, 0x3C},        {min_max_info, 10, 0x3FC}, {client_information, 2, 0},
     {system_menu, 4, 0x0C},      {get_application_id, 2, 0}, {application_id_response, 4, 0},
-    {execute_result, 6, 0x06},
+    {execute_result, 6, 0x06},   {byte_setting, 3, 0x06},  {area_setting, 6, 0x3E},
+    {high_contrast, 5, 0x02},    {handshake_ex, 3, 0},
 };
 
 static void build(int k, uint32_t w[RAIL_WORDS]) {
@@ -245,6 +277,67 @@ static void longest(void) {
     refuse_read(order.size, RAIL_BAD_VALUE);
 }
 
+/* Each setting with a body of `size` bytes of 1; those granted, counted, and the sum of their numbers. */
+static uint32_t settings_of(size_t size, uint32_t *sum) {
+    uint32_t number, count = 0, words[RAIL_WORDS];
+    *sum = 0;
+    for (number = 0; number < 65536; number++) {
+        begin_message(TS_RAIL_ORDER_SYSPARAM);
+        put32(number);
+        put_run(size, 1);
+        finish();
+        if (rail_pdu_read(order.at, order.size, words) == RAIL_DONE) {
+            CHECK(words[RAIL_WORD_SYSPARAM_SYSTEM_PARAM] == number);
+            count++;
+            *sum += number;
+        }
+    }
+    return count;
+}
+
+/* A message of high contrast with these lengths. */
+static void build_scheme(uint32_t outer, size_t inner) {
+    begin_message(TS_RAIL_ORDER_SYSPARAM);
+    put32(SPI_SETHIGHCONTRAST);
+    put32(0);
+    put32(outer);
+    put16((uint32_t)inner);
+    put_run(inner, 0x41);
+    finish();
+}
+
+/* The settings are those named in rail/protocol.h; an unknown one is a bad value, a cut one a misfit; a color scheme's lengths. */
+static void settings(void) {
+    const size_t most = RAIL_COLOR_SCHEME_MAX;
+    uint32_t sum, words[RAIL_WORDS];
+    size_t size;
+    CHECK(settings_of(1, &sum) == 6);
+    CHECK(sum == SPI_SETDRAGFULLWINDOWS + SPI_SETKEYBOARDCUES + SPI_SETKEYBOARDPREF + SPI_SETMOUSEBUTTONSWAP +
+                     SPI_SETSCREENSAVEACTIVE + SPI_SETSCREENSAVESECURE);
+    CHECK(settings_of(8, &sum) == 3 && sum == SPI_SETWORKAREA + RAIL_SPI_TASKBARPOS + RAIL_SPI_DISPLAYCHANGE);
+    for (size = 4; size <= 12; size++) {
+        begin_message(TS_RAIL_ORDER_SYSPARAM);
+        put32(0x10000 + SPI_SETDRAGFULLWINDOWS);
+        put32(1);
+        order.size = size;
+        finish();
+        refuse_read(size, size < 8 ? RAIL_FIELDS_MISFIT : RAIL_BAD_VALUE);
+    }
+    build_scheme(2, 0);
+    CHECK(rail_pdu_read(order.at, order.size, words) == RAIL_DONE && words[RAIL_WORD_SYSPARAM_COLOR_SCHEME_AT] == order.size);
+    build_scheme((uint32_t)most + 2, most);
+    CHECK(rail_pdu_read(order.at, order.size, words) == RAIL_DONE);
+    check_out(words);
+    build_scheme((uint32_t)most + 3, most + 1);
+    refuse_read(order.size, RAIL_BAD_VALUE);
+    build_scheme((uint32_t)most + 2, most + 1); /* the outer length comes first */
+    refuse_read(order.size, RAIL_FIELDS_MISFIT);
+    build_scheme(UINT32_MAX, 3);
+    refuse_read(order.size, RAIL_FIELDS_MISFIT);
+    build_scheme(0x10005, 3);
+    refuse_read(order.size, RAIL_FIELDS_MISFIT);
+}
+
 /* Message `k`: its words, written again, and cut. */
 static void read_kind(int k) {
     uint32_t w[RAIL_WORDS], words[RAIL_WORDS];
@@ -271,9 +364,9 @@ void test_reading(void) {
     int k;
     for (k = 0; k < KINDS; k++)
         read_kind(k);
-    refuse_type(TS_RAIL_ORDER_SYSPARAM);
+    refuse_type(0x0007);
     refuse_type(TS_RAIL_ORDER_LANGBARINFO);
-    refuse_type(TS_RAIL_ORDER_HANDSHAKE_EX);
+    refuse_type(0x0014);
     build(1, w);
     order.at[8] = 2;
     refuse_read(order.size, RAIL_BAD_VALUE);
@@ -283,6 +376,7 @@ void test_reading(void) {
     closed_sets();
     execute_flags();
     longest();
+    settings();
 }
 
 /* These words are no record. */
@@ -339,7 +433,7 @@ static void write_kind(int k) {
     build(k, w);
     w[RAIL_WORD_TYPE] += 65536;
     refuse_words(w);
-    w[RAIL_WORD_TYPE] = TS_RAIL_ORDER_SYSPARAM;
+    w[RAIL_WORD_TYPE] = TS_RAIL_ORDER_LANGBARINFO;
     refuse_words(w);
 }
 
@@ -353,6 +447,15 @@ void test_writing(void) {
     refuse_words(w);
     build(1, w);
     w[RAIL_WORD_ACTIVATE_ENABLED] = 257;
+    refuse_words(w);
+    build(13, w);
+    w[RAIL_WORD_SYSPARAM_SYSTEM_PARAM] = RAIL_SPI_TASKBARPOS; /* a byte is a rectangle with three zeros */
+    order.size = 16;
+    CHECK(rail_bytes(write_words(w, fenced(16), 16)) == 16);
+    w[RAIL_WORD_SYSPARAM_SYSTEM_PARAM] = 0x99;
+    refuse_words(w);
+    w[RAIL_WORD_SYSPARAM_SYSTEM_PARAM] = SPI_SETDRAGFULLWINDOWS;
+    w[RAIL_WORD_SYSPARAM_VALUE] = 256;
     refuse_words(w);
     write_strings();
 }

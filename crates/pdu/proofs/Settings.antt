@@ -17,7 +17,7 @@ use Rattle.pdu.specs.declared.Setting.{Setting}
 use Rattle.pdu.specs.declared.Setting.the-variants.{DragFullWindows, KeyboardCues, KeyboardPref, MouseButtonSwap, WorkArea, TaskbarPos, DisplayChange, HighContrast, ScreenSaveActive, ScreenSaveSecure}
 use Rattle.pdu.specs.declared.Pdu.{Pdu}
 use Rattle.pdu.specs.declared.Pdu.the-variants.{SystemParameters}
-use Rattle.pdu.specs.Settings.{isByte, isArea, highContrast, knownSetting, settingWidths, Data, byte, area, scheme, numberOf, dataOf, settingWith, dataAt, dataNums, dataSize, dataSpans, dataAllowed, moved}
+use Rattle.pdu.specs.Settings.{byteSettings, areaSettings, isByte, isArea, highContrast, knownSetting, settingWidths, Data, byte, area, scheme, numberOf, dataOf, settingWith, dataAt, dataNums, dataSize, dataSpans, dataAllowed, moved}
 use Rattle.pdu.specs.Records.{recordOf, kindOf, numsOf, sizeOf, spansOf}
 use Rattle.pdu.specs.Reading.{recordAs, settingAt, unknownSetting, lengthsAgree}
 use Rattle.pdu.specs.Writing.{filled, stringsOf, joined, encode}
@@ -67,11 +67,11 @@ pub made : (c : ℕ) (d : Data) → Shape c d → Made c d (settingWith c d)
 unfolding settingWith numberOf dataOf isByte isArea
 made c (byte v) h =
     let m : ℕ → Type 0 = λ k. Made k (byte v) (settingWith k (byte v)) in
-    one-of m (0x25 ∷ 0x100B ∷ 0x45 ∷ 0x21 ∷ 0x11 ∷ 0x77 ∷ []) c h
+    one-of m byteSettings c h
     (record { number = refl; body = refl }, (record { number = refl; body = refl }, (record { number = refl; body = refl }, (record { number = refl; body = refl }, (record { number = refl; body = refl }, (record { number = refl; body = refl }, tt))))))
 made c (area a) h =
     let m : ℕ → Type 0 = λ k. Made k (area a) (settingWith k (area a)) in
-    one-of m (0x2F ∷ 0xF000 ∷ 0xF001 ∷ []) c (h .1)
+    one-of m areaSettings c (h .1)
     (record { number = refl; body = refl }, (record { number = refl; body = refl }, (record { number = refl; body = refl }, tt)))
 made c (scheme d) h = record { number = sym h; body = refl }
 
@@ -86,11 +86,11 @@ not-area = refl
 pub byte-other : (c : ℕ) → isByte c ≡ true → eqb c highContrast ≡ false
 unfolding isByte
 byte-other c h =
-    one-of (λ (k : ℕ). eqb k highContrast ≡ false) (0x25 ∷ 0x100B ∷ 0x45 ∷ 0x21 ∷ 0x11 ∷ 0x77 ∷ []) c h (refl, (refl, (refl, (refl, (refl, (refl, tt))))))
+    one-of (λ (k : ℕ). eqb k highContrast ≡ false) byteSettings c h (refl, (refl, (refl, (refl, (refl, (refl, tt))))))
 
 pub area-other : (c : ℕ) → isArea c ≡ true → eqb c highContrast ≡ false
 unfolding isArea
-area-other c h = one-of (λ (k : ℕ). eqb k highContrast ≡ false) (0x2F ∷ 0xF000 ∷ 0xF001 ∷ []) c h (refl, (refl, (refl, tt)))
+area-other c h = one-of (λ (k : ℕ). eqb k highContrast ≡ false) areaSettings c h (refl, (refl, (refl, tt)))
 
 pub shape-known : (c : ℕ) (d : Data) → Shape c d → knownSetting c ≡ true
 unfolding knownSetting

@@ -15,11 +15,17 @@ use Rattle.pdu.specs.Layout.{oneOf, widths}
 -- ---- the numbers
 
 -- settings whose body is one byte; a rectangle
+abbrev pub byteSettings : List ℕ
+byteSettings = 0x25 ∷ 0x100B ∷ 0x45 ∷ 0x21 ∷ 0x11 ∷ 0x77 ∷ []
+
+abbrev pub areaSettings : List ℕ
+areaSettings = 0x2F ∷ 0xF000 ∷ 0xF001 ∷ []
+
 unfoldable pub isByte : ℕ → Bool
-isByte c = oneOf c (0x25 ∷ 0x100B ∷ 0x45 ∷ 0x21 ∷ 0x11 ∷ 0x77 ∷ [])
+isByte c = oneOf c byteSettings
 
 unfoldable pub isArea : ℕ → Bool
-isArea c = oneOf c (0x2F ∷ 0xF000 ∷ 0xF001 ∷ [])
+isArea c = oneOf c areaSettings
 
 -- the setting whose body is a color scheme
 abbrev pub highContrast : ℕ

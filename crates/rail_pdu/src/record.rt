@@ -7,13 +7,18 @@ use pdu::Execute;
 use pdu::ExecuteResult;
 use pdu::GetApplicationId;
 use pdu::Handshake;
+use pdu::HandshakeEx;
+use pdu::HighContrast;
 use pdu::MinMaxInfo;
 use pdu::MoveSize;
 use pdu::NotifyEvent;
 use pdu::Pdu;
+use pdu::Rectangle;
+use pdu::Setting;
 use pdu::Span;
 use pdu::SystemCommand;
 use pdu::SystemMenu;
+use pdu::SystemParameters;
 use pdu::WindowMove;
 use protocol::NotifyIconId;
 use protocol::WindowId;
@@ -34,13 +39,27 @@ fn wide(s: &[u8], at: usize) -> u32
     read_u16(s, at) as u32
 }
 
+// The same of system parameters with this setting; 0 for one that is not listed.
+fn setting_end(setting: u32) -> u32
+    ensures { λ r. ⌜ r < 25 ⌝ }
+{
+    if pdu::is_byte_setting(setting) {
+        return 9;
+    }
+    if pdu::is_area_setting(setting) {
+        return 16;
+    }
+    if setting == 0x43 { 14 } else { 0 }
+}
+
 // Where the fields end, and so the strings begin; 0 for a type that is not listed.
-fn fields_end(kind: u16) -> u32
+fn fields_end(kind: u16, setting: u32) -> u32
     ensures { λ r. ⌜ r < 25 ⌝ }
 {
     match kind {
         0x01 => 12,
         0x02 => 9,
+        0x03 => setting_end(setting),
         0x04 => 10,
         0x05 => 8,
         0x06 => 16,
@@ -51,17 +70,19 @@ fn fields_end(kind: u16) -> u32
         0x0C => 12,
         0x0E => 8,
         0x0F => 10,
+        0x13 => 12,
         0x80 => 14,
         _ => 0,
     }
 }
 
 // How long the strings are together.
-fn strings_len(s: &[u8], kind: u16) -> u32
+fn strings_len(s: &[u8], kind: u16, setting: u32) -> u32
     ensures { λ r. ⌜ r < 196608 ⌝ }
 {
     match kind {
         0x01 => wide(s, 6) + wide(s, 8) + wide(s, 10),
+        0x03 => if setting == 0x43 { wide(s, 12) } else { 0 },
         0x0F => wide(s, 8),
         0x80 => wide(s, 12),
         _ => 0,
@@ -191,6 +212,40 @@ fn execute_result(s: &[u8]) -> Pdu {
     })
 }
 
+fn setting(s: &[u8], number: u32) -> Setting {
+    if pdu::is_byte_setting(number) {
+        return pdu::byte_setting(number, read_u8(s, 8));
+    }
+    if pdu::is_area_setting(number) {
+        let place = Rectangle {
+            left: read_u16(s, 8),
+            top: read_u16(s, 10),
+            right: read_u16(s, 12),
+            bottom: read_u16(s, 14),
+        };
+        return pdu::area_setting(number, place);
+    }
+    Setting::HighContrast(HighContrast {
+        flags: read_u32(s, 8),
+        color_scheme: Span {
+            at: 14,
+            len: wide(s, 12),
+        },
+    })
+}
+
+fn system_parameters(s: &[u8]) -> Pdu {
+    let setting = setting(s, read_u32(s, 4));
+    Pdu::SystemParameters(SystemParameters { setting: setting })
+}
+
+fn handshake_ex(s: &[u8]) -> Pdu {
+    Pdu::HandshakeEx(HandshakeEx {
+        build_number: read_u32(s, 4),
+        flags: read_u32(s, 8),
+    })
+}
+
 // The record of a payload that has it whole. Its type is listed.
 fn of_kind(s: &[u8], kind: u16) -> Pdu {
     match kind {
@@ -206,6 +261,8 @@ fn of_kind(s: &[u8], kind: u16) -> Pdu {
         0x0C => system_menu(s),
         0x0E => get_application_id(s),
         0x0F => application_id_response(s),
+        0x03 => system_parameters(s),
+        0x13 => handshake_ex(s),
         _ => execute_result(s),
     }
 }
@@ -213,7 +270,8 @@ fn of_kind(s: &[u8], kind: u16) -> Pdu {
 // The record, where its fields and strings fill the payload.
 pub(crate) fn read(s: &[u8]) -> Record {
     let kind = read_u16(s, 2);
-    let len = fields_end(kind) + strings_len(s, kind);
+    let setting = read_u32(s, 4);
+    let len = fields_end(kind, setting) + strings_len(s, kind, setting);
     if (len == 0) | (len as usize != s.len()) {
         return Record::Bad;
     }

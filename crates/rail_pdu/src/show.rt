@@ -1,5 +1,5 @@
-// A record as text: a template for each type, in which `#` stands for the next word of the record as a decimal, and `$` for the
-// bytes in hex of the string whose place in s and length the next two words are.
+// A record as text: a template for each type, in which `#` stands for the next word of the record as a decimal, `%` for it as eight
+// hex digits, and `$` for the bytes in hex of the string whose place in s and length the next two words are.
 use pdu::Pdu;
 
 // Word k, if there is one.
@@ -7,10 +7,22 @@ fn word(words: &[u32; 12], k: usize) -> u32 {
     if k < 12 { words[k] } else { 0 }
 }
 
+// A word as eight hex digits, the highest first.
+fn eight_digits(out: &mut [u8], at: usize, v: u32) -> usize {
+    let bytes = [
+        (v / 0x100_0000) as u8,
+        (v / 0x1_0000 % 256) as u8,
+        (v / 0x100 % 256) as u8,
+        (v % 256) as u8,
+    ];
+    print::hex(out, at, &bytes)
+}
+
 // Lays what the byte b of a template stands for, k being the number of the next word.
 fn stand_for(out: &mut [u8], at: usize, s: &[u8], words: &[u32; 12], k: usize, b: u8) -> usize {
     match b {
         b'#' => print::decimal(out, at, word(words, k) as u64),
+        b'%' => eight_digits(out, at, word(words, k)),
         b'$' => {
             let from = word(words, k) as usize;
             let len = word(words, after(k, b'#')) as usize;
@@ -27,6 +39,7 @@ fn after(k: usize, b: u8) -> usize {
     }
     match b {
         b'#' => k + 1,
+        b'%' => k + 1,
         b'$' => k + 2,
         _ => k,
     }
@@ -76,6 +89,24 @@ fn of_a_window(out: &mut [u8], at: usize, s: &[u8], words: &[u32; 12]) -> usize 
     }
 }
 
+// System parameters, by the shape of the body.
+fn of_a_setting(out: &mut [u8], at: usize, s: &[u8], words: &[u32; 12]) -> usize {
+    let number = words[1];
+    if pdu::is_byte_setting(number) {
+        return fill(out, at, s, words, b"0003 setting=% value=#");
+    }
+    if pdu::is_area_setting(number) {
+        return fill(
+            out,
+            at,
+            s,
+            words,
+            b"0003 setting=% left=# top=# right=# bottom=#",
+        );
+    }
+    fill(out, at, s, words, b"0003 setting=% flags=# string=$")
+}
+
 fn by_type(out: &mut [u8], at: usize, s: &[u8], words: &[u32; 12]) -> usize {
     match words[0] {
         0x01 => fill(
@@ -89,6 +120,8 @@ fn by_type(out: &mut [u8], at: usize, s: &[u8], words: &[u32; 12]) -> usize {
         0x0B => fill(out, at, s, words, b"000b flags=#"),
         0x0E => fill(out, at, s, words, b"000e window=#"),
         0x0F => fill(out, at, s, words, b"000f window=# string=$"),
+        0x03 => of_a_setting(out, at, s, words),
+        0x13 => fill(out, at, s, words, b"0013 build=# flags=#"),
         0x80 => fill(out, at, s, words, b"0080 flags=# result=# raw=# string=$"),
         _ => of_a_window(out, at, s, words),
     }

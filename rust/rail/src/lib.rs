@@ -3,7 +3,7 @@
 //! A [`Session`] takes the windowing orders of a server as they come and keeps what
 //! they make: windows, notification icons, the icon cache and the desktop. An order
 //! is used whole or refused whole, and a [`Refusal`] says why. Orders since the last
-//! checkpoint can be taken back. A [`Message`] is one of the 13 control messages,
+//! checkpoint can be taken back. A [`Message`] is one of the 15 control messages,
 //! read from bytes and written to bytes; a [`Channel`] hands them out of the chunks that
 //! they arrive in.
 //!
@@ -65,7 +65,7 @@ pub use ids::{NotifyIconId, WindowId};
 pub use memory::{
     LentSession, Memory, View, BODIES_SIZE, CELLS_SIZE, DIRECTORY_SIZE, JOURNAL_SIZE,
 };
-pub use message::{Message, MESSAGE_LIMIT};
+pub use message::{Message, Setting, MESSAGE_LIMIT};
 pub use order::{orders, Change, Changed, Orders};
 pub use record::{
     CacheCell, Desktop, NotificationIcon, Picture, Point, Rectangle, ShowState, Size, Window,

@@ -75,6 +75,7 @@ pub const WINDOW_ORDER_FIELD_DESKTOP_ACTIVEWND: u32 = 0x0000_0020;
 // orderType of a control message (2.2.2.1): the kinds that are read and written.
 pub const TS_RAIL_ORDER_EXEC: u16 = 0x0001;
 pub const TS_RAIL_ORDER_ACTIVATE: u16 = 0x0002;
+pub const TS_RAIL_ORDER_SYSPARAM: u16 = 0x0003;
 pub const TS_RAIL_ORDER_SYSCOMMAND: u16 = 0x0004;
 pub const TS_RAIL_ORDER_HANDSHAKE: u16 = 0x0005;
 pub const TS_RAIL_ORDER_NOTIFY_EVENT: u16 = 0x0006;
@@ -85,16 +86,30 @@ pub const TS_RAIL_ORDER_CLIENTSTATUS: u16 = 0x000B;
 pub const TS_RAIL_ORDER_SYSMENU: u16 = 0x000C;
 pub const TS_RAIL_ORDER_GET_APPID_REQ: u16 = 0x000E;
 pub const TS_RAIL_ORDER_GET_APPID_RESP: u16 = 0x000F;
+pub const TS_RAIL_ORDER_HANDSHAKE_EX: u16 = 0x0013;
 pub const TS_RAIL_ORDER_EXEC_RESULT: u16 = 0x0080;
 
-// Those that are refused with 4.
-pub const TS_RAIL_ORDER_SYSPARAM: u16 = 0x0003;
+// One that is refused with 4.
 pub const TS_RAIL_ORDER_LANGBARINFO: u16 = 0x000D;
-pub const TS_RAIL_ORDER_HANDSHAKE_EX: u16 = 0x0013;
 
 // Client Information (2.2.2.2.2).
 pub const TS_RAIL_CLIENTSTATUS_ALLOWLOCALMOVESIZE: u32 = 0x0000_0001;
 pub const TS_RAIL_CLIENTSTATUS_AUTORECONNECT: u32 = 0x0000_0002;
+
+// railHandshakeFlags of HandshakeEx (2.2.2.2.3).
+pub const TS_RAIL_ORDER_HANDSHAKEEX_FLAGS_HIDEF: u32 = 0x0000_0001;
+
+// SystemParam that the client sends (2.2.2.4.1), and that the server sends (2.2.2.5.1).
+pub const SPI_SETDRAGFULLWINDOWS: u32 = 0x0000_0025;
+pub const SPI_SETKEYBOARDCUES: u32 = 0x0000_100B;
+pub const SPI_SETKEYBOARDPREF: u32 = 0x0000_0045;
+pub const SPI_SETMOUSEBUTTONSWAP: u32 = 0x0000_0021;
+pub const SPI_SETWORKAREA: u32 = 0x0000_002F;
+pub const RAIL_SPI_TASKBARPOS: u32 = 0x0000_F000;
+pub const RAIL_SPI_DISPLAYCHANGE: u32 = 0x0000_F001;
+pub const SPI_SETHIGHCONTRAST: u32 = 0x0000_0043;
+pub const SPI_SETSCREENSAVEACTIVE: u32 = 0x0000_0011;
+pub const SPI_SETSCREENSAVESECURE: u32 = 0x0000_0077;
 
 // Client Execute (2.2.2.3.1).
 pub const TS_RAIL_EXEC_FLAG_EXPAND_WORKINGDIRECTORY: u16 = 0x0001;

@@ -1,8 +1,9 @@
 //! Control messages are read and written as the second program does it.
 
-use rail::{Message, NotifyIconId, Refusal, WindowId};
+use rail::{Message, NotifyIconId, Rectangle, Refusal, Setting, WindowId};
 use second::generate::pdu::script;
-use second::pdu::{self, Record};
+use second::pdu::setting::{self, Body};
+use second::pdu::{self, Record, SystemParameters};
 use second::script::pdu::{run, run_with};
 use second::script::take_item;
 
@@ -40,8 +41,46 @@ fn message<'a>(record: &Record<'a>) -> Option<Message<'a>> {
         Record::Execute(_) | Record::ApplicationIdResponse(_) | Record::ExecuteResult(_) => {
             with_strings(record)
         }
+        Record::SystemParameters(r) => Message::SystemParameters {
+            setting: setting(r),
+        },
+        Record::HandshakeEx(r) => Message::HandshakeEx {
+            build_number: r.build_number,
+            flags: r.flags,
+        },
         _ => with_positions(record),
     })
+}
+
+/// The setting of system parameters.
+fn setting<'a>(r: &SystemParameters<'a>) -> Setting<'a> {
+    match r.body {
+        Body::Value(value) => match r.setting {
+            setting::SPI_SETDRAGFULLWINDOWS => Setting::DragFullWindows(value),
+            setting::SPI_SETKEYBOARDCUES => Setting::KeyboardCues(value),
+            setting::SPI_SETKEYBOARDPREF => Setting::KeyboardPref(value),
+            setting::SPI_SETMOUSEBUTTONSWAP => Setting::MouseButtonSwap(value),
+            setting::SPI_SETSCREENSAVEACTIVE => Setting::ScreenSaveActive(value),
+            _ => Setting::ScreenSaveSecure(value),
+        },
+        Body::Area(r_area) => {
+            let area = Rectangle {
+                left: r_area.left,
+                top: r_area.top,
+                right: r_area.right,
+                bottom: r_area.bottom,
+            };
+            match r.setting {
+                setting::SPI_SETWORKAREA => Setting::WorkArea(area),
+                setting::RAIL_SPI_TASKBARPOS => Setting::TaskbarPos(area),
+                _ => Setting::DisplayChange(area),
+            }
+        }
+        Body::Contrast(contrast) => Setting::HighContrast {
+            flags: contrast.flags,
+            color_scheme: contrast.color_scheme,
+        },
+    }
 }
 
 /// The messages that have strings.

@@ -3,12 +3,14 @@
 pub mod chunk;
 mod read;
 pub mod rules;
+pub mod setting;
 mod write;
 
 pub use read::read;
 pub use write::write;
 
 use crate::ids::{NotifyIconId, WindowId};
+use setting::Body;
 
 /// The values of orderType, one for each kind of record.
 pub mod order_type {
@@ -16,6 +18,8 @@ pub mod order_type {
     pub const EXECUTE: u16 = 0x0001;
     /// Client Activate.
     pub const ACTIVATE: u16 = 0x0002;
+    /// Client or Server System Parameters Update.
+    pub const SYSTEM_PARAMETERS: u16 = 0x0003;
     /// Client System Command.
     pub const SYSTEM_COMMAND: u16 = 0x0004;
     /// Handshake.
@@ -36,6 +40,8 @@ pub mod order_type {
     pub const GET_APPLICATION_ID: u16 = 0x000E;
     /// Server Get Application ID Response.
     pub const APPLICATION_ID_RESPONSE: u16 = 0x000F;
+    /// HandshakeEx.
+    pub const HANDSHAKE_EX: u16 = 0x0013;
     /// Server Execute Result.
     pub const EXECUTE_RESULT: u16 = 0x0080;
 }
@@ -69,6 +75,10 @@ pub enum Record<'a> {
     ApplicationIdResponse(ApplicationIdResponse<'a>),
     /// How a launch ended.
     ExecuteResult(ExecuteResult<'a>),
+    /// A setting of one end, for the other.
+    SystemParameters(SystemParameters<'a>),
+    /// Both ends are ready, with flags.
+    HandshakeEx(HandshakeEx),
 }
 
 /// Client Execute (0001).
@@ -87,6 +97,23 @@ pub struct Execute<'a> {
 pub struct Activate {
     pub window_id: WindowId,
     pub enabled: u8,
+}
+
+/// Client or Server System Parameters Update (0003). Which of the two it is, the
+/// setting tells.
+#[derive(Clone, Copy, Debug, PartialEq, Eq)]
+#[allow(missing_docs)]
+pub struct SystemParameters<'a> {
+    pub setting: u32,
+    pub body: Body<'a>,
+}
+
+/// HandshakeEx (0013).
+#[derive(Clone, Copy, Debug, PartialEq, Eq)]
+#[allow(missing_docs)]
+pub struct HandshakeEx {
+    pub build_number: u32,
+    pub flags: u32,
 }
 
 /// Client System Command (0004).

@@ -1,10 +1,12 @@
 //! Reading: the bytes of one message into a record.
 
 use super::rules::APPLICATION_ID_SIZE;
+use super::setting::{self, Area, Body, Contrast, Form};
 use super::{order_type, Record};
 use super::{
     Activate, ApplicationIdResponse, ClientInformation, Execute, ExecuteResult, GetApplicationId,
-    Handshake, MinMaxInfo, MoveSize, NotifyEvent, SystemCommand, SystemMenu, WindowMove,
+    Handshake, HandshakeEx, MinMaxInfo, MoveSize, NotifyEvent, SystemCommand, SystemMenu,
+    SystemParameters, WindowMove,
 };
 use crate::ids::{NotifyIconId, WindowId};
 use crate::number::{LENGTH_DIFFERS, NOT_FILLED, OUTSIDE_SET, TOO_SHORT, UNKNOWN_TYPE};
@@ -32,6 +34,8 @@ pub fn read(message: &[u8]) -> Result<Record<'_>, u8> {
         order_type::GET_APPLICATION_ID => get_application_id(body),
         order_type::APPLICATION_ID_RESPONSE => application_id_response(body),
         order_type::EXECUTE_RESULT => execute_result(body),
+        order_type::SYSTEM_PARAMETERS => system_parameters(body),
+        order_type::HANDSHAKE_EX => handshake_ex(body),
         _ => Err(UNKNOWN_TYPE),
     }
 }
@@ -173,6 +177,52 @@ fn execute_result(body: &[u8]) -> Result<Record<'_>, u8> {
         exe_or_file,
     };
     granted(record.is_allowed(), Record::ExecuteResult(record))
+}
+
+fn system_parameters(body: &[u8]) -> Result<Record<'_>, u8> {
+    let (name, rest) = split::<4>(body)?;
+    let setting = u32_at(name, 0);
+    let body = match setting::form(setting) {
+        Some(Form::Value) => {
+            let &[value] = exact::<1>(rest)?;
+            Body::Value(value)
+        }
+        Some(Form::Area) => {
+            let area = exact::<8>(rest)?;
+            Body::Area(Area {
+                left: u16_at(area, 0),
+                top: u16_at(area, 2),
+                right: u16_at(area, 4),
+                bottom: u16_at(area, 6),
+            })
+        }
+        Some(Form::Contrast) => Body::Contrast(contrast(rest)?),
+        None => return Err(OUTSIDE_SET),
+    };
+    let record = SystemParameters { setting, body };
+    granted(record.is_allowed(), Record::SystemParameters(record))
+}
+
+/// Flags, the length of all that follows, and a string after its own length.
+fn contrast(body: &[u8]) -> Result<Contrast<'_>, u8> {
+    let (head, color_scheme) = split::<10>(body)?;
+    let outer = u64::from(u32_at(head, 4));
+    let inner = u16_at(head, 8);
+    if usize::from(inner) != color_scheme.len() || outer != u64::from(inner) + 2 {
+        return Err(NOT_FILLED);
+    }
+    Ok(Contrast {
+        flags: u32_at(head, 0),
+        color_scheme,
+    })
+}
+
+fn handshake_ex(body: &[u8]) -> Result<Record<'_>, u8> {
+    let body = exact::<8>(body)?;
+    Ok(Record::HandshakeEx(HandshakeEx {
+        build_number: u32_at(body, 0),
+        flags: u32_at(body, 4),
+    }))
 }
 
 /// The record, or 8 if one of its numbers is outside its set.

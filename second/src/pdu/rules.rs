@@ -1,6 +1,7 @@
 //! The allowed sets behind number 8. Fields not named here take any number.
 
-use super::{Activate, Execute, ExecuteResult, MoveSize, SystemCommand};
+use super::setting::{form, Body};
+use super::{Activate, Execute, ExecuteResult, MoveSize, SystemCommand, SystemParameters};
 
 /// Bytes that an Application ID Response carries for its id.
 pub const APPLICATION_ID_SIZE: usize = 520;
@@ -68,6 +69,12 @@ pub fn application_id_length(length: usize) -> bool {
     length <= APPLICATION_ID_SIZE
 }
 
+/// High contrast: a color scheme of 0 to 520 bytes, odd permitted.
+#[inline]
+pub fn color_scheme_length(length: usize) -> bool {
+    length <= 520
+}
+
 #[inline]
 fn is_even(length: usize) -> bool {
     length & 1 == 0
@@ -108,5 +115,16 @@ impl ExecuteResult<'_> {
     #[inline]
     pub(super) fn is_allowed(&self) -> bool {
         exec_result(self.exec_result) && result_length(self.exe_or_file.len())
+    }
+}
+
+impl SystemParameters<'_> {
+    #[inline]
+    pub(super) fn is_allowed(&self) -> bool {
+        let string = match self.body {
+            Body::Contrast(contrast) => contrast.color_scheme.len(),
+            Body::Value(_) | Body::Area(_) => 0,
+        };
+        form(self.setting) == Some(self.body.form()) && color_scheme_length(string)
     }
 }

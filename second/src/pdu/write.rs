@@ -1,10 +1,11 @@
 //! Writing: a record into the first bytes of the output memory.
 
 use super::rules::{self, APPLICATION_ID_SIZE};
+use super::setting::{Area, Body, Contrast};
 use super::{order_type, Record};
 use super::{
-    Activate, ApplicationIdResponse, Execute, ExecuteResult, MinMaxInfo, MoveSize, NotifyEvent,
-    SystemCommand, SystemMenu, WindowMove,
+    Activate, ApplicationIdResponse, Execute, ExecuteResult, HandshakeEx, MinMaxInfo, MoveSize,
+    NotifyEvent, SystemCommand, SystemMenu, SystemParameters, WindowMove,
 };
 use crate::number::{OUTPUT_TOO_SMALL, OUTSIDE_SET};
 
@@ -28,6 +29,8 @@ pub fn write(record: &Record<'_>, out: &mut [u8]) -> Result<usize, u8> {
         }
         Record::ApplicationIdResponse(r) => application_id_response(r, out),
         Record::ExecuteResult(r) => execute_result(r, out),
+        Record::SystemParameters(r) => system_parameters(r, out),
+        Record::HandshakeEx(r) => handshake_ex(r, out),
     }
 }
 
@@ -149,6 +152,48 @@ fn execute_result(r: &ExecuteResult<'_>, out: &mut [u8]) -> Result<usize, u8> {
     put_u16(head, 14, length as u16);
     string.copy_from_slice(r.exe_or_file);
     Ok(16 + length)
+}
+
+fn system_parameters(r: &SystemParameters<'_>, out: &mut [u8]) -> Result<usize, u8> {
+    allowed(r.is_allowed())?;
+    match &r.body {
+        Body::Value(value) => {
+            let message = fixed::<9>(order_type::SYSTEM_PARAMETERS, out)?;
+            put_u32(message, 4, r.setting);
+            message[8] = *value;
+            Ok(9)
+        }
+        Body::Area(area) => area_setting(r.setting, area, out),
+        Body::Contrast(contrast) => contrast_setting(r.setting, contrast, out),
+    }
+}
+
+fn area_setting(setting: u32, area: &Area, out: &mut [u8]) -> Result<usize, u8> {
+    let message = fixed::<16>(order_type::SYSTEM_PARAMETERS, out)?;
+    put_u32(message, 4, setting);
+    put_u16(message, 8, area.left);
+    put_u16(message, 10, area.top);
+    put_u16(message, 12, area.right);
+    put_u16(message, 14, area.bottom);
+    Ok(16)
+}
+
+fn contrast_setting(setting: u32, r: &Contrast<'_>, out: &mut [u8]) -> Result<usize, u8> {
+    let length = r.color_scheme.len();
+    let (head, string) = frame::<18>(order_type::SYSTEM_PARAMETERS, length, out)?;
+    put_u32(head, 4, setting);
+    put_u32(head, 8, r.flags);
+    put_u32(head, 12, length as u32 + 2);
+    put_u16(head, 16, length as u16);
+    string.copy_from_slice(r.color_scheme);
+    Ok(18 + length)
+}
+
+fn handshake_ex(r: &HandshakeEx, out: &mut [u8]) -> Result<usize, u8> {
+    let message = fixed::<12>(order_type::HANDSHAKE_EX, out)?;
+    put_u32(message, 4, r.build_number);
+    put_u32(message, 8, r.flags);
+    Ok(12)
 }
 
 #[inline]

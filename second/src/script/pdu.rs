@@ -7,10 +7,12 @@ use super::chunk::{self, Chunks, Outcome};
 use super::print::{push_hex, push_record};
 use super::{take_item, End, Item};
 use crate::ids::{NotifyIconId, WindowId};
+use crate::pdu::setting::{self, Area, Body, Contrast, Form};
 use crate::pdu::{self, order_type, Record};
 use crate::pdu::{
     Activate, ApplicationIdResponse, ClientInformation, Execute, ExecuteResult, GetApplicationId,
-    Handshake, MinMaxInfo, MoveSize, NotifyEvent, SystemCommand, SystemMenu, WindowMove,
+    Handshake, HandshakeEx, MinMaxInfo, MoveSize, NotifyEvent, SystemCommand, SystemMenu,
+    SystemParameters, WindowMove,
 };
 
 /// The kinds of items.
@@ -218,6 +220,11 @@ impl<'a> Fields<'a> {
                 Record::ApplicationIdResponse(self.application_id_response()?)
             }
             order_type::EXECUTE_RESULT => Record::ExecuteResult(self.execute_result()?),
+            order_type::SYSTEM_PARAMETERS => Record::SystemParameters(self.system_parameters()?),
+            order_type::HANDSHAKE_EX => Record::HandshakeEx(HandshakeEx {
+                build_number: self.u32()?,
+                flags: self.u32()?,
+            }),
             _ => return None,
         })
     }
@@ -269,6 +276,28 @@ impl<'a> Fields<'a> {
             raw_result,
             exe_or_file: self.bytes(length)?,
         })
+    }
+
+    fn system_parameters(&mut self) -> Option<SystemParameters<'a>> {
+        let setting = self.u32()?;
+        let body = match setting::form(setting)? {
+            Form::Value => Body::Value(self.u8()?),
+            Form::Area => Body::Area(Area {
+                left: self.u16()?,
+                top: self.u16()?,
+                right: self.u16()?,
+                bottom: self.u16()?,
+            }),
+            Form::Contrast => {
+                let flags = self.u32()?;
+                let length = self.u16()?;
+                Body::Contrast(Contrast {
+                    flags,
+                    color_scheme: self.bytes(length)?,
+                })
+            }
+        };
+        Some(SystemParameters { setting, body })
     }
 
     fn window(&mut self) -> Option<WindowId> {

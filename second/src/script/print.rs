@@ -1,6 +1,7 @@
 //! How answers are printed.
 
-use crate::pdu::{order_type, Record};
+use crate::pdu::setting::Body;
+use crate::pdu::{order_type, Record, SystemParameters};
 
 /// Adds lowercase hex with no separators.
 pub fn push_hex(line: &mut Vec<u8>, bytes: &[u8]) {
@@ -84,6 +85,11 @@ pub fn push_record(line: &mut Vec<u8>, record: &Record<'_>) {
             .number("result", r.exec_result)
             .number("raw", r.raw_result)
             .string("string", r.exe_or_file),
+        Record::SystemParameters(r) => fields.setting(r),
+        Record::HandshakeEx(r) => fields
+            .kind(order_type::HANDSHAKE_EX)
+            .number("build", r.build_number)
+            .number("flags", r.flags),
     };
 }
 
@@ -97,6 +103,22 @@ impl Fields<'_> {
         self.line.extend_from_slice(b"type=");
         push_hex(self.line, &kind.to_be_bytes());
         self
+    }
+
+    fn setting(&mut self, r: &SystemParameters<'_>) -> &mut Self {
+        self.kind(order_type::SYSTEM_PARAMETERS)
+            .text("setting", &format!("{:08x}", r.setting));
+        match r.body {
+            Body::Value(value) => self.number("value", value),
+            Body::Area(area) => self
+                .number("left", area.left)
+                .number("top", area.top)
+                .number("right", area.right)
+                .number("bottom", area.bottom),
+            Body::Contrast(contrast) => self
+                .number("flags", contrast.flags)
+                .string("string", contrast.color_scheme),
+        }
     }
 
     pub(super) fn number(&mut self, name: &str, value: impl Into<u32>) -> &mut Self {

@@ -94,6 +94,26 @@ fn every_kind_is_printed_by_name() {
             "R 0 type=0080 flags=65518 result=7 raw=606282273 string=414243",
             "P 1300 8000 EEFF 0700 21222324 0300 414243",
         ),
+        (
+            "R 0300 0900 0B100000 FE",
+            "R 0 type=0003 setting=0000100b value=254",
+            "P 0900 0300 0B100000 FE",
+        ),
+        (
+            "R 0300 1000 01F00000 2122 3132 4142 5152",
+            "R 0 type=0003 setting=0000f001 left=8737 top=12849 right=16961 bottom=21073",
+            "P 1000 0300 01F00000 2122 3132 4142 5152",
+        ),
+        (
+            "R 0300 1500 43000000 11121314 05000000 0300 414243",
+            "R 0 type=0003 setting=00000043 flags=336794129 string=414243",
+            "P 1500 0300 43000000 11121314 0300 414243",
+        ),
+        (
+            "R 1300 0C00 11121314 21222324",
+            "R 0 type=0013 build=336794129 flags=606282273",
+            "P 0C00 1300 11121314 21222324",
+        ),
     ];
     for (read_item, printed, write_item) in lines {
         let bytes = read_item[1..].replace(' ', "").to_lowercase();

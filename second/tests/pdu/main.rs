@@ -13,6 +13,7 @@ mod round_trip;
 mod rules;
 mod samples;
 mod scripts;
+mod settings;
 mod vectors;
 
 use common::hex;

@@ -18,7 +18,7 @@ fn fewer_than_4_bytes() {
         ("050003", 2),
         ("050008", 2),
     ]);
-    check(&[("05000400", 7), ("05000800", 3), ("03000400", 4)]);
+    check(&[("05000400", 7), ("05000800", 3), ("07000400", 4)]);
 }
 
 /// Declares another length than the message has.
@@ -41,10 +41,10 @@ fn declared_length() {
     }
 }
 
-/// Every type but the thirteen is unknown, whatever the size.
+/// Every type but the fifteen is unknown, whatever the size.
 #[test]
 fn unknown_types() {
-    let known = [1, 2, 4, 5, 6, 8, 9, 10, 11, 12, 14, 15, 0x80];
+    let known = [1, 2, 3, 4, 5, 6, 8, 9, 10, 11, 12, 14, 15, 0x13, 0x80];
     for kind in 0..=u16::MAX {
         let mut message = hex("0000 0500 00");
         message[..2].copy_from_slice(&kind.to_le_bytes());
@@ -101,7 +101,7 @@ fn refusal_order() {
         ("0200 0900 58000100", 3),
         ("0200 0A00 58000100 02", 3),
         // 4 before 7.
-        ("0300 0400", 4),
+        ("0700 0400", 4),
         // 7 before 8.
         ("0200 0A00 58000100 02 00", 7),
         ("0400 0B00 58000100 0000 00", 7),

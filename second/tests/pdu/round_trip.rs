@@ -1,7 +1,9 @@
 //! Records and messages there and back.
 
+use super::samples::{contrast, setting};
 use second::generate::{self, random::Random};
 use second::ids::{NotifyIconId, WindowId};
+use second::pdu::setting::{Area, Body};
 use second::pdu::*;
 use second::script::take_item;
 
@@ -66,7 +68,7 @@ fn allowed_record<'a>(random: &mut Random, bytes: &'a [u8]) -> Record<'a> {
     let window_id = WindowId(random.bits() as u32);
     let mut short = || random.bits() as u16;
     let numbers = [(); 8].map(|()| short());
-    match random.below(13) {
+    match random.below(17) {
         0 => Record::Execute(Execute {
             flags: random.pick(&[0, 1, 4, 6, 8, 0x14, 0x1F]),
             exe_or_file: &bytes[..2 + 2 * random.below(260)],
@@ -128,6 +130,27 @@ fn allowed_record<'a>(random: &mut Random, bytes: &'a [u8]) -> Record<'a> {
         11 => Record::ApplicationIdResponse(ApplicationIdResponse {
             window_id,
             application_id: &bytes[..random.below(521)],
+        }),
+        12 => setting(
+            random.pick(&[0x11, 0x21, 0x25, 0x45, 0x77, 0x100B]),
+            Body::Value(numbers[0] as u8),
+        ),
+        13 => setting(
+            random.pick(&[0x2F, 0xF000, 0xF001]),
+            Body::Area(Area {
+                left: numbers[0],
+                top: numbers[1],
+                right: numbers[2],
+                bottom: numbers[3],
+            }),
+        ),
+        14 => setting(
+            0x43,
+            contrast(random.bits() as u32, &bytes[..random.below(521)]),
+        ),
+        15 => Record::HandshakeEx(HandshakeEx {
+            build_number: random.bits() as u32,
+            flags: random.bits() as u32,
         }),
         _ => Record::ExecuteResult(ExecuteResult {
             flags: numbers[0],

@@ -1,10 +1,11 @@
 //! One record of each kind, with a different number in every field.
 
 use second::ids::{NotifyIconId, WindowId};
+use second::pdu::setting::{Area, Body, Contrast};
 use second::pdu::*;
 
 /// Each record with its message in hex.
-pub const SAMPLES: [(Record<'static>, &str); 13] = [
+pub const SAMPLES: [(Record<'static>, &str); 17] = [
     (
         Record::Execute(Execute {
             flags: 0x0016,
@@ -111,6 +112,33 @@ pub const SAMPLES: [(Record<'static>, &str); 13] = [
         }),
         "8000 1300 EEFF 0700 21222324 0000 0300 414243",
     ),
+    (
+        setting(0x0000_100B, Body::Value(0xFE)),
+        "0300 0900 0B100000 FE",
+    ),
+    (
+        setting(
+            0x0000_F001,
+            Body::Area(Area {
+                left: 0x2221,
+                top: 0x3231,
+                right: 0x4241,
+                bottom: 0x5251,
+            }),
+        ),
+        "0300 1000 01F00000 2122 3132 4142 5152",
+    ),
+    (
+        setting(0x0000_0043, contrast(0x1413_1211, &[0x41, 0x42, 0x43])),
+        "0300 1500 43000000 11121314 05000000 0300 414243",
+    ),
+    (
+        Record::HandshakeEx(HandshakeEx {
+            build_number: 0x1413_1211,
+            flags: 0x2423_2221,
+        }),
+        "1300 0C00 11121314 21222324",
+    ),
 ];
 
 /// A sample's message.
@@ -123,7 +151,7 @@ pub fn message(sample: &(Record<'static>, &str)) -> Vec<u8> {
 }
 
 /// Every kind with a rule, broken by one field.
-pub const BROKEN: [Record<'static>; 10] = [
+pub const BROKEN: [Record<'static>; 13] = [
     execute(0x0020, &[1; 2], &[], &[]),
     execute(0, &[], &[], &[]),
     execute(0, &[1; 2], &[1; 522], &[]),
@@ -149,7 +177,24 @@ pub const BROKEN: [Record<'static>; 10] = [
     }),
     result(4, &[1; 2]),
     result(0, &[]),
+    setting(0x0000_0043, contrast(0, &[1; 521])),
+    // What another setting carries, and no setting.
+    setting(0x0000_0025, contrast(0, &[])),
+    setting(0x0001_0025, Body::Value(1)),
 ];
+
+/// A setting with what it carries.
+pub const fn setting<'a>(setting: u32, body: Body<'a>) -> Record<'a> {
+    Record::SystemParameters(SystemParameters { setting, body })
+}
+
+/// High contrast.
+pub const fn contrast(flags: u32, color_scheme: &[u8]) -> Body<'_> {
+    Body::Contrast(Contrast {
+        flags,
+        color_scheme,
+    })
+}
 
 /// An Execute record.
 pub const fn execute<'a>(flags: u16, p: &'a [u8], d: &'a [u8], a: &'a [u8]) -> Record<'a> {

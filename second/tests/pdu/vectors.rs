@@ -16,5 +16,10 @@ fn public_document() {
 
 #[test]
 fn document_01() {
-    check(include_str!("../../vectors/document-01.txt"), 18);
+    check(include_str!("../../vectors/document-01.txt"), 17);
+}
+
+#[test]
+fn settings() {
+    check(include_str!("../../vectors/settings.txt"), 50);
 }

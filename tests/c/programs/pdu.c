@@ -5,45 +5,57 @@
 
 #define MEMORY_MAX 17408
 
-/* A kind: its fields by name, each with its width in a P item; s is a string, b a byte that stands for no or yes. */
+/* A kind: its type, and with system parameters the setting; its fields by name, each with its width in a P item. s is a string, b a
+ * byte that stands for no or yes, x a number of 4 that is printed in hex. */
 struct field {
     const char *name;
     char width;
 };
 
 struct kind {
-    uint32_t type;
+    uint32_t type, setting;
     struct field fields[RAIL_WORDS];
 };
 
 static const struct kind kinds[] = {
-    {TS_RAIL_ORDER_EXEC, {{"flags", 2}, {"program", 's'}, {"directory", 's'}, {"arguments", 's'}}},
-    {TS_RAIL_ORDER_ACTIVATE, {{"window", 4}, {"enabled", 1}}},
-    {TS_RAIL_ORDER_SYSCOMMAND, {{"window", 4}, {"command", 2}}},
-    {TS_RAIL_ORDER_HANDSHAKE, {{"build", 4}}},
-    {TS_RAIL_ORDER_NOTIFY_EVENT, {{"window", 4}, {"icon", 4}, {"message", 4}}},
-    {TS_RAIL_ORDER_WINDOWMOVE, {{"window", 4}, {"left", 2}, {"top", 2}, {"right", 2}, {"bottom", 2}}},
-    {TS_RAIL_ORDER_LOCALMOVESIZE, {{"window", 4}, {"start", 'b'}, {"move_type", 2}, {"x", 2}, {"y", 2}}},
-    {TS_RAIL_ORDER_MINMAXINFO,
+    {TS_RAIL_ORDER_EXEC, 0, {{"flags", 2}, {"program", 's'}, {"directory", 's'}, {"arguments", 's'}}},
+    {TS_RAIL_ORDER_ACTIVATE, 0, {{"window", 4}, {"enabled", 1}}},
+    {TS_RAIL_ORDER_SYSCOMMAND, 0, {{"window", 4}, {"command", 2}}},
+    {TS_RAIL_ORDER_HANDSHAKE, 0, {{"build", 4}}},
+    {TS_RAIL_ORDER_NOTIFY_EVENT, 0, {{"window", 4}, {"icon", 4}, {"message", 4}}},
+    {TS_RAIL_ORDER_WINDOWMOVE, 0, {{"window", 4}, {"left", 2}, {"top", 2}, {"right", 2}, {"bottom", 2}}},
+    {TS_RAIL_ORDER_LOCALMOVESIZE, 0, {{"window", 4}, {"start", 'b'}, {"move_type", 2}, {"x", 2}, {"y", 2}}},
+    {TS_RAIL_ORDER_MINMAXINFO, 0,
      {{"window", 4}, {"max_width", 2}, {"max_height", 2}, {"max_x", 2}, {"max_y", 2}, {"min_track_width", 2},
       {"min_track_height", 2}, {"max_track_width", 2}, {"max_track_height", 2}}},
-    {TS_RAIL_ORDER_CLIENTSTATUS, {{"flags", 4}}},
-    {TS_RAIL_ORDER_SYSMENU, {{"window", 4}, {"left", 2}, {"top", 2}}},
-    {TS_RAIL_ORDER_GET_APPID_REQ, {{"window", 4}}},
-    {TS_RAIL_ORDER_GET_APPID_RESP, {{"window", 4}, {"string", 's'}}},
-    {TS_RAIL_ORDER_EXEC_RESULT, {{"flags", 2}, {"result", 2}, {"raw", 4}, {"string", 's'}}},
+    {TS_RAIL_ORDER_CLIENTSTATUS, 0, {{"flags", 4}}},
+    {TS_RAIL_ORDER_SYSMENU, 0, {{"window", 4}, {"left", 2}, {"top", 2}}},
+    {TS_RAIL_ORDER_GET_APPID_REQ, 0, {{"window", 4}}},
+    {TS_RAIL_ORDER_GET_APPID_RESP, 0, {{"window", 4}, {"string", 's'}}},
+    {TS_RAIL_ORDER_EXEC_RESULT, 0, {{"flags", 2}, {"result", 2}, {"raw", 4}, {"string", 's'}}},
+    {TS_RAIL_ORDER_SYSPARAM, SPI_SETDRAGFULLWINDOWS, {{"setting", 'x'}, {"value", 1}}},
+    {TS_RAIL_ORDER_SYSPARAM, SPI_SETKEYBOARDCUES, {{"setting", 'x'}, {"value", 1}}},
+    {TS_RAIL_ORDER_SYSPARAM, SPI_SETKEYBOARDPREF, {{"setting", 'x'}, {"value", 1}}},
+    {TS_RAIL_ORDER_SYSPARAM, SPI_SETMOUSEBUTTONSWAP, {{"setting", 'x'}, {"value", 1}}},
+    {TS_RAIL_ORDER_SYSPARAM, SPI_SETSCREENSAVEACTIVE, {{"setting", 'x'}, {"value", 1}}},
+    {TS_RAIL_ORDER_SYSPARAM, SPI_SETSCREENSAVESECURE, {{"setting", 'x'}, {"value", 1}}},
+    {TS_RAIL_ORDER_SYSPARAM, SPI_SETWORKAREA, {{"setting", 'x'}, {"left", 2}, {"top", 2}, {"right", 2}, {"bottom", 2}}},
+    {TS_RAIL_ORDER_SYSPARAM, RAIL_SPI_TASKBARPOS, {{"setting", 'x'}, {"left", 2}, {"top", 2}, {"right", 2}, {"bottom", 2}}},
+    {TS_RAIL_ORDER_SYSPARAM, RAIL_SPI_DISPLAYCHANGE, {{"setting", 'x'}, {"left", 2}, {"top", 2}, {"right", 2}, {"bottom", 2}}},
+    {TS_RAIL_ORDER_SYSPARAM, SPI_SETHIGHCONTRAST, {{"setting", 'x'}, {"flags", 4}, {"string", 's'}}},
+    {TS_RAIL_ORDER_HANDSHAKE_EX, 0, {{"build", 4}, {"flags", 4}}},
 };
 
-static const struct kind *kind_of(uint32_t type) {
+static const struct kind *kind_of(uint32_t type, uint32_t setting) {
     size_t k;
     for (k = 0; k < sizeof kinds / sizeof kinds[0]; k++)
-        if (kinds[k].type == type)
+        if (kinds[k].type == type && (type != TS_RAIL_ORDER_SYSPARAM || kinds[k].setting == setting))
             return &kinds[k];
     return NULL;
 }
 
 static void print_record(int item, const uint8_t *message, const uint32_t words[RAIL_WORDS]) {
-    const struct kind *kind = kind_of(words[RAIL_WORD_TYPE]);
+    const struct kind *kind = kind_of(words[RAIL_WORD_TYPE], words[RAIL_WORD_SYSPARAM_SYSTEM_PARAM]);
     const struct field *f;
     const uint32_t *w = words + 1;
     printf("%c 0 type=%04x", item, kind->type);
@@ -53,7 +65,7 @@ static void print_record(int item, const uint8_t *message, const uint32_t words[
             print_hex("", message + w[0], w[1]);
             w += 2;
         } else {
-            printf("%u", *w++);
+            printf(f->width == 'x' ? "%08x" : "%u", *w++);
         }
     }
 }
@@ -64,7 +76,7 @@ static size_t take_numbers(const struct kind *kind, const struct item *item, uin
     uint32_t *w = words + 1;
     size_t at = 4;
     for (f = kind->fields; f->name != NULL; f++) {
-        const size_t width = f->width == 's' ? 2 : f->width == 'b' ? 1 : (size_t)f->width;
+        const size_t width = f->width == 's' ? 2 : f->width == 'b' ? 1 : f->width == 'x' ? 4 : (size_t)f->width;
         uint32_t number;
         if (item->size < at + width)
             return 0;
@@ -106,7 +118,8 @@ static int bad_item(void) {
 static int write_record(const struct item *item) {
     static uint8_t memory[MEMORY_MAX];
     uint32_t words[RAIL_WORDS] = {0}, answer, n;
-    const struct kind *kind = item->size < 4 ? NULL : kind_of(rail_get16(item->payload + 2));
+    const uint32_t setting = item->size < 8 ? 0 : rail_get32(item->payload + 4);
+    const struct kind *kind = item->size < 4 ? NULL : kind_of(rail_get16(item->payload + 2), setting);
     const size_t size = kind == NULL ? 0 : rail_get16(item->payload);
     const size_t at = kind == NULL || size > MEMORY_MAX ? 0 : take_numbers(kind, item, words);
     if (at == 0 || !place_strings(kind, item, at, words))

@@ -1,5 +1,6 @@
 //! Control messages (PDUs): reading and writing.
 
+mod setting;
 #[cfg(test)]
 mod tests;
 mod words;
@@ -9,6 +10,7 @@ use alloc::vec::Vec;
 use crate::answer::{refused, written_answer, Refusal};
 use crate::ffi;
 use crate::ids::{NotifyIconId, WindowId};
+pub use setting::Setting;
 pub(crate) use words::message_of;
 use words::words_of;
 
@@ -161,6 +163,18 @@ pub enum Message<'a> {
         /// All 520 bytes of a message that was read. Of one that is written up to 520,
         /// with zeros after them.
         application_id: &'a [u8],
+    },
+    /// 0003: a setting of the terminal, to the server; or one of the server.
+    SystemParameters {
+        /// Which it is, with its data.
+        setting: Setting<'a>,
+    },
+    /// 0013: both ends are ready, with flags.
+    HandshakeEx {
+        /// The sender's build.
+        build_number: u32,
+        /// Any bits.
+        flags: u32,
     },
     /// 0080, to the terminal: how a launch ended.
     ExecuteResult {

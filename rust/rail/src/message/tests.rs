@@ -14,6 +14,7 @@ const APPLICATION_ID: u32 = 520;
 fn places(words: &Words) -> &'static [usize] {
     match words[0] {
         0x01 => &[2, 4, 6],
+        0x03 if words[1] == 0x43 => &[3],
         0x0F => &[2],
         0x80 => &[4],
         _ => &[],

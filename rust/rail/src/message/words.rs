@@ -3,13 +3,15 @@
 
 use alloc::borrow::Cow;
 
-use super::Message;
+use super::setting::{setting_of, words_of_setting};
+use super::{Message, Setting};
 use crate::answer::Refusal;
 use crate::ffi::Words;
 use crate::ids::{NotifyIconId, WindowId};
 
 const EXECUTE: u32 = 0x01;
 const ACTIVATE: u32 = 0x02;
+const SYSTEM_PARAMETERS: u32 = 0x03;
 const SYSTEM_COMMAND: u32 = 0x04;
 const HANDSHAKE: u32 = 0x05;
 const NOTIFY_EVENT: u32 = 0x06;
@@ -20,6 +22,7 @@ const CLIENT_INFORMATION: u32 = 0x0B;
 const SYSTEM_MENU: u32 = 0x0C;
 const GET_APPLICATION_ID: u32 = 0x0E;
 const APPLICATION_ID_RESPONSE: u32 = 0x0F;
+const HANDSHAKE_EX: u32 = 0x13;
 const EXECUTE_RESULT: u32 = 0x80;
 
 /// The longest string that a length of 2 bytes can tell. The rules allow less.
@@ -53,6 +56,13 @@ pub(crate) fn message_of<'a>(words: &Words, bytes: &'a [u8]) -> Message<'a> {
         CLIENT_INFORMATION => Message::ClientInformation { flags: from.u32() },
         GET_APPLICATION_ID => Message::GetApplicationId {
             window_id: from.window_id(),
+        },
+        SYSTEM_PARAMETERS => Message::SystemParameters {
+            setting: setting_of(&mut from),
+        },
+        HANDSHAKE_EX => Message::HandshakeEx {
+            build_number: from.u32(),
+            flags: from.u32(),
         },
         kind => unreachable!("the library grants no message of type {kind:04X}"),
     }
@@ -118,20 +128,25 @@ fn with_positions<'a>(kind: u32, from: &mut Fields<'_, 'a>) -> Message<'a> {
 }
 
 /// The words not yet taken, and the bytes that strings are parts of.
-struct Fields<'w, 'a> {
+pub(super) struct Fields<'w, 'a> {
     words: &'w [u32],
     bytes: &'a [u8],
 }
 
 impl<'a> Fields<'_, 'a> {
-    fn u32(&mut self) -> u32 {
+    pub(super) fn u32(&mut self) -> u32 {
         let (word, rest) = self.words.split_first().expect("a message has few fields");
         self.words = rest;
         *word
     }
 
+    /// A field of 1 byte.
+    pub(super) fn u8(&mut self) -> u8 {
+        self.u32() as u8
+    }
+
     /// A field of 2 bytes: its low half.
-    fn u16(&mut self) -> u16 {
+    pub(super) fn u16(&mut self) -> u16 {
         self.u32() as u16
     }
 
@@ -147,7 +162,7 @@ impl<'a> Fields<'_, 'a> {
         WindowId(self.u32())
     }
 
-    fn string(&mut self) -> &'a [u8] {
+    pub(super) fn string(&mut self) -> &'a [u8] {
         let [at, length] = [self.u32() as usize, self.u32() as usize];
         &self.bytes[at..at + length]
     }
@@ -179,6 +194,9 @@ fn strings_of<'a>(message: &Message<'a>) -> [&'a [u8]; 3] {
         } => [exe_or_file, working_dir, arguments],
         Message::ApplicationIdResponse { application_id, .. } => [application_id, &[], &[]],
         Message::ExecuteResult { exe_or_file, .. } => [exe_or_file, &[], &[]],
+        Message::SystemParameters {
+            setting: Setting::HighContrast { color_scheme, .. },
+        } => [color_scheme, &[], &[]],
         _ => [&[], &[], &[]],
     }
 }
@@ -223,6 +241,13 @@ fn numbers_of(message: &Message<'_>, places: [[u32; 2]; 3]) -> Words {
             top,
         } => filled([SYSTEM_MENU, window_id.0, word(left), word(top)]),
         Message::GetApplicationId { window_id } => filled([GET_APPLICATION_ID, window_id.0]),
+        Message::SystemParameters { setting } => {
+            words_of_setting(SYSTEM_PARAMETERS, &setting, places[0])
+        }
+        Message::HandshakeEx {
+            build_number,
+            flags,
+        } => filled([HANDSHAKE_EX, build_number, flags]),
         Message::MoveSize { .. } | Message::MinMaxInfo { .. } => numbers_of_size(message),
         _ => numbers_with_strings(message, places),
     }
@@ -306,7 +331,7 @@ fn word(field: i16) -> u32 {
 }
 
 /// The numbers given, then zeros.
-fn filled<const N: usize>(numbers: [u32; N]) -> Words {
+pub(super) fn filled<const N: usize>(numbers: [u32; N]) -> Words {
     let mut words = [0; 12];
     words[..N].copy_from_slice(&numbers);
     words

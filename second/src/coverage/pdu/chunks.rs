@@ -1,6 +1,6 @@
 //! What generated scripts reach of chunks.
 
-use super::limits::{kind_name, KINDS};
+use super::limits::{kind_name, kind_of, KINDS};
 use crate::pdu::chunk::{flag, Head, LONGEST};
 use crate::script::chunk::{call, Call, Chunks, Outcome, MEASURE};
 use crate::script::Item;
@@ -107,7 +107,8 @@ impl Watch {
                     facts.push(format!("K {place} empty"));
                 }
                 if number == 0 {
-                    let name = kind_name(u16::from_le_bytes([message[0], message[1]]));
+                    let kind = u16::from_le_bytes([message[0], message[1]]);
+                    let name = kind_name(kind_of(kind, message));
                     facts.push(format!("K {} {pieces}", name.expect("a known kind")));
                 }
                 if message.len() == LONGEST {

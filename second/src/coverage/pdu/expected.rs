@@ -3,10 +3,11 @@
 use super::limits::{KINDS, LIMITS};
 
 /// The types of the documents that have no kind here.
-pub const ABSENT: [u16; 4] = [0x0003, 0x0007, 0x000D, 0x0013];
+pub const ABSENT: [u16; 2] = [0x0007, 0x000D];
 
 /// Kinds that can meet 8 on reading; on writing one more can.
-const RULED: [&str; 5] = [
+const RULED: [&str; 6] = [
+    "HighContrast",
     "Execute",
     "Activate",
     "SystemCommand",
@@ -15,7 +16,16 @@ const RULED: [&str; 5] = [
 ];
 
 /// Facts of their own.
-const SINGLE: [&str; 6] = [
+const SINGLE: [&str; 15] = [
+    "R HighContrast outer+0 0",
+    "R HighContrast outer-1 7",
+    "R HighContrast outer+1 7",
+    "R HighContrast outer-2 7",
+    "R HighContrast outer+65536 7",
+    "R HighContrast outer=FFFFFFFF 7",
+    "R HighContrast outer=0 7",
+    "R HighContrast outer other, too long 7",
+    "R setting wider than 16 bits 8",
     "R other 3",
     "R other 4",
     "R Execute fields+65536 7",
@@ -32,6 +42,10 @@ pub fn facts() -> Vec<String> {
     }
     for number in [3, 4, 7] {
         facts.push(format!("R size=4 {number}"));
+    }
+    for size in 4..=12 {
+        let number = if size < 8 { 7 } else { 8 };
+        facts.push(format!("R unknown setting size={size} {number}"));
     }
     facts.extend(ABSENT.iter().map(|kind| format!("R {kind:04X} 4")));
     facts.extend(SINGLE.map(String::from));

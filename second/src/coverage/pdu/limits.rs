@@ -1,10 +1,12 @@
 //! The limited fields, where they stand, and the numbers to be met in them.
 
 use crate::pdu::rules;
+use crate::pdu::setting::{form, Form};
+use Kind::{Setting, Type};
 
 /// A field with a limit, or one whose numbers are worth meeting.
 pub struct Limit {
-    pub kind: u16,
+    pub kind: Kind,
     pub name: &'static str,
     /// Offset and width in a message, if it is carried there.
     read: Option<(usize, usize)>,
@@ -27,9 +29,17 @@ const FLAGS: [u32; 36] = [
 ];
 
 /// All limited fields. In messages and items alike a header of 4 comes first.
-pub const LIMITS: [Limit; 12] = [
+pub const LIMITS: [Limit; 13] = [
     Limit {
-        kind: 0x0001,
+        kind: HIGH_CONTRAST,
+        name: "length",
+        read: Some((16, 2)),
+        write: Some((12, 2)),
+        allows: |value| rules::color_scheme_length(value as usize),
+        values: &[0, 1, 2, 519, 520, 521, 522],
+    },
+    Limit {
+        kind: Type(0x0001),
         name: "flags",
         read: Some((4, 2)),
         write: Some((4, 2)),
@@ -37,7 +47,7 @@ pub const LIMITS: [Limit; 12] = [
         values: &FLAGS,
     },
     Limit {
-        kind: 0x0001,
+        kind: Type(0x0001),
         name: "program",
         read: Some((6, 2)),
         write: Some((6, 2)),
@@ -45,7 +55,7 @@ pub const LIMITS: [Limit; 12] = [
         values: &[0, 1, 2, 519, 520, 521, 522],
     },
     Limit {
-        kind: 0x0001,
+        kind: Type(0x0001),
         name: "directory",
         read: Some((8, 2)),
         write: Some((8, 2)),
@@ -53,7 +63,7 @@ pub const LIMITS: [Limit; 12] = [
         values: &[0, 1, 2, 519, 520, 521, 522],
     },
     Limit {
-        kind: 0x0001,
+        kind: Type(0x0001),
         name: "arguments",
         read: Some((10, 2)),
         write: Some((10, 2)),
@@ -61,7 +71,7 @@ pub const LIMITS: [Limit; 12] = [
         values: &[0, 1, 2, 15_998, 15_999, 16_000, 16_001, 16_002],
     },
     Limit {
-        kind: 0x0002,
+        kind: Type(0x0002),
         name: "enabled",
         read: Some((8, 1)),
         write: Some((8, 1)),
@@ -69,7 +79,7 @@ pub const LIMITS: [Limit; 12] = [
         values: &[0, 1, 2, 255],
     },
     Limit {
-        kind: 0x0004,
+        kind: Type(0x0004),
         name: "command",
         read: Some((8, 2)),
         write: Some((8, 2)),
@@ -77,7 +87,7 @@ pub const LIMITS: [Limit; 12] = [
         values: &COMMANDS,
     },
     Limit {
-        kind: 0x0009,
+        kind: Type(0x0009),
         name: "start",
         read: Some((8, 2)),
         write: None,
@@ -85,7 +95,7 @@ pub const LIMITS: [Limit; 12] = [
         values: &[0, 1, 2, 0x100, 0xFFFF],
     },
     Limit {
-        kind: 0x0009,
+        kind: Type(0x0009),
         name: "move_type",
         read: Some((10, 2)),
         write: Some((9, 2)),
@@ -93,7 +103,7 @@ pub const LIMITS: [Limit; 12] = [
         values: &[0, 1, 2, 3, 4, 5, 6, 7, 8, 9, 10, 11, 12, 0xFFFF],
     },
     Limit {
-        kind: 0x000F,
+        kind: Type(0x000F),
         name: "length",
         read: None,
         write: Some((8, 2)),
@@ -101,7 +111,7 @@ pub const LIMITS: [Limit; 12] = [
         values: &[0, 1, 2, 519, 520, 521, 522],
     },
     Limit {
-        kind: 0x0080,
+        kind: Type(0x0080),
         name: "result",
         read: Some((6, 2)),
         write: Some((6, 2)),
@@ -109,7 +119,7 @@ pub const LIMITS: [Limit; 12] = [
         values: &[0, 1, 2, 3, 4, 5, 6, 7, 8, 0xFFFF],
     },
     Limit {
-        kind: 0x0080,
+        kind: Type(0x0080),
         name: "padding",
         read: Some((12, 2)),
         write: None,
@@ -117,7 +127,7 @@ pub const LIMITS: [Limit; 12] = [
         values: &[0, 1, 0x100, 0xFFFF],
     },
     Limit {
-        kind: 0x0080,
+        kind: Type(0x0080),
         name: "length",
         read: Some((14, 2)),
         write: Some((12, 2)),
@@ -149,25 +159,55 @@ impl Limit {
     }
 }
 
-/// The kinds by type.
-pub const KINDS: [(u16, &str); 13] = [
-    (0x0001, "Execute"),
-    (0x0002, "Activate"),
-    (0x0004, "SystemCommand"),
-    (0x0005, "Handshake"),
-    (0x0006, "NotifyEvent"),
-    (0x0008, "WindowMove"),
-    (0x0009, "MoveSize"),
-    (0x000A, "MinMaxInfo"),
-    (0x000B, "ClientInformation"),
-    (0x000C, "SystemMenu"),
-    (0x000E, "GetApplicationId"),
-    (0x000F, "ApplicationIdResponse"),
-    (0x0080, "ExecuteResult"),
+/// A type, and with system parameters the setting.
+#[derive(Clone, Copy, PartialEq, Eq)]
+pub enum Kind {
+    Type(u16),
+    Setting(u32),
+}
+
+/// The setting with a string.
+pub const HIGH_CONTRAST: Kind = Setting(0x43);
+
+/// The kinds and their names.
+pub const KINDS: [(Kind, &str); 24] = [
+    (Type(0x0001), "Execute"),
+    (Type(0x0002), "Activate"),
+    (Type(0x0004), "SystemCommand"),
+    (Type(0x0005), "Handshake"),
+    (Type(0x0006), "NotifyEvent"),
+    (Type(0x0008), "WindowMove"),
+    (Type(0x0009), "MoveSize"),
+    (Type(0x000A), "MinMaxInfo"),
+    (Type(0x000B), "ClientInformation"),
+    (Type(0x000C), "SystemMenu"),
+    (Type(0x000E), "GetApplicationId"),
+    (Type(0x000F), "ApplicationIdResponse"),
+    (Type(0x0080), "ExecuteResult"),
+    (Type(0x0013), "HandshakeEx"),
+    (Setting(0x11), "ScreenSaveActive"),
+    (Setting(0x77), "ScreenSaveSecure"),
+    (Setting(0x21), "MouseButtonSwap"),
+    (Setting(0x25), "DragFullWindows"),
+    (Setting(0x45), "KeyboardPref"),
+    (Setting(0x100B), "KeyboardCues"),
+    (Setting(0x2F), "WorkArea"),
+    (Setting(0xF000), "TaskbarPos"),
+    (Setting(0xF001), "DisplayChange"),
+    (HIGH_CONTRAST, "HighContrast"),
 ];
 
-/// The kind's name, if the type is a known one.
-pub fn kind_name(kind: u16) -> Option<&'static str> {
+/// The kind of a message, or of a `P` item's payload, by its type and the bytes
+/// after the first four.
+pub fn kind_of(kind: u16, bytes: &[u8]) -> Kind {
+    match (kind, bytes.get(4..8)) {
+        (0x0003, Some(setting)) => Kind::Setting(number(setting)),
+        _ => Kind::Type(kind),
+    }
+}
+
+/// The kind's name, if it is a known one.
+pub fn kind_name(kind: Kind) -> Option<&'static str> {
     KINDS
         .iter()
         .find(|(known, _)| *known == kind)
@@ -187,10 +227,15 @@ pub fn size_by_fields(message: &[u8]) -> Option<i64> {
         0x0002 => 9,
         0x0004 => 10,
         0x0005 | 0x000B | 0x000E => 8,
-        0x000C => 12,
+        0x000C | 0x0013 => 12,
         0x000A => 24,
         0x000F => 528,
         0x0080 => 16 + length(14)?,
+        0x0003 => match form(number(message.get(4..8)?))? {
+            Form::Value => 9,
+            Form::Area => 16,
+            Form::Contrast => 18 + length(16)?,
+        },
         _ => 16,
     })
 }

@@ -8,7 +8,7 @@ use super::Facts;
 use crate::generate;
 use crate::script::pdu::{answer, Answer, MEMORY_LIMIT};
 use crate::script::{take_item, Item};
-use limits::{kind_name, size_by_fields, LIMITS};
+use limits::{kind_name, kind_of, size_by_fields, Kind, HIGH_CONTRAST, LIMITS};
 
 /// The size of the longest message that the rules allow.
 const LARGEST: usize = 17_052;
@@ -66,7 +66,15 @@ impl Coverage {
         }
         let kind = u16::from_le_bytes([message[0], message[1]]);
         let declared = i64::from(u16::from_le_bytes([message[2], message[3]]));
-        let Some(name) = kind_name(kind) else {
+        let place = kind_of(kind, message);
+        let Some(name) = kind_name(place) else {
+            if kind == 0x0003 && number > 4 {
+                self.add(format!("R unknown setting size={} {number}", message.len()));
+            }
+            if matches!(place, Kind::Setting(setting) if kind_name(Kind::Setting(setting & 0xFFFF)).is_some())
+            {
+                self.add(format!("R setting wider than 16 bits {number}"));
+            }
             if expected::ABSENT.contains(&kind) {
                 self.add(format!("R {kind:04X} {number}"));
             }
@@ -76,13 +84,16 @@ impl Coverage {
         if message.len() >= LARGEST {
             self.add(format!("R {name} size={} {number}", message.len()));
         }
+        if place == HIGH_CONTRAST && number != 3 {
+            self.add_outer(message, number);
+        }
         match number {
             3 => self.add_offset("R", name, "declared", declared - message.len() as i64, 3),
             7 => match size_by_fields(message) {
                 Some(size) => self.add_offset("R", name, "fields", size - declared, 7),
                 None => self.add(format!("R {name} head cut 7")),
             },
-            _ => self.add_limits('R', kind, message, number),
+            _ => self.add_limits('R', place, message, number),
         }
     }
 
@@ -90,6 +101,7 @@ impl Coverage {
         let payload = item.payload;
         let size = usize::from(u16::from_le_bytes([payload[0], payload[1]]));
         let kind = u16::from_le_bytes([payload[2], payload[3]]);
+        let kind = kind_of(kind, payload);
         let name = kind_name(kind).expect("an item with a listed type");
         let number = result.err().unwrap_or(0);
         self.add(format!("P {name} {number}"));
@@ -106,7 +118,7 @@ impl Coverage {
     }
 
     /// Facts about each limited field, if all other fields are allowed.
-    fn add_limits(&mut self, call: char, kind: u16, bytes: &[u8], number: u8) {
+    fn add_limits(&mut self, call: char, kind: Kind, bytes: &[u8], number: u8) {
         let fields: Vec<_> = LIMITS
             .iter()
             .filter(|limit| limit.kind == kind)
@@ -119,6 +131,30 @@ impl Coverage {
             if others_allowed {
                 self.add(limit.fact(call, *value, number));
             }
+        }
+    }
+
+    /// Facts about the outer length of high contrast whose string fills the message.
+    fn add_outer(&mut self, message: &[u8], number: u8) {
+        let (Some(&[a, b, c, d, low, high]), Some(size)) =
+            (message.get(12..18), size_by_fields(message))
+        else {
+            return;
+        };
+        if size != message.len() as i64 {
+            return;
+        }
+        let outer = i64::from(u32::from_le_bytes([a, b, c, d]));
+        let length = i64::from(u16::from_le_bytes([low, high]));
+        let offset = outer - length - 2;
+        if offset.abs() <= 2 || offset == 0x1_0000 {
+            self.add(format!("R HighContrast outer{offset:+} {number}"));
+        }
+        if outer == 0 || outer == 0xFFFF_FFFF {
+            self.add(format!("R HighContrast outer={outer:X} {number}"));
+        }
+        if offset != 0 && length > 520 {
+            self.add(format!("R HighContrast outer other, too long {number}"));
         }
     }
 

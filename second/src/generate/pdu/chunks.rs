@@ -97,7 +97,9 @@ fn message(random: &mut Random) -> Vec<u8> {
         150..=164 => super::unfilled(random),
         165..=174 => super::other_type(random),
         175..=184 => super::short(random),
-        185..=192 => super::damaged(random),
+        185..=188 => super::damaged(random),
+        189..=190 => super::unknown_setting(random),
+        191..=192 => super::other_outer(random),
         _ => super::noise(random),
     };
     if message.is_empty() {

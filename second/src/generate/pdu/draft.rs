@@ -7,6 +7,11 @@ use crate::generate::random::Random;
 enum Slot {
     Any4,
     Any2,
+    Any1,
+    // The number of a setting.
+    Setting(u32),
+    // The length of what follows in high contrast: that of the string and 2.
+    Outer,
     Flags,
     Enabled,
     Command,
@@ -20,12 +25,13 @@ enum Slot {
     Arguments,
     Echo,
     Id,
+    Scheme,
 }
 
 use Slot::*;
 
 /// Each type with its fields.
-const KINDS: [(u16, &[Slot]); 13] = [
+const KINDS: [(u16, &[Slot]); 24] = [
     (0x0001, &[Flags, Program, Directory, Arguments]),
     (0x0002, &[Any4, Enabled]),
     (0x0004, &[Any4, Command]),
@@ -42,6 +48,27 @@ const KINDS: [(u16, &[Slot]); 13] = [
     (0x000E, &[Any4]),
     (APPLICATION_ID, &[Any4, Id]),
     (0x0080, &[Any2, ExecResult, Any4, Padding, Echo]),
+    (0x0013, &[Any4, Any4]),
+    (0x0003, &[Setting(0x11), Any1]),
+    (0x0003, &[Setting(0x21), Any1]),
+    (0x0003, &[Setting(0x25), Any1]),
+    (0x0003, &[Setting(0x45), Any1]),
+    (0x0003, &[Setting(0x77), Any1]),
+    (0x0003, &[Setting(0x100B), Any1]),
+    (0x0003, &[Setting(0x2F), Any2, Any2, Any2, Any2]),
+    (0x0003, &[Setting(0xF000), Any2, Any2, Any2, Any2]),
+    (0x0003, &[Setting(0xF001), Any2, Any2, Any2, Any2]),
+    (0x0003, CONTRAST),
+];
+
+const CONTRAST: &[Slot] = &[Setting(0x43), Any4, Outer, Scheme];
+
+/// Numbers that are no setting: beside one, one with a bit more, far from all.
+#[rustfmt::skip]
+const NO_SETTINGS: [u32; 20] = [
+    0x0000_0000, 0x0000_0010, 0x0000_0012, 0x0000_0020, 0x0000_0024, 0x0000_0026, 0x0000_0030,
+    0x0000_0042, 0x0000_0044, 0x0000_0099, 0x0000_100A, 0x0000_0B10, 0x0000_F002, 0x0001_0025,
+    0x0001_0043, 0x0001_F000, 0x8000_0077, 0x1100_0000, 0x2F00_0000, 0xFFFF_FFFF,
 ];
 
 const APPLICATION_ID: u16 = 0x000F;
@@ -51,8 +78,9 @@ impl Slot {
     /// Bytes in a message and in a `P` item.
     fn widths(self) -> (usize, usize) {
         match self {
-            Any4 => (4, 4),
-            Enabled => (1, 1),
+            Any4 | Setting(_) => (4, 4),
+            Outer => (4, 0),
+            Enabled | Any1 => (1, 1),
             Start => (2, 1),
             Padding => (2, 0),
             Id => (0, 2),
@@ -61,7 +89,7 @@ impl Slot {
     }
 
     fn is_length(self) -> bool {
-        matches!(self, Program | Directory | Arguments | Echo | Id)
+        matches!(self, Program | Directory | Arguments | Echo | Id | Scheme)
     }
 
     /// A number that the rules allow.
@@ -69,6 +97,10 @@ impl Slot {
         match self {
             Any4 => random.number(0xFFFF_FFFF),
             Any2 => random.number(0xFFFF),
+            Any1 => random.number(0xFF),
+            Setting(number) => number,
+            // Set when its string is known.
+            Outer => 0,
             Flags => random.pick(&[0, 1, 4, 5, 6, 7, 8, 9, 12, 14, 15, 16, 20, 24, 30, 31]),
             Enabled => random.pick(&[0, 1]),
             Command => random.pick(&[
@@ -83,14 +115,15 @@ impl Slot {
             Arguments if random.chance(2) => 2 * random.below(1000) as u32,
             Arguments => 2 * random.below(30) as u32,
             Echo => 1 + random.below(40) as u32,
-            Id => random.below(60) as u32,
+            Id | Scheme => random.below(60) as u32,
         }
     }
 
     /// The numbers at the limits of the field and beside them.
     fn edges(self) -> &'static [u32] {
         match self {
-            Any4 | Any2 => &[],
+            Any4 | Any2 | Setting(_) | Outer => &[],
+            Any1 => &[0, 0xFF],
             Flags => &FLAG_EDGES,
             Enabled => &[0, 1, 2, 3, 0x80, 0xFF],
             Command => &COMMAND_EDGES,
@@ -101,6 +134,7 @@ impl Slot {
             Program => &[0, 1, 2, 3, 518, 519, 520, 521, 522],
             Directory => &[0, 1, 2, 3, 518, 519, 520, 521, 522],
             Arguments => &[0, 1, 2, 3, 520, 522, 15_998, 15_999, 16_000, 16_001, 16_002],
+            Scheme => &[0, 1, 2, 518, 519, 520, 521, 522, 600],
             Echo => &[0, 1, 2, 3, 518, 519, 520, 521, 522],
             Id => &[0, 1, 2, 511, 512, 513, 518, 519, 520, 521, 522, 600],
         }
@@ -159,7 +193,7 @@ impl Draft {
         loop {
             let (kind, slots, slot, edge) = random.pick(&all);
             // Big strings are kept rare.
-            if edge < 2_000 || !slot.is_length() || random.chance(22) {
+            if edge < 2_000 || !slot.is_length() || random.chance(26) {
                 return Self::new(kind, slots, &[(slot, edge)], random);
             }
         }
@@ -193,7 +227,24 @@ impl Draft {
                 draft.strings.push(random.bytes(value as usize));
             }
         }
+        draft.agree();
         draft
+    }
+
+    /// High contrast with a string of this length.
+    pub fn contrast(length: u32, random: &mut Random) -> Self {
+        Self::new(0x0003, CONTRAST, &[(Scheme, length)], random)
+    }
+
+    /// Makes the outer length of high contrast that of its string and 2.
+    fn agree(&mut self) {
+        let scheme = self.fields.iter().find(|(slot, _)| *slot == Scheme);
+        let Some(&(_, length)) = scheme else { return };
+        for (slot, value) in &mut self.fields {
+            if *slot == Outer {
+                *value = length + 2;
+            }
+        }
     }
 
     /// Changes a length without its string; says whether the message has one.
@@ -249,6 +300,11 @@ impl Draft {
             bytes.extend_from_slice(string);
         }
     }
+}
+
+/// A number that is no setting.
+pub fn no_setting(random: &mut Random) -> u32 {
+    random.pick(&NO_SETTINGS)
 }
 
 /// Sets the length in a message's header to that of its bytes.

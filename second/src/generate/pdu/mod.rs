@@ -6,14 +6,14 @@ mod draft;
 use super::random::Random;
 use crate::script::push_item;
 use chunks::Planner;
-use draft::{declare_length, Draft};
+use draft::{declare_length, no_setting, Draft};
 
 /// The most output memory that an item may ask for.
 const MOST_MEMORY: u16 = 17_408;
 
-/// Types that have no kind here, the four absent ones first.
+/// Types that have no kind here, the two absent ones first.
 const OTHER_TYPES: [u16; 14] = [
-    0x0003, 0x0007, 0x000D, 0x0013, 0x0000, 0x0010, 0x0011, 0x0012, 0x007F, 0x0081, 0x0100, 0x0500,
+    0x0007, 0x000D, 0x0000, 0x0010, 0x0011, 0x0012, 0x0014, 0x007F, 0x0081, 0x0100, 0x0300, 0x0500,
     0x8000, 0xFFFF,
 ];
 
@@ -54,7 +54,9 @@ fn read_payload(random: &mut Random) -> Vec<u8> {
         536..=655 => unfilled(random),
         656..=703 => other_type(random),
         704..=735 => short(random),
-        736..=775 => damaged(random),
+        736..=755 => damaged(random),
+        756..=769 => unknown_setting(random),
+        770..=785 => other_outer(random),
         _ => noise(random),
     }
 }
@@ -119,6 +121,40 @@ fn other_type(random: &mut Random) -> Vec<u8> {
         random.bits() as u16
     };
     message[..2].copy_from_slice(&kind.to_le_bytes());
+    message
+}
+
+/// System parameters of 4 to 12 bytes or more with a number that is no setting,
+/// or cut inside the number of one.
+fn unknown_setting(random: &mut Random) -> Vec<u8> {
+    let mut message = Draft::contrast(20, random).message();
+    if random.chance(80) {
+        message[4..8].copy_from_slice(&no_setting(random).to_le_bytes());
+    }
+    let length = if random.chance(80) {
+        4 + random.below(9)
+    } else {
+        message.len()
+    };
+    message.truncate(length);
+    declare_length(&mut message);
+    message
+}
+
+/// High contrast whose outer length is not that of its string and 2.
+fn other_outer(random: &mut Random) -> Vec<u8> {
+    let length = random.pick(&[0, 1, 2, 40, 519, 520, 521]);
+    let mut message = Draft::contrast(length, random).message();
+    let outer = match random.below(8) {
+        0 => u32::MAX,
+        1 => 0,
+        2 => length,
+        3 => length + 1,
+        4 | 5 => length + 3,
+        6 => length + 2 + 0x1_0000,
+        _ => random.bits() as u32,
+    };
+    message[12..16].copy_from_slice(&outer.to_le_bytes());
     message
 }
 
@@ -193,7 +229,7 @@ fn write_payload(random: &mut Random) -> Vec<u8> {
 fn push_bad_end(script: &mut Vec<u8>, sort: u64, random: &mut Random) {
     let draft = Draft::usual(random);
     let good = draft.payload(MOST_MEMORY);
-    match sort % 10 {
+    match sort % 11 {
         0 => {
             let header = [b'R', 8, 0];
             script.extend_from_slice(&header[..1 + random.below(2)]);
@@ -218,6 +254,12 @@ fn push_bad_end(script: &mut Vec<u8>, sort: u64, random: &mut Random) {
             push_item(script, b'P', &payload);
         }
         5 => push_item(script, b'E', &[0]),
+        9 => {
+            let mut payload = Draft::contrast(0, random).payload(MOST_MEMORY);
+            payload[4..8].copy_from_slice(&no_setting(random).to_le_bytes());
+            payload.truncate(random.pick(&[8, 9, 14]));
+            push_item(script, b'P', &payload);
+        }
         6 => push_item(script, b'T', &[0, 0]),
         7 => {
             let length = random.pick(&[0, 1, 3]);
