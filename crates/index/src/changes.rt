@@ -2,6 +2,8 @@
 ghost use mathlib.Core.Path.{_≡_};
 ghost use Prim.Native.Nat.{_<_, _≤_};
 ghost use lib.ListN.{length};
+ghost use Rattle.places.specs.Sizes.{slotCount};
+ghost use Rattle.index.specs.Families.{indexLength};
 ghost use Rattle.index.specs.Changes.{listedOf, removedOf, picturedOf, changedOf, clearedOf, emptiedOf, appliedOf, Fits, FitsPlan};
 use crate::Change;
 use crate::Plan;
@@ -12,7 +14,7 @@ const SLOTS: usize = 432;
 
 // Lists the ids a and b in slot i.
 fn list(index: &mut [u8], i: usize, a: u32, b: u32)
-    requires { ⌜ (589 ≤ length (now index)) × (i < 48) ⌝ }
+    requires { ⌜ (indexLength ≤ length (now index)) × (i < slotCount) ⌝ }
     ensures { λ _. ⌜ now (index .exit) ≡ listedOf (now (index .entry)) i a b ⌝ }
 {
     let at = places::LENGTH + slots::SLOT * i;
@@ -23,7 +25,7 @@ fn list(index: &mut [u8], i: usize, a: u32, b: u32)
 
 // The record in slot i is deleted: its icons let go, its slot is free.
 fn remove(index: &mut [u8], i: usize)
-    requires { ⌜ (589 ≤ length (now index)) × (i < 48) ⌝ }
+    requires { ⌜ (indexLength ≤ length (now index)) × (i < slotCount) ⌝ }
     ensures { λ _. ⌜ now (index .exit) ≡ removedOf (now (index .entry)) i ⌝ }
 {
     let icon = places::CELLS + places::ICONS_EACH * i;
@@ -35,7 +37,7 @@ fn remove(index: &mut [u8], i: usize)
 
 // An icon's holders at its place, a cached icon's pointer at its cell's.
 fn picture(index: &mut [u8], c: Change)
-    requires { ⌜ (589 ≤ length (now index)) × Fits c ⌝ }
+    requires { ⌜ (indexLength ≤ length (now index)) × Fits c ⌝ }
     ensures { λ _. ⌜ now (index .exit) ≡ picturedOf (now (index .entry)) c ⌝ }
 {
     let flags = c.flags;
@@ -50,7 +52,7 @@ fn picture(index: &mut [u8], c: Change)
 
 // The change of a record.
 fn change(index: &mut [u8], c: Change)
-    requires { ⌜ (589 ≤ length (now index)) × Fits c ⌝ }
+    requires { ⌜ (indexLength ≤ length (now index)) × Fits c ⌝ }
     ensures { λ _. ⌜ now (index .exit) ≡ changedOf (now (index .entry)) c ⌝ }
 {
     if c.deleted {
@@ -67,7 +69,7 @@ fn change(index: &mut [u8], c: Change)
 
 // Desktop none: no record is listed, and no record's icon points at a place.
 fn clear(index: &mut [u8])
-    requires { ⌜ 589 ≤ length (now index) ⌝ }
+    requires { ⌜ indexLength ≤ length (now index) ⌝ }
     ensures { λ _. ⌜ now (index .exit) ≡ clearedOf (now (index .entry)) ⌝ }
 {
     places::release_records(index);
@@ -76,7 +78,7 @@ fn clear(index: &mut [u8])
 
 // Carries out a plan.
 pub fn apply(index: &mut [u8], p: Plan)
-    requires { ⌜ (589 ≤ length (now index)) × FitsPlan p ⌝ }
+    requires { ⌜ (indexLength ≤ length (now index)) × FitsPlan p ⌝ }
     ensures { λ _. ⌜ now (index .exit) ≡ appliedOf (now (index .entry)) p ⌝ }
 {
     match p {
@@ -92,7 +94,7 @@ pub fn apply(index: &mut [u8], p: Plan)
 
 // The index of an emptied table, with a number of places.
 pub fn empty(index: &mut [u8], places: u8)
-    requires { ⌜ 589 ≤ length (now index) ⌝ }
+    requires { ⌜ indexLength ≤ length (now index) ⌝ }
     ensures { λ _. ⌜ now (index .exit) ≡ emptiedOf (now (index .entry)) places ⌝ }
 {
     wire::clear(index, 0, crate::LENGTH);

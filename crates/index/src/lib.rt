@@ -5,6 +5,8 @@ ghost use mathlib.Core.Path.{_≡_};
 ghost use mathlib.Core.Bool.{true};
 ghost use Prim.Native.Nat.{_<_, _≤_};
 ghost use lib.ListN.{length};
+ghost use Rattle.places.specs.Sizes.{cellCount, slotCount};
+ghost use Rattle.index.specs.Families.{indexLength};
 ghost use Rattle.index.specs.Orders.{isNew, bringsIcon, cellAt, whichOf};
 ghost use Rattle.index.specs.Plans.{lacksPicture, slotFor, changeOf, planAt, planRecord, planOf, planNumber};
 ghost use Rattle.index.specs.Changes.{appliedOf};
@@ -90,7 +92,7 @@ fn which(flags: u32) -> usize
 
 // 11: an icon that names no cell, or a cached icon whose cell points at nothing.
 fn lacks_picture(index: &[u8], flags: u32, cell: usize) -> bool
-    requires { ⌜ 589 ≤ length (now index) ⌝ }
+    requires { ⌜ indexLength ≤ length (now index) ⌝ }
     ensures { λ r. ⌜ r ≡ lacksPicture (now (index .entry)) flags cell ⌝ }
 {
     if flags & protocol::ICON != 0 {
@@ -117,7 +119,7 @@ fn is_new(family: Family, flags: u32) -> bool
 
 // 9, 10, or the slot of the record that an order changes.
 fn slot_for(index: &[u8], o: RecordOrder) -> Place
-    requires { ⌜ 589 ≤ length (now index) ⌝ }
+    requires { ⌜ indexLength ≤ length (now index) ⌝ }
     ensures { λ r. ⌜ r ≡ slotFor (now (index .entry)) o ⌝ }
 {
     let family = o.family;
@@ -146,7 +148,7 @@ fn slot_for(index: &[u8], o: RecordOrder) -> Place
 
 // The change of a record in slot i, its icon at a place.
 fn change_at(s: &[u8], o: RecordOrder, i: usize, place: usize) -> Change
-    requires { ⌜ i < 48 ⌝ }
+    requires { ⌜ i < slotCount ⌝ }
     ensures { λ r. ⌜ r ≡ changeOf (now (s .entry)) o i place ⌝ }
 {
     let family = o.family;
@@ -175,8 +177,8 @@ fn change_at(s: &[u8], o: RecordOrder, i: usize, place: usize) -> Change
 
 // 17, or the change of a record in slot i.
 fn plan_at(index: &[u8], s: &[u8], o: RecordOrder, i: usize) -> Plan
-    requires { ⌜ (soundIndex (now index) ≡ true) × (i < 48) ⌝ }
-    requires { ⌜ (bringsIcon (o .flags) ≡ true → cellAt (now s) (o .icon) < 12) ⌝ }
+    requires { ⌜ (soundIndex (now index) ≡ true) × (i < slotCount) ⌝ }
+    requires { ⌜ (bringsIcon (o .flags) ≡ true → cellAt (now s) (o .icon) < cellCount) ⌝ }
     ensures { λ r. ⌜ r ≡ planAt (now (index .entry)) (now (s .entry)) o i ⌝ }
 {
     let flags = o.flags;

@@ -2,6 +2,8 @@
 ghost use mathlib.Core.Path.{_≡_};
 ghost use Prim.Native.Nat.{_+_, _≤_};
 ghost use lib.ListN.{length};
+ghost use Rattle.places.specs.Sizes.{slotCount};
+ghost use Rattle.index.specs.Families.{indexLength};
 ghost use Rattle.places.specs.Counts.{firstFrom};
 ghost use Rattle.index.specs.Slots.{isFree, isAt, slotHas, freeOf, searchFrom, searchOf};
 use crate::Searched;
@@ -31,7 +33,7 @@ fn has_ids(slot: &[u8], a: u32, b: u32) -> bool
 
 // The first of count slots that has the record of the ids a and b, and how many slots were looked at.
 pub fn search(index: &[u8], first: usize, count: usize, a: u32, b: u32) -> Searched
-    requires { ⌜ (first + count ≤ 48) × (589 ≤ length (now index)) ⌝ }
+    requires { ⌜ (first + count ≤ slotCount) × (indexLength ≤ length (now index)) ⌝ }
     ensures { λ r. ⌜ r ≡ searchFrom count first (isAt (now (index .entry)) a b) ⌝ }
 {
     let end = first + count;
@@ -55,7 +57,7 @@ pub fn search(index: &[u8], first: usize, count: usize, a: u32, b: u32) -> Searc
 
 // The first of count slots that has no record.
 fn unused(index: &[u8], first: usize, count: usize) -> Found
-    requires { ⌜ (first + count ≤ 48) × (589 ≤ length (now index)) ⌝ }
+    requires { ⌜ (first + count ≤ slotCount) × (indexLength ≤ length (now index)) ⌝ }
     ensures { λ r. ⌜ r ≡ firstFrom count first (isFree (now (index .entry))) ⌝ }
 {
     let end = first + count;
@@ -71,7 +73,7 @@ fn unused(index: &[u8], first: usize, count: usize) -> Found
 
 // The slot of a record, and how many slots the search looked at.
 pub fn find(index: &[u8], family: Family, window: WindowId, notify: NotifyIconId) -> Searched
-    requires { ⌜ 589 ≤ length (now index) ⌝ }
+    requires { ⌜ indexLength ≤ length (now index) ⌝ }
     ensures { λ r. ⌜ r ≡ searchOf (now (index .entry)) family (window .id) (notify .id) ⌝ }
 {
     match family {
@@ -82,7 +84,7 @@ pub fn find(index: &[u8], family: Family, window: WindowId, notify: NotifyIconId
 
 // The first slot of a family that has no record.
 pub fn free(index: &[u8], family: Family) -> Found
-    requires { ⌜ 589 ≤ length (now index) ⌝ }
+    requires { ⌜ indexLength ≤ length (now index) ⌝ }
     ensures { λ r. ⌜ r ≡ freeOf (now (index .entry)) family ⌝ }
 {
     match family {

@@ -4,6 +4,8 @@ ghost use mathlib.Core.Path.{_≡_};
 ghost use mathlib.Core.Bool.{true};
 ghost use Prim.Native.Nat.{_+_, _≤_, _<_};
 ghost use lib.ListN.{length};
+ghost use Rattle.places.specs.Sizes.{slotCount};
+ghost use Rattle.index.specs.Families.{indexLength};
 ghost use Rattle.index.specs.Sound.{noPointers, slotOk, eachFrom, soundIndex, markOf, Seen};
 use crate::slots;
 use places::Found;
@@ -18,7 +20,7 @@ fn mark(a: u32, b: u32) -> usize
 
 // The icons of slot i point at nothing.
 fn no_pointers(index: &[u8], i: usize) -> bool
-    requires { ⌜ (589 ≤ length (now index)) × (i < 48) ⌝ }
+    requires { ⌜ (indexLength ≤ length (now index)) × (i < slotCount) ⌝ }
     ensures { λ r. ⌜ r ≡ noPointers (now (index .entry)) i ⌝ }
 {
     let at = places::CELLS + places::ICONS_EACH * i + 1;
@@ -35,7 +37,7 @@ fn slot_ok(
     top: u32,
     i: usize,
 ) -> bool
-    requires { ⌜ (first + count ≤ 48) × (first ≤ i) × (i < first + count) × (589 ≤ length (now index)) ⌝ }
+    requires { ⌜ (first + count ≤ slotCount) × (first ≤ i) × (i < first + count) × (indexLength ≤ length (now index)) ⌝ }
     requires { ⌜ Seen (now seen) (now index) first i ⌝ }
     ensures { λ r. ⌜ r ≡ slotOk (now (index .entry)) first count top i ⌝ }
     ensures { λ r. ⌜ (r ≡ true → Seen (now (seen .exit)) (now (index .entry)) first (i + 1)) ⌝ }
@@ -70,7 +72,7 @@ fn slot_ok(
 
 // Each of the slots of a family is.
 fn slots_ok(index: &[u8], first: usize, count: usize, top: u32) -> bool
-    requires { ⌜ (first + count ≤ 48) × (589 ≤ length (now index)) ⌝ }
+    requires { ⌜ (first + count ≤ slotCount) × (indexLength ≤ length (now index)) ⌝ }
     ensures { λ r. ⌜ r ≡ eachFrom count first (slotOk (now (index .entry)) first count top) ⌝ }
 {
     let mut seen = [0u8; 256];

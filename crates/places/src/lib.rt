@@ -6,6 +6,7 @@ ghost use mathlib.Core.List.{_∷_, []};
 ghost use Prim.Native.Nat.{ℕ, _+_, _<_, _≤_};
 ghost use lib.Dec.{eqb, ltb};
 ghost use lib.ListN.{length, getD};
+ghost use Rattle.places.specs.Sizes.{holderCount, holdersLength, mostPlaces, pointerCount};
 ghost use Rattle.places.specs.Counts.{firstFrom};
 ghost use Rattle.places.specs.Sharing.{full};
 ghost use Rattle.wire.specs.Tests.{pick};
@@ -52,7 +53,7 @@ pub enum Found {
 
 // A mark for each pointer that stands among some, 0 where none has it.
 fn marks_of(pointers: &[u8]) -> [u8; POINTERS]
-    requires { ⌜ ((h : ℕ) → getD (now pointers) h 0 < 65) ⌝ }
+    requires { ⌜ ((h : ℕ) → getD (now pointers) h 0 < pointerCount) ⌝ }
     ensures { λ r. ⌜ Marked (λ h. getD (now (pointers .entry)) h 0) (length (now (pointers .entry))) r ⌝ }
 {
     let mut marks = [0u8; POINTERS];
@@ -67,7 +68,7 @@ fn marks_of(pointers: &[u8]) -> [u8; POINTERS]
 
 // The first of n places whose pointer has no mark.
 fn first_unmarked(marks: &[u8; POINTERS], n: u8) -> Found
-    requires { ⌜ n ≤ 64 ⌝ }
+    requires { ⌜ n ≤ mostPlaces ⌝ }
     ensures { λ r. ⌜ r ≡ firstFrom n 0 (λ p. eqb (getD (now (marks .entry)) (p + 1) 0) 0) ⌝ }
 {
     let end = n as usize;
@@ -89,8 +90,8 @@ fn larger(a: u8, b: u8) -> u8
 
 // The largest pointer.
 fn most(bytes: &[u8]) -> u8
-    requires { ⌜ 157 ≤ length (now bytes) ⌝ }
-    ensures { λ r. ⌜ Most (pointerAt (now (bytes .entry))) 156 r ⌝ }
+    requires { ⌜ holdersLength ≤ length (now bytes) ⌝ }
+    ensures { λ r. ⌜ Most (pointerAt (now (bytes .entry))) holderCount r ⌝ }
 {
     let mut m = 0;
     let mut h = 0;
@@ -103,7 +104,7 @@ fn most(bytes: &[u8]) -> u8
 
 // No two cells point at one place.
 fn cells_apart(bytes: &[u8]) -> bool
-    requires { ⌜ (157 ≤ length (now bytes)) × ((h : ℕ) → pointerAt (now bytes) h < 65) ⌝ }
+    requires { ⌜ (holdersLength ≤ length (now bytes)) × ((h : ℕ) → pointerAt (now bytes) h < pointerCount) ⌝ }
     ensures { λ r. ⌜ r ≡ cellsApart (pointerAt (now (bytes .entry))) ⌝ }
 {
     let mut marks = [0u8; POINTERS];
@@ -141,7 +142,7 @@ pub fn is_valid(bytes: &[u8]) -> bool
 
 // The first place that nobody but these two points at.
 pub fn free_place(bytes: &[u8], cell: usize, pointer: usize) -> Found
-    requires { ⌜ (valid (now bytes) ≡ true) × (cell < 156) × (pointer < 156) ⌝ }
+    requires { ⌜ (valid (now bytes) ≡ true) × (cell < holderCount) × (pointer < holderCount) ⌝ }
     ensures { λ r. ⌜ r ≡ freePlace (now (bytes .entry)) (cell ∷ pointer ∷ []) ⌝ }
 {
     let mut left = [0u8; HOLDERS];
@@ -154,7 +155,7 @@ pub fn free_place(bytes: &[u8], cell: usize, pointer: usize) -> Found
 
 // Refusal 17 of an icon: every place is still pointed at once its cell and its pointer have let go.
 pub fn is_full(bytes: &[u8], cell: usize, pointer: usize) -> bool
-    requires { ⌜ (valid (now bytes) ≡ true) × (cell < 156) × (pointer < 156) ⌝ }
+    requires { ⌜ (valid (now bytes) ≡ true) × (cell < holderCount) × (pointer < holderCount) ⌝ }
     ensures { λ r. ⌜ r ≡ full eqb (cell ∷ pointer ∷ []) (decode (now (bytes .entry))) ⌝ }
 {
     let f = free_place(bytes, cell, pointer);
@@ -166,7 +167,7 @@ pub fn is_full(bytes: &[u8], cell: usize, pointer: usize) -> bool
 
 // An icon's cell and its pointer take a place that is free once they let go.
 pub fn take_at(bytes: &mut [u8], cell: usize, pointer: usize, place: usize)
-    requires { ⌜ (157 ≤ length (now bytes)) × (cell < 156) × (pointer < 156) × (place < 64) ⌝ }
+    requires { ⌜ (holdersLength ≤ length (now bytes)) × (cell < holderCount) × (pointer < holderCount) × (place < mostPlaces) ⌝ }
     ensures { λ _. ⌜ now (bytes .exit) ≡ pointAll (now (bytes .entry)) (cell ∷ pointer ∷ []) (place + 1) ⌝ }
 {
     let to = (place + 1) as u8;
@@ -176,7 +177,7 @@ pub fn take_at(bytes: &mut [u8], cell: usize, pointer: usize, place: usize)
 
 // An icon: its cell and its pointer let go and take the first place that is then free; where there is none, nothing changes.
 pub fn take(bytes: &mut [u8], cell: usize, pointer: usize) -> Found
-    requires { ⌜ (valid (now bytes) ≡ true) × (cell < 156) × (pointer < 156) ⌝ }
+    requires { ⌜ (valid (now bytes) ≡ true) × (cell < holderCount) × (pointer < holderCount) ⌝ }
     ensures { λ r. ⌜ r ≡ freePlace (now (bytes .entry)) (cell ∷ pointer ∷ []) ⌝ }
     ensures { λ _. ⌜ now (bytes .exit) ≡ takeOf (now (bytes .entry)) (cell ∷ pointer ∷ []) ⌝ }
 {
@@ -192,7 +193,7 @@ pub fn take(bytes: &mut [u8], cell: usize, pointer: usize) -> Found
 
 // An icon with no cell.
 pub fn take_one(bytes: &mut [u8], pointer: usize) -> Found
-    requires { ⌜ (valid (now bytes) ≡ true) × (pointer < 156) ⌝ }
+    requires { ⌜ (valid (now bytes) ≡ true) × (pointer < holderCount) ⌝ }
     ensures { λ r. ⌜ r ≡ freePlace (now (bytes .entry)) (pointer ∷ []) ⌝ }
     ensures { λ _. ⌜ now (bytes .exit) ≡ takeOf (now (bytes .entry)) (pointer ∷ []) ⌝ }
 {
@@ -206,7 +207,7 @@ pub fn take_one(bytes: &mut [u8], pointer: usize) -> Found
 
 // A cached icon: its pointer shares its cell's place.
 pub fn share(bytes: &mut [u8], pointer: usize, cell: usize)
-    requires { ⌜ (157 ≤ length (now bytes)) × (cell < 156) × (pointer < 156) ⌝ }
+    requires { ⌜ (holdersLength ≤ length (now bytes)) × (cell < holderCount) × (pointer < holderCount) ⌝ }
     ensures { λ _. ⌜ now (bytes .exit) ≡ shareOf (now (bytes .entry)) pointer cell ⌝ }
 {
     bytes[pointer + 1] = bytes[cell + 1];
@@ -214,7 +215,7 @@ pub fn share(bytes: &mut [u8], pointer: usize, cell: usize)
 
 // A holder lets its place go.
 pub fn release(bytes: &mut [u8], holder: usize)
-    requires { ⌜ (157 ≤ length (now bytes)) × (holder < 156) ⌝ }
+    requires { ⌜ (holdersLength ≤ length (now bytes)) × (holder < holderCount) ⌝ }
     ensures { λ _. ⌜ now (bytes .exit) ≡ releaseOf (now (bytes .entry)) holder ⌝ }
 {
     bytes[holder + 1] = 0;
@@ -222,7 +223,7 @@ pub fn release(bytes: &mut [u8], holder: usize)
 
 // Every icon of a record lets its place go; the cells keep theirs.
 pub fn release_records(bytes: &mut [u8])
-    requires { ⌜ 157 ≤ length (now bytes) ⌝ }
+    requires { ⌜ holdersLength ≤ length (now bytes) ⌝ }
     ensures { λ _. ⌜ now (bytes .exit) ≡ releaseRecordsOf (now (bytes .entry)) ⌝ }
 {
     let zeros = [0u8; ICONS];

@@ -1,3 +1,4 @@
+-- Both numbers are read where the definition reads them.
 use Rattle.index.proofs.Ways.{cell-of}
 use denote.Ref.{now}
 use borrow.Author.Needs.{needs}

@@ -1,3 +1,4 @@
+-- The three values that are computed are those of the definition; the others are copied.
 use Rattle.index.proofs.Ways.{change-is}
 use denote.Ref.{now}
 use borrow.Author.Needs.{needs}

@@ -1,3 +1,4 @@
+-- The flags are tested as the definition tests them, by family.
 use Rattle.index.proofs.Ways.{new-window, new-notification}
 use borrow.Author.Needs.{needs}
 use Rattle.index.proofs.is_new.Statement.{statement}

@@ -1,3 +1,4 @@
+-- An order for a record of either family becomes one record of ids, flags and icon.
 use Rattle.index.proofs.Ways.{judged-window, judged-notification, judged-desktop, judged-refused}
 use denote.Ref.{now}
 use borrow.Author.Needs.{needs}

@@ -1,3 +1,4 @@
+-- Each way out is one line of the definition; a cell below 12 has its pointer behind the number of places.
 use Rattle.index.proofs.Ways.{lacks-cell, cached-past, cached-empty, lacks-none}
 use denote.Ref.{now}
 use borrow.Author.Needs.{needs}

@@ -1,3 +1,4 @@
+-- Without an icon nothing is asked; with one, its cell and its pointer are holders, and the free place is that of `places`.
 use Rattle.index.proofs.Ways.{plan-plain, plan-full, plan-taken, sound-holders}
 use borrow.Author.Tests.{ne-eqb}
 use lib.Bits.{bitAnd}

@@ -1,3 +1,4 @@
+-- 9 and 10 come from the slot, 11 from the picture; what is left names a cell, so the place may be asked for.
 use Rattle.index.proofs.Ways.{record-refused, record-lacks, record-plan, slot-small, has-cell, sound-long}
 use mathlib.Core.Path.{sym, _∙_}
 use denote.Ref.{now}

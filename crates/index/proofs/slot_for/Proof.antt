@@ -1,3 +1,4 @@
+-- The search and, for a new record, the search for a free slot decide which line of the definition holds.
 use Rattle.index.proofs.Ways.{slot-listed, slot-own, slot-absent, slot-full, slot-new}
 use borrow.Author.Tests.{not-true, not-false}
 use denote.Ref.{now}

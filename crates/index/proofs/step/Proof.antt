@@ -1,3 +1,4 @@
+-- Every plan of a memory that meets the rule fits it, so it may be carried out.
 use Rattle.index.proofs.Ways.{sound-long}
 use Rattle.index.proofs.After.{judged-fits}
 use Rattle.index.specs.Plans.{planNumber}

@@ -1,3 +1,4 @@
+-- One bit tells.
 use Rattle.index.proofs.Ways.{is-big, not-big}
 use Rattle.index.proofs.which.Statement.{statement}
 use Rattle.index.proofs.which.Tie as tie

@@ -1,3 +1,4 @@
+-- A copy in which both have let go has the marks of the others alone.
 use Rattle.places.proofs.Ways.{copied, left-small, free-found, valid-long, valid-first}
 use native.Mathlib.Omega.{arith}
 use denote.Ref.{now}

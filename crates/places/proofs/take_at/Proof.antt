@@ -1,3 +1,4 @@
+-- Two bytes are written.
 use Rattle.places.proofs.Ways.{two-points}
 use Prim.Native.Nat.{_+_}
 use native.Mathlib.Omega.{arith}

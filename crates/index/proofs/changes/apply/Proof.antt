@@ -1,3 +1,4 @@
+-- The plan chooses the change.
 use Rattle.index.proofs.Ways.{plan-fits, applied-record, applied-none, applied-desktop, applied-refused}
 use denote.Ref.{now}
 use borrow.Author.Needs.{needs}

@@ -1,3 +1,4 @@
+-- A deleted record goes; a new one is listed before its picture is set.
 use Rattle.index.proofs.Ways.{changed-deleted, changed-new, changed-old}
 use denote.Ref.{now}
 use borrow.Author.Needs.{needs}

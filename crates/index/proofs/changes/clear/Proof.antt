@@ -1,3 +1,4 @@
+-- The icons' pointers, then the slots.
 use Rattle.index.proofs.Ways.{cleared}
 use denote.Ref.{now}
 use borrow.Author.Needs.{needs}

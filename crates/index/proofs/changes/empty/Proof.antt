@@ -1,3 +1,4 @@
+-- All zeros, then the number of places.
 use Rattle.index.proofs.Ways.{emptied}
 use denote.Ref.{now}
 use borrow.Author.Needs.{needs}

@@ -1,3 +1,4 @@
+-- Three writes, one behind the other.
 use Rattle.index.proofs.Ways.{listed-bytes}
 use denote.Ref.{now}
 use borrow.Author.Needs.{needs}

@@ -1,3 +1,4 @@
+-- The flags choose the line of the definition.
 use Rattle.index.proofs.Ways.{picture-taken, picture-shared, picture-none, icon-fits, cached-fits}
 use denote.Ref.{now}
 use borrow.Author.Needs.{needs}

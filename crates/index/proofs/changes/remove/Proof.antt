@@ -1,3 +1,4 @@
+-- Three pointers are let go, then the slot is free.
 use Rattle.index.proofs.Ways.{removed-bytes}
 use denote.Ref.{now}
 use borrow.Author.Needs.{needs}

@@ -1,3 +1,4 @@
+-- The family names the range.
 use Rattle.index.proofs.Ways.{free-family}
 use Rattle.places.specs.declared.Family.the-variants.{Windows, Notifications}
 use denote.Ref.{now}

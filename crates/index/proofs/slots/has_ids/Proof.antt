@@ -1,3 +1,4 @@
+-- The three numbers of a slot are compared, the window id first.
 use Rattle.index.proofs.Ways.{ids-other, ids-free, ids-second}
 use denote.Ref.{now}
 use borrow.Author.Needs.{needs}

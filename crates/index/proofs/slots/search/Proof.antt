@@ -1,3 +1,4 @@
+-- The slots before i have other ids; those from i on are still to be searched.
 use Rattle.index.proofs.Ways.{first-start, first-here, first-next, first-none, slot-lent, search-is}
 use Rattle.places.specs.declared.Found.the-variants.{At, Nothing}
 use Rattle.places.specs.Counts.{firstFrom}

@@ -1,3 +1,4 @@
+-- The slots before i have records; those from i on are still to be searched.
 use Rattle.index.proofs.Ways.{first-start, first-here, first-next, first-none, slot-unused, slot-taken}
 use Rattle.places.specs.Counts.{firstFrom}
 use Rattle.index.specs.Slots.{isFree}

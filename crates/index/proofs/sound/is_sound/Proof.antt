@@ -1,3 +1,4 @@
+-- The lines of the rule are tested in their order.
 use Rattle.index.proofs.Ways.{sound-short, sound-invalid, sound-windows, sound-rest}
 use borrow.Author.Tests.{not-true, not-false}
 use denote.Ref.{now}

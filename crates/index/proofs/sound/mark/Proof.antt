@@ -1,3 +1,4 @@
+-- The number is the definition's, and a remainder of 256.
 use Rattle.index.proofs.Once.{mark-is}
 use borrow.Author.Needs.{needs}
 use Rattle.index.proofs.sound.mark.Statement.{statement}

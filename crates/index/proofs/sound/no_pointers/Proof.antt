@@ -1,3 +1,4 @@
+-- The pointers of a slot lie side by side, behind the number of places.
 use Rattle.index.proofs.Ways.{pointers-none}
 use denote.Ref.{now}
 use borrow.Author.Needs.{needs}

@@ -1,3 +1,4 @@
+-- Ids with a new mark have not stood; with a mark that is known they can only have stood from its first slot on.
 use Rattle.index.proofs.Ways.{found-is}
 use Rattle.index.proofs.Once.{first-lent, second-lent, used-lent, slot-empty, slot-unmarked, slot-high, first-seen, later-seen, stood-twice, seen-free, seen-set, seen-kept}
 use Rattle.index.proofs.Soundness.{never}

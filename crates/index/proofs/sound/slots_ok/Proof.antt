@@ -1,3 +1,4 @@
+-- The slots before i are in order and have their marks; those from i on are still to be tested.
 use Rattle.index.proofs.Ways.{ok-start, ok-stop, ok-next, ok-done}
 use Rattle.index.proofs.Once.{none-seen}
 use Rattle.index.specs.Sound.{eachFrom, slotOk, Seen}
