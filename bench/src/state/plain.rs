@@ -152,15 +152,15 @@ fn put_window(to: &mut Writer<'_>, window: &Window) {
     to.u32(window.extended_style);
     to.u8(window.show_state);
     to.text(&window.title, 520);
-    to.pair(window.client_offset);
+    to.point(window.client_offset);
     to.pair(window.client_size);
     to.u8(window.rp_content);
     to.u32(window.root_parent.0);
-    to.pair(window.window_offset);
-    to.pair(window.client_delta);
+    to.point(window.window_offset);
+    to.point(window.client_delta);
     to.pair(window.window_size);
     to.rects(&window.window_rects);
-    to.pair(window.visible_offset);
+    to.point(window.visible_offset);
     to.rects(&window.visibility_rects);
 }
 
@@ -209,6 +209,11 @@ impl<'a> Writer<'a> {
 
     fn u32(&mut self, number: u32) {
         self.bytes(&number.to_le_bytes());
+    }
+
+    fn point(&mut self, (x, y): (i32, i32)) {
+        self.u32(x as u32);
+        self.u32(y as u32);
     }
 
     fn pair(&mut self, (x, y): (u32, u32)) {

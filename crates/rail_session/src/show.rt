@@ -11,11 +11,19 @@ use view::DesktopRecord;
 use view::NotificationRecord;
 use view::Pair;
 use view::PictureRecord;
+use view::Point;
 use view::Pointer;
 use view::Rectangles;
 use view::Stack;
 use view::Text;
 use view::WindowRecord;
+
+fn point(out: &mut [u8], at: usize, name: &[u8], p: Point) -> usize {
+    let n = text(out, at, name);
+    let n = print::signed(out, n, p.x);
+    let n = byte(out, n, b',');
+    print::signed(out, n, p.y)
+}
 
 fn pair(out: &mut [u8], at: usize, name: &[u8], p: Pair) -> usize {
     print::pair(out, at, name, p.x as u64, b',', p.y as u64)
@@ -60,21 +68,21 @@ fn window_title(out: &mut [u8], at: usize, w: WindowRecord) -> usize {
 }
 
 fn window_client(out: &mut [u8], at: usize, w: WindowRecord) -> usize {
-    let n = pair(out, at, b" client=", w.client_offset);
+    let n = point(out, at, b" client=", w.client_offset);
     let n = pair(out, n, b" client_size=", w.client_size);
     field(out, n, b" rp=", w.rp_content as u64)
 }
 
 fn window_place(out: &mut [u8], at: usize, w: WindowRecord) -> usize {
     let n = field(out, at, b" root=", w.root_parent.id as u64);
-    let n = pair(out, n, b" offset=", w.window_offset);
-    pair(out, n, b" delta=", w.client_delta)
+    let n = point(out, n, b" offset=", w.window_offset);
+    point(out, n, b" delta=", w.client_delta)
 }
 
 fn window_area(out: &mut [u8], at: usize, w: WindowRecord) -> usize {
     let n = pair(out, at, b" size=", w.window_size);
     let n = rectangles(out, n, b" rects=", w.window_rects);
-    pair(out, n, b" visible=", w.visible_offset)
+    point(out, n, b" visible=", w.visible_offset)
 }
 
 fn window_seen(out: &mut [u8], at: usize, w: WindowRecord) -> usize {

@@ -15,6 +15,8 @@ use Rattle.wire.specs.Numbers.{numAt, numsAt, total, Bytes}
 use Rattle.wire.specs.Parts.{padded}
 use Rattle.wire.proofs.Parts.{padded-same}
 use Rattle.wire.proofs.Numbers.{nums-same}
+use Rattle.signs.specs.TwosComplement.{unsigned, signedAt}
+use Rattle.signs.proofs.TwosComplement.{forth-4, num-under}
 use Rattle.protocol.specs.declared.WindowId.{WindowId}
 use Rattle.order.specs.declared.Row.{Row}
 use Rattle.order.specs.Rows.{noRow, textRow, rectanglesRow, idsRow, firstOf, lenOf}
@@ -23,6 +25,7 @@ use Rattle.body.proofs.Placed.{Placed}
 use Rattle.layout.specs.Valid.{ValidField, ValidFields}
 use Rattle.layout.proofs.LayoutsWritten.{placed-at}
 use Rattle.layout.proofs.LayoutsLossless.{short-field}
+use Rattle.view.specs.declared.Point.{Point}
 use Rattle.view.specs.declared.Pair.{Pair}
 use Rattle.view.specs.declared.Text.{Text}
 use Rattle.view.specs.declared.Rectangles.{Rectangles}
@@ -31,7 +34,7 @@ use Rattle.view.specs.declared.Pointer.{Pointer}
 use Rattle.view.specs.declared.WindowRecord.{WindowRecord}
 use Rattle.view.specs.declared.NotificationRecord.{NotificationRecord}
 use Rattle.view.specs.declared.DesktopRecord.{DesktopRecord}
-use Rattle.view.specs.Views.{windowId, eachOf, pairOf, textOf, rectanglesOf, stackOf, pointerOf, windowOf, notificationOf, desktopOf}
+use Rattle.view.specs.Views.{windowId, eachOf, pointOf, pairOf, textOf, rectanglesOf, stackOf, pointerOf, windowOf, notificationOf, desktopOf}
 use Rattle.view.specs.Lossless.{BytesEach, ValidRecord}
 use Rattle.view.proofs.ViewsRead.{length-each}
 
@@ -78,6 +81,15 @@ module _ (r : Row) {f g : List ℕ} (v : Whole r f) (u : Whole r g) where
   number : (w : ℕ) → r .unit ≡ 0 → w ≡ r .size → numAt w f 0 ≡ numAt w g 0 → f ≡ g
   unfolding total
   number w z t e = fixed (w ∷ []) z (add-zero w ∙ t) (nums-one w f g e)
+
+  -- a signed number decides the number
+  same-number : (at : ℕ) → signedAt 4 f at ≡ signedAt 4 g at → numAt 4 f at ≡ numAt 4 g at
+  same-number at e =
+      sym (forth-4 (numAt 4 f at) (num-under 4 f at (v .bytes))) ∙ ap (unsigned 4) e ∙ forth-4 (numAt 4 g at) (num-under 4 g at (u .bytes))
+
+  point : r .unit ≡ 0 → r .size ≡ 8 → pointOf f ≡ pointOf g → f ≡ g
+  unfolding total pointOf
+  point z t e = fixed (4 ∷ 4 ∷ []) z (sym t) (nums-two f g (same-number 0 (ap (λ (p : Point). p .x) e)) (same-number 4 (ap (λ (p : Point). p .y) e)))
 
   pair : r .unit ≡ 0 → r .size ≡ 8 → pairOf f ≡ pairOf g → f ≡ g
   unfolding total pairOf
@@ -207,7 +219,7 @@ module _ (rows : List Row) (m n : ℕ) (a b : Body) (va : ValidRecord rows m n a
   fb = valid-at rows (b .fields) (vb .body .fields) (vb .bytes)
 
 pub window-same : (a b : Body) → ValidRecord windowFields 12 12 a → ValidRecord windowFields 12 12 b → windowOf a ≡ windowOf b → a ≡ b
-unfolding windowOf pairOf
+unfolding windowOf pointOf pairOf
 window-same a b va vb e =
     let u = fa windowFields 12 12 a b va vb in
     let v = fb windowFields 12 12 a b va vb in
@@ -224,7 +236,7 @@ window-same a b va vb e =
           (
             text 0x00000004 520 (omega arith) (placed-at 4 (omega arith)) (u 3 (omega arith)) (v 3 (omega arith)) (ap (λ (x : WindowRecord). x .title) e),
             (
-              pair (r 4) (u 4 (omega arith)) (v 4 (omega arith)) refl refl (ap (λ (x : WindowRecord). x .«client_offset») e),
+              point (r 4) (u 4 (omega arith)) (v 4 (omega arith)) refl refl (ap (λ (x : WindowRecord). x .«client_offset») e),
               (
                 pair (r 5) (u 5 (omega arith)) (v 5 (omega arith)) refl refl (ap (λ (x : WindowRecord). x .«client_size») e),
                 (
@@ -232,15 +244,15 @@ window-same a b va vb e =
                   (
                     number (r 7) (u 7 (omega arith)) (v 7 (omega arith)) 4 refl refl (ap (λ (x : WindowRecord). x .«root_parent» .id) e),
                     (
-                      pair (r 8) (u 8 (omega arith)) (v 8 (omega arith)) refl refl (ap (λ (x : WindowRecord). x .«window_offset») e),
+                      point (r 8) (u 8 (omega arith)) (v 8 (omega arith)) refl refl (ap (λ (x : WindowRecord). x .«window_offset») e),
                       (
-                        pair (r 9) (u 9 (omega arith)) (v 9 (omega arith)) refl refl (ap (λ (x : WindowRecord). x .«client_delta») e),
+                        point (r 9) (u 9 (omega arith)) (v 9 (omega arith)) refl refl (ap (λ (x : WindowRecord). x .«client_delta») e),
                         (
                           pair (r 10) (u 10 (omega arith)) (v 10 (omega arith)) refl refl (ap (λ (x : WindowRecord). x .«window_size») e),
                           (
                             rectangles 0x00000100 (placed-at 12 (omega arith)) (u 11 (omega arith)) (v 11 (omega arith)) (ap (λ (x : WindowRecord). x .«window_rects») e),
                             (
-                              pair (r 12) (u 12 (omega arith)) (v 12 (omega arith)) refl refl (ap (λ (x : WindowRecord). x .«visible_offset») e),
+                              point (r 12) (u 12 (omega arith)) (v 12 (omega arith)) refl refl (ap (λ (x : WindowRecord). x .«visible_offset») e),
                               (
                                 rectangles 0x00000200 (placed-at 14 (omega arith)) (u 13 (omega arith)) (v 13 (omega arith)) (ap (λ (x : WindowRecord). x .«visibility_rects») e),
                                 tt,

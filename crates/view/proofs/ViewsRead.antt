@@ -8,6 +8,7 @@ use native.Mathlib.Nat.{add-zero, mul-suc, mul-zero, one-mul}
 use native.Mathlib.Numerals.{add-one}
 use native.Mathlib.Omega.{arith}
 use lib.Dec.{leb, ltb}
+use lib.IntN.{ℤ}
 use lib.ListN.{length, getD, set, take, drop, replicate, length-take, length-drop, List·getD-eq-default}
 use lib.Seq.{getD-take, getD-drop, take-all}
 use borrow.Author.Tests.{ltb-true, ltb-false, leb-true, leb-false, eq-eqb, ne-eqb}
@@ -16,13 +17,14 @@ use Rattle.wire.specs.Numbers.{numAt}
 use Rattle.wire.specs.Parts.{slice, splice, padded}
 use Rattle.wire.proofs.Parts.{splice-nil, splice-zeros, padded-ext, padded-nil, padded-set, padded-take}
 use Rattle.wire.proofs.Numbers.{num1-is, num-take, num-slice, num-past}
+use Rattle.signs.specs.TwosComplement.{signed, signedAt}
 use Rattle.order.specs.declared.Row.{Row}
 use Rattle.order.specs.Rows.{numbersRow, textRow, rectanglesRow, idsRow, roomOf, firstOf, lenOf}
 use Rattle.body.specs.Bodies.{fieldIn}
 use Rattle.body.proofs.Placed.{len-place}
 use Rattle.layout.specs.Layouts.{fieldAt}
 use Rattle.protocol.specs.declared.WindowId.{WindowId}
-use Rattle.view.specs.Views.{windowId, eachOf, pairOf, textOf, rectanglesOf, stackOf, pointerOf}
+use Rattle.view.specs.Views.{windowId, eachOf, pointOf, pairOf, textOf, rectanglesOf, stackOf, pointerOf}
 
 -- ---- the lesser of two
 
@@ -202,6 +204,10 @@ ids-flag flag s at = refl
 
 -- ---- the view of a field by its parts
 
+point-parts : (f : List ℕ) {x y : ℤ} → x ≡ signedAt 4 f 0 → y ≡ signedAt 4 f 4 → record { x = x; y = y } ≡ pointOf f
+unfolding pointOf
+point-parts f a b = rw (a, b)
+
 pair-parts : (f : List ℕ) {x y : ℕ} → x ≡ numAt 4 f 0 → y ≡ numAt 4 f 4 → record { x = x; y = y } ≡ pairOf f
 unfolding pairOf
 pair-parts f a b = rw (a, b)
@@ -219,6 +225,11 @@ unfolding stackOf
 stack-parts f a b = rw (b, a)
 
 module _ (s : List ℕ) (at : ℕ) where
+  pub point-is : {x y : ℤ} → x ≡ signedAt 4 s at → y ≡ signedAt 4 s (at + 4) → record { x = x; y = y } ≡ pointOf (fieldAt (numbersRow 0 8) s at)
+  point-is a b =
+      let r = numbersRow 0 8 in
+      point-parts (fieldAt r s at) (a ∙ ap (signed 4) (num-start r s at 4 (omega arith) (omega arith))) (b ∙ ap (signed 4) (num-field r s at 4 4 (omega arith) (omega arith)))
+
   pub pair-is : {x y : ℕ} → x ≡ numAt 4 s at → y ≡ numAt 4 s (at + 4) → record { x = x; y = y } ≡ pairOf (fieldAt (numbersRow 0 8) s at)
   pair-is a b =
       let r = numbersRow 0 8 in

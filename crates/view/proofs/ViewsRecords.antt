@@ -14,12 +14,13 @@ use Rattle.order.specs.Rows.{noRow, numbersRow, textRow, rectanglesRow, idsRow}
 use Rattle.order.specs.Icons.{tabled}
 use Rattle.body.specs.Bodies.{Body, windowFields, notificationFields, desktopFields, fieldsOf, bodyOf}
 use Rattle.layout.specs.Layouts.{fieldAt}
+use Rattle.view.specs.declared.Point.{Point}
 use Rattle.view.specs.declared.Pair.{Pair}
 use Rattle.view.specs.declared.Text.{Text}
 use Rattle.view.specs.declared.Rectangles.{Rectangles}
 use Rattle.view.specs.declared.Pointer.{Pointer}
 use Rattle.view.specs.declared.Stack.{Stack}
-use Rattle.view.specs.Views.{windowId, pairOf, textOf, rectanglesOf, stackOf, pointerOf, fieldOf, windowOf, notificationOf, desktopOf, pictureView}
+use Rattle.view.specs.Views.{windowId, pointOf, pairOf, textOf, rectanglesOf, stackOf, pointerOf, fieldOf, windowOf, notificationOf, desktopOf, pictureView}
 use Rattle.view.proofs.ViewsRead.{num-field, num-start, numbers-flag, text-flag, rectangles-flag, ids-flag, content-is}
 
 -- a pointer read from a mark
@@ -29,11 +30,11 @@ pointed e f = e ∙ ap pointerOf f
 -- ---- a window
 
 -- by the parts of a body
-window-parts : (b : Body) {owner : WindowId} {style extended show : ℕ} {title : Text} {offset size : Pair} {content : ℕ} {root : WindowId} {place delta whole : Pair} {rects : Rectangles} {visible : Pair} {shown : Rectangles}
+window-parts : (b : Body) {owner : WindowId} {style extended show : ℕ} {title : Text} {offset : Point} {size : Pair} {content : ℕ} {root : WindowId} {place delta : Point} {whole : Pair} {rects : Rectangles} {visible : Point} {shown : Rectangles}
     {small big : Pointer}
     → owner ≡ windowId (numAt 4 (fieldOf b 0) 0) → style ≡ numAt 4 (fieldOf b 1) 0 → extended ≡ numAt 4 (fieldOf b 1) 4 → show ≡ numAt 1 (fieldOf b 2) 0 → title ≡ textOf (fieldOf b 3)
-    → offset ≡ pairOf (fieldOf b 4) → size ≡ pairOf (fieldOf b 5) → content ≡ numAt 1 (fieldOf b 6) 0 → root ≡ windowId (numAt 4 (fieldOf b 7) 0) → place ≡ pairOf (fieldOf b 8)
-    → delta ≡ pairOf (fieldOf b 9) → whole ≡ pairOf (fieldOf b 10) → rects ≡ rectanglesOf (fieldOf b 11) → visible ≡ pairOf (fieldOf b 12) → shown ≡ rectanglesOf (fieldOf b 13)
+    → offset ≡ pointOf (fieldOf b 4) → size ≡ pairOf (fieldOf b 5) → content ≡ numAt 1 (fieldOf b 6) 0 → root ≡ windowId (numAt 4 (fieldOf b 7) 0) → place ≡ pointOf (fieldOf b 8)
+    → delta ≡ pointOf (fieldOf b 9) → whole ≡ pairOf (fieldOf b 10) → rects ≡ rectanglesOf (fieldOf b 11) → visible ≡ pointOf (fieldOf b 12) → shown ≡ rectanglesOf (fieldOf b 13)
     → small ≡ pointerOf (b .first) → big ≡ pointerOf (b .second)
     → record {
       owner = owner;
@@ -58,11 +59,11 @@ unfolding windowOf
 window-parts b e0 e1 e2 e3 e4 e5 e6 e7 e8 e9 e10 e11 e12 e13 e14 e15 e16 = rw (e0, e1, e2, e3, e4, e5, e6, e7, e8, e9, e10, e11, e12, e13, e14, e15, e16)
 
 module _ (s : List ℕ) where
-  pub window-is : {owner : WindowId} {style extended show : ℕ} {title : Text} {offset size : Pair} {content : ℕ} {root : WindowId} {place delta whole : Pair} {rects : Rectangles}
-      {visible : Pair} {shown : Rectangles} {v w : ℕ} {small big : Pointer}
-      → title ≡ textOf (fieldAt (textRow 0 520) s 15) → offset ≡ pairOf (fieldAt (numbersRow 0 8) s 537) → size ≡ pairOf (fieldAt (numbersRow 0 8) s 545)
-      → place ≡ pairOf (fieldAt (numbersRow 0 8) s 558) → delta ≡ pairOf (fieldAt (numbersRow 0 8) s 566) → whole ≡ pairOf (fieldAt (numbersRow 0 8) s 574)
-      → rects ≡ rectanglesOf (fieldAt (rectanglesRow 0) s 582) → visible ≡ pairOf (fieldAt (numbersRow 0 8) s 712) → shown ≡ rectanglesOf (fieldAt (rectanglesRow 0) s 720)
+  pub window-is : {owner : WindowId} {style extended show : ℕ} {title : Text} {offset : Point} {size : Pair} {content : ℕ} {root : WindowId} {place delta : Point} {whole : Pair} {rects : Rectangles}
+      {visible : Point} {shown : Rectangles} {v w : ℕ} {small big : Pointer}
+      → title ≡ textOf (fieldAt (textRow 0 520) s 15) → offset ≡ pointOf (fieldAt (numbersRow 0 8) s 537) → size ≡ pairOf (fieldAt (numbersRow 0 8) s 545)
+      → place ≡ pointOf (fieldAt (numbersRow 0 8) s 558) → delta ≡ pointOf (fieldAt (numbersRow 0 8) s 566) → whole ≡ pairOf (fieldAt (numbersRow 0 8) s 574)
+      → rects ≡ rectanglesOf (fieldAt (rectanglesRow 0) s 582) → visible ≡ pointOf (fieldAt (numbersRow 0 8) s 712) → shown ≡ rectanglesOf (fieldAt (rectanglesRow 0) s 720)
       → v ≡ numAt 1 s 0 → small ≡ pointerOf v → w ≡ numAt 1 s 1 → big ≡ pointerOf w → owner ≡ windowId (numAt 4 s 2) → root ≡ windowId (numAt 4 s 554)
       → style ≡ numAt 4 s 6 → extended ≡ numAt 4 s 10 → show ≡ numAt 1 s 14 → content ≡ numAt 1 s 553
       → record {
@@ -93,15 +94,15 @@ module _ (s : List ℕ) where
       (extended ∙ num-field (r 1) s 6 4 4 (omega arith) (omega arith))
       (show ∙ num-start (r 2) s 14 1 (omega arith) (omega arith))
       (title ∙ ap textOf (text-flag 0x00000004 520 s 15))
-      (offset ∙ ap pairOf (numbers-flag 0x00004000 8 s 537))
+      (offset ∙ ap pointOf (numbers-flag 0x00004000 8 s 537))
       (size ∙ ap pairOf (numbers-flag 0x00010000 8 s 545))
       (content ∙ num-start (r 6) s 553 1 (omega arith) (omega arith))
       (root ∙ ap windowId (num-start (r 7) s 554 4 (omega arith) (omega arith)))
-      (place ∙ ap pairOf (numbers-flag 0x00000800 8 s 558))
-      (delta ∙ ap pairOf (numbers-flag 0x00008000 8 s 566))
+      (place ∙ ap pointOf (numbers-flag 0x00000800 8 s 558))
+      (delta ∙ ap pointOf (numbers-flag 0x00008000 8 s 566))
       (whole ∙ ap pairOf (numbers-flag 0x00000400 8 s 574))
       (rects ∙ ap rectanglesOf (rectangles-flag 0x00000100 s 582))
-      (visible ∙ ap pairOf (numbers-flag 0x00001000 8 s 712))
+      (visible ∙ ap pointOf (numbers-flag 0x00001000 8 s 712))
       (shown ∙ ap rectanglesOf (rectangles-flag 0x00000200 s 720))
       (pointed small v)
       (pointed big w)

@@ -7,9 +7,11 @@ use lib.ListN.{getD, drop}
 use Rattle.wire.specs.Tests.{pick}
 use Rattle.wire.specs.Numbers.{numAt}
 use Rattle.wire.specs.Parts.{padded}
+use Rattle.signs.specs.TwosComplement.{signedAt}
 use Rattle.protocol.specs.declared.WindowId.{WindowId}
 use Rattle.order.specs.Icons.{tabled}
 use Rattle.body.specs.Bodies.{Body}
+use Rattle.view.specs.declared.Point.{Point}
 use Rattle.view.specs.declared.Pair.{Pair}
 use Rattle.view.specs.declared.Text.{Text}
 use Rattle.view.specs.declared.Rectangles.{Rectangles}
@@ -29,6 +31,10 @@ windowId v = record { id = v }
 unfoldable pub eachOf : {A : Type 0} → (ℕ → A) → ℕ → ℕ → List ℕ → ℕ → List A
 eachOf make w zero s at = []
 eachOf make w (suc n) s at = make (numAt w s at) ∷ eachOf make w n s (at + w)
+
+-- two signed numbers of 4
+unfoldable pub pointOf : List ℕ → Point
+pointOf f = record { x = signedAt 4 f 0; y = signedAt 4 f 4 }
 
 unfoldable pub pairOf : List ℕ → Pair
 pairOf f = record { x = numAt 4 f 0; y = numAt 4 f 4 }
@@ -63,15 +69,15 @@ windowOf b =
       «extended_style» = numAt 4 (fieldOf b 1) 4;
       «show_state» = numAt 1 (fieldOf b 2) 0;
       title = textOf (fieldOf b 3);
-      «client_offset» = pairOf (fieldOf b 4);
+      «client_offset» = pointOf (fieldOf b 4);
       «client_size» = pairOf (fieldOf b 5);
       «rp_content» = numAt 1 (fieldOf b 6) 0;
       «root_parent» = windowId (numAt 4 (fieldOf b 7) 0);
-      «window_offset» = pairOf (fieldOf b 8);
-      «client_delta» = pairOf (fieldOf b 9);
+      «window_offset» = pointOf (fieldOf b 8);
+      «client_delta» = pointOf (fieldOf b 9);
       «window_size» = pairOf (fieldOf b 10);
       «window_rects» = rectanglesOf (fieldOf b 11);
-      «visible_offset» = pairOf (fieldOf b 12);
+      «visible_offset» = pointOf (fieldOf b 12);
       «visibility_rects» = rectanglesOf (fieldOf b 13);
       small = pointerOf (b .first);
       big = pointerOf (b .second);

@@ -7,6 +7,13 @@ use protocol::WindowId;
 
 mod parts;
 
+// A place on the screen or an offset, which may be to the left of or above the origin.
+pub struct Point {
+    pub x: i32,
+    pub y: i32,
+}
+
+// Width and height.
 pub struct Pair {
     pub x: u32,
     pub y: u32,
@@ -37,15 +44,15 @@ pub struct WindowRecord {
     pub extended_style: u32,
     pub show_state: u8,
     pub title: Text,
-    pub client_offset: Pair,
+    pub client_offset: Point,
     pub client_size: Pair,
     pub rp_content: u8,
     pub root_parent: WindowId,
-    pub window_offset: Pair,
-    pub client_delta: Pair,
+    pub window_offset: Point,
+    pub client_delta: Point,
     pub window_size: Pair,
     pub window_rects: Rectangles,
-    pub visible_offset: Pair,
+    pub visible_offset: Point,
     pub visibility_rects: Rectangles,
     pub small: Pointer,
     pub big: Pointer,
@@ -91,13 +98,13 @@ pub fn window(bytes: &[u8]) -> WindowRecord
     ensures { λ r. ⌜ r ≡ windowOf (bodyOf windowFields (now (bytes .entry))) ⌝ }
 {
     let title = parts::text(bytes, 15, 520);
-    let client_offset = parts::pair(bytes, 537);
+    let client_offset = parts::point(bytes, 537);
     let client_size = parts::pair(bytes, 545);
-    let window_offset = parts::pair(bytes, 558);
-    let client_delta = parts::pair(bytes, 566);
+    let window_offset = parts::point(bytes, 558);
+    let client_delta = parts::point(bytes, 566);
     let window_size = parts::pair(bytes, 574);
     let window_rects = parts::rectangles(bytes, 582);
-    let visible_offset = parts::pair(bytes, 712);
+    let visible_offset = parts::point(bytes, 712);
     let visibility_rects = parts::rectangles(bytes, 720);
     let small = parts::pointer(wire::read_u8(bytes, 0));
     let big = parts::pointer(wire::read_u8(bytes, 1));

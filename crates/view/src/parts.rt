@@ -8,13 +8,23 @@ ghost use Rattle.wire.specs.Numbers.{numAt};
 ghost use Rattle.wire.specs.Parts.{slice, splice, padded};
 ghost use Rattle.order.specs.Rows.{numbersRow, textRow, rectanglesRow, idsRow};
 ghost use Rattle.layout.specs.Layouts.{fieldAt};
-ghost use Rattle.view.specs.Views.{eachOf, windowId, pairOf, textOf, rectanglesOf, stackOf, pointerOf};
+ghost use Rattle.view.specs.Views.{eachOf, windowId, pointOf, pairOf, textOf, rectanglesOf, stackOf, pointerOf};
 use crate::Pair;
+use crate::Point;
 use crate::Pointer;
 use crate::Rectangles;
 use crate::Stack;
 use crate::Text;
 use protocol::WindowId;
+
+pub fn point(s: &[u8], at: usize) -> Point
+    requires { ⌜ at ≤ 65535 ⌝ }
+    ensures { λ r. ⌜ r ≡ pointOf (fieldAt (numbersRow 0 8) (now (s .entry)) at) ⌝ }
+{
+    let x = signs::read_i32(s, at);
+    let y = signs::read_i32(s, at + 4);
+    Point { x, y }
+}
 
 pub fn pair(s: &[u8], at: usize) -> Pair
     requires { ⌜ at ≤ 65535 ⌝ }

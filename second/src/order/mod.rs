@@ -56,16 +56,16 @@ pub struct WindowFields<'a> {
     pub style: Option<(u32, u32)>,
     pub show_state: Option<u8>,
     pub title: Option<&'a [u8]>,
-    pub client_offset: Option<(u32, u32)>,
+    pub client_offset: Option<(i32, i32)>,
     pub client_size: Option<(u32, u32)>,
     pub rp_content: Option<u8>,
     pub root_parent: Option<WindowId>,
-    pub window_offset: Option<(u32, u32)>,
-    pub client_delta: Option<(u32, u32)>,
+    pub window_offset: Option<(i32, i32)>,
+    pub client_delta: Option<(i32, i32)>,
     pub window_size: Option<(u32, u32)>,
     /// Rectangles of 8 bytes each.
     pub window_rects: Option<&'a [u8]>,
-    pub visible_offset: Option<(u32, u32)>,
+    pub visible_offset: Option<(i32, i32)>,
     /// Rectangles of 8 bytes each.
     pub visibility_rects: Option<&'a [u8]>,
 }

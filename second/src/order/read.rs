@@ -85,15 +85,15 @@ impl<'a> Body<'a> {
             style: self.field(flags::STYLE, Self::pair)?,
             show_state: self.field(flags::SHOW, Self::u8)?,
             title: self.field(flags::TITLE, Self::string)?,
-            client_offset: self.field(flags::CLIENT_OFFSET, Self::pair)?,
+            client_offset: self.field(flags::CLIENT_OFFSET, Self::offset)?,
             client_size: self.field(flags::CLIENT_SIZE, Self::pair)?,
             rp_content: self.field(flags::RP_CONTENT, Self::u8)?,
             root_parent: self.field(flags::ROOT_PARENT, Self::window_id)?,
-            window_offset: self.field(flags::WINDOW_OFFSET, Self::pair)?,
-            client_delta: self.field(flags::CLIENT_DELTA, Self::pair)?,
+            window_offset: self.field(flags::WINDOW_OFFSET, Self::offset)?,
+            client_delta: self.field(flags::CLIENT_DELTA, Self::offset)?,
             window_size: self.field(flags::WINDOW_SIZE, Self::pair)?,
             window_rects: self.field(flags::WINDOW_RECTS, Self::rects)?,
-            visible_offset: self.field(flags::VISIBLE_OFFSET, Self::pair)?,
+            visible_offset: self.field(flags::VISIBLE_OFFSET, Self::offset)?,
             visibility_rects: self.field(flags::VISIBILITY, Self::rects)?,
         })
     }
@@ -224,6 +224,11 @@ impl<'a> Body<'a> {
         self.u32().map(WindowId)
     }
 
+    /// An offset: x and y in two's complement.
+    fn offset(&mut self) -> Result<(i32, i32), u8> {
+        Ok((self.i32()?, self.i32()?))
+    }
+
     fn pair(&mut self) -> Result<(u32, u32), u8> {
         Ok((self.u32()?, self.u32()?))
     }
@@ -242,6 +247,10 @@ impl<'a> Body<'a> {
 
     fn u32(&mut self) -> Result<u32, u8> {
         self.array().map(u32::from_le_bytes)
+    }
+
+    fn i32(&mut self) -> Result<i32, u8> {
+        self.array().map(i32::from_le_bytes)
     }
 
     fn array<const N: usize>(&mut self) -> Result<[u8; N], u8> {

@@ -1,5 +1,7 @@
 //! How what a lookup hands out is printed.
 
+use std::fmt::Display;
+
 use super::print::Fields;
 use super::session::Call;
 use crate::ids::{NotifyIconId, WindowId};
@@ -88,7 +90,7 @@ fn push_desktop(line: &mut Vec<u8>, desktop: &Desktop) {
         .text("stack", &stack.join(","));
 }
 
-fn pair((x, y): (u32, u32)) -> String {
+fn pair<T: Display>((x, y): (T, T)) -> String {
     format!("{x},{y}")
 }
 

@@ -1,5 +1,7 @@
 //! An order in words: what it is about, and the fields that it carries.
 
+use std::fmt::Display;
+
 use super::words::quoted;
 use crate::order::rules::{self, ID_SIZE, NO_CACHE, RECT_SIZE};
 use crate::order::{
@@ -65,12 +67,7 @@ macro_rules! fields {
     }};
 }
 
-/// Offsets are told as signed numbers.
-fn signed((x, y): (u32, u32)) -> String {
-    format!("{},{}", x as i32, y as i32)
-}
-
-fn pair((x, y): (u32, u32)) -> String {
+fn pair<T: Display>((x, y): (T, T)) -> String {
     format!("{x},{y}")
 }
 
@@ -84,15 +81,15 @@ fn window(f: &WindowFields<'_>) -> Vec<String> {
         "style" f.style.map(|(style, extended)| format!("{style:08X},{extended:08X}")),
         "show" f.show_state,
         "title" f.title.map(quoted),
-        "client" f.client_offset.map(signed),
+        "client" f.client_offset.map(pair),
         "client_size" f.client_size.map(pair),
         "rp" f.rp_content,
         "root" f.root_parent.map(|id| id.0),
-        "offset" f.window_offset.map(signed),
-        "delta" f.client_delta.map(signed),
+        "offset" f.window_offset.map(pair),
+        "delta" f.client_delta.map(pair),
         "size" f.window_size.map(pair),
         "rects" f.window_rects.map(rects),
-        "visible" f.visible_offset.map(signed),
+        "visible" f.visible_offset.map(pair),
         "vis_rects" f.visibility_rects.map(rects),
     )
 }

@@ -22,7 +22,7 @@ W 57000100";
             "D 0 3 165",
             "W 0 3 165 id=65624 owner=1 style=2 ext=3 show=5 title=41004200 client=4,5 \
              client_size=6,7 rp=1 root=8 offset=9,10 delta=11,12 size=13,14 \
-             rects=1,2,3,4;65535,6,7,8 visible=15,4294967295 \
+             rects=1,2,3,4;65535,6,7,8 visible=15,-1 \
              vis_rects=9,8,7,6;5,4,3,2;1,0,0,32768 small=1/5 big=1/5",
             "W 9",
         ]

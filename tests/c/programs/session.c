@@ -13,6 +13,10 @@ static uint8_t out[RAIL_PICTURE_SIZE + 64];
 
 #define LENT part[0], lent[0], part[1], lent[1], part[2], lent[2], part[3], lent[3]
 
+static void print_point(const char *name, int32_t x, int32_t y) {
+    printf(" %s=%d,%d", name, (int)x, (int)y);
+}
+
 static void print_pair(const char *name, uint32_t x, uint32_t y) {
     printf(" %s=%u,%u", name, x, y);
 }
@@ -31,20 +35,19 @@ static void print_icon(const char *name, struct rail_icon icon) {
         printf(" %s=none", name);
 }
 
-/* Offsets are printed as the second program has them, unsigned. */
 static void print_window(uint32_t id) {
     struct rail_window w;
     rail_window_decode(&w, out);
     printf(" id=%u owner=%u style=%u ext=%u show=%u", id, w.owner_window_id, w.style, w.extended_style, w.show_state);
     print_hex(" title=", w.title.at, w.title.bytes);
-    print_pair("client", (uint32_t)w.client_offset_x, (uint32_t)w.client_offset_y);
+    print_point("client", w.client_offset_x, w.client_offset_y);
     print_pair("client_size", w.client_area_width, w.client_area_height);
     printf(" rp=%u root=%u", w.rp_content, w.root_parent_handle);
-    print_pair("offset", (uint32_t)w.window_offset_x, (uint32_t)w.window_offset_y);
-    print_pair("delta", (uint32_t)w.window_client_delta_x, (uint32_t)w.window_client_delta_y);
+    print_point("offset", w.window_offset_x, w.window_offset_y);
+    print_point("delta", w.window_client_delta_x, w.window_client_delta_y);
     print_pair("size", w.window_width, w.window_height);
     print_rectangles("rects", w.window_rects, w.num_window_rects);
-    print_pair("visible", (uint32_t)w.visible_offset_x, (uint32_t)w.visible_offset_y);
+    print_point("visible", w.visible_offset_x, w.visible_offset_y);
     print_rectangles("vis_rects", w.visibility_rects, w.num_visibility_rects);
     print_icon("small", w.small_icon);
     print_icon("big", w.big_icon);

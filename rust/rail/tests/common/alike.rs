@@ -90,9 +90,8 @@ fn bytes(units: &[u16]) -> Vec<u8> {
     units.iter().flat_map(|unit| unit.to_le_bytes()).collect()
 }
 
-/// The same bits: the second program reads offsets as unsigned.
-fn pair(point: Point) -> (u32, u32) {
-    (point.x as u32, point.y as u32)
+fn pair(point: Point) -> (i32, i32) {
+    (point.x, point.y)
 }
 
 fn sides(size: Size) -> (u32, u32) {

@@ -28,15 +28,15 @@ impl Writer {
         self.numbers(&[window.owner.0, window.style, window.extended_style]);
         self.0.push(window.show_state);
         self.text(&window.title, 537);
-        self.pair(window.client_offset);
+        self.point(window.client_offset);
         self.pair(window.client_size);
         self.0.push(window.rp_content);
         self.numbers(&[window.root_parent.0]);
-        self.pair(window.window_offset);
-        self.pair(window.client_delta);
+        self.point(window.window_offset);
+        self.point(window.client_delta);
         self.pair(window.window_size);
         self.rects(&window.window_rects, 712);
-        self.pair(window.visible_offset);
+        self.point(window.visible_offset);
         self.rects(&window.visibility_rects, 850);
         850
     }
@@ -87,6 +87,10 @@ impl Writer {
         for number in numbers {
             self.0.extend(number.to_le_bytes());
         }
+    }
+
+    fn point(&mut self, (x, y): (i32, i32)) {
+        self.numbers(&[x as u32, y as u32]);
     }
 
     fn pair(&mut self, (x, y): (u32, u32)) {

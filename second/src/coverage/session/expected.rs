@@ -60,11 +60,20 @@ const SINGLE: [&str; 25] = [
     "U orders granted, and 12",
 ];
 
+/// The offsets of a window, and the numbers that each has to be looked up with.
+pub const OFFSETS: [&str; 4] = ["client", "offset", "delta", "visible"];
+pub const FAR: [i32; 4] = [i32::MIN, i32::MAX, -1, -100];
+
 /// All expected facts.
 pub fn facts() -> Vec<String> {
     let mut facts = order::calls(&CALLS);
     facts.extend(order::facts());
     facts.extend(PASSING.map(|sort| format!("D {sort} 12")));
     facts.extend(SINGLE.map(String::from));
+    for name in OFFSETS {
+        for far in FAR {
+            facts.extend(["x", "y"].map(|axis| format!("W {name} {axis}={far} 0")));
+        }
+    }
     facts
 }

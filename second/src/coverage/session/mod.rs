@@ -10,7 +10,7 @@ use crate::number::{ROOM_PASSED, STATE_UNFIT};
 use crate::script::parts::Parts;
 use crate::script::session::{call, Call, Session};
 use crate::script::take_item;
-use crate::table::Table;
+use crate::table::{Table, Window};
 use crate::update::Report;
 
 /// Runs the generated scripts of the seeds `from` to `to`. A fact is a text such
@@ -67,7 +67,28 @@ impl Coverage {
                 self.add_steps(*steps as usize, standing.orders, number);
                 self.add_restored(&before, session.book().table());
             }
+            (Call::Window(id), _) if number == 0 => {
+                self.add_offsets(session.book().table().window(*id));
+            }
             _ => {}
+        }
+    }
+
+    /// The offsets that a lookup handed out at an end of their numbers.
+    fn add_offsets(&mut self, window: Option<&Window>) {
+        let Some(window) = window else { return };
+        let offsets = [
+            window.client_offset,
+            window.window_offset,
+            window.client_delta,
+            window.visible_offset,
+        ];
+        for (name, (x, y)) in expected::OFFSETS.into_iter().zip(offsets) {
+            for (axis, number) in [("x", x), ("y", y)] {
+                if expected::FAR.contains(&number) {
+                    self.add(format!("W {name} {axis}={number} 0"));
+                }
+            }
         }
     }
 

@@ -6,6 +6,7 @@ use crate::generate::random::Random;
 #[derive(Clone, Copy, Debug, PartialEq, Eq)]
 pub enum Slot {
     Any,
+    Offset,
     Id,
     Show,
     RpContent,
@@ -42,15 +43,15 @@ pub const WINDOW_FIELDS: [FlagFields; 14] = [
     (0x0000_0008, &[Any, Any]),
     (0x0000_0010, &[Show]),
     (0x0000_0004, &[Title]),
-    (0x0000_4000, &[Any, Any]),
+    (0x0000_4000, &[Offset, Offset]),
     (0x0001_0000, &[Any, Any]),
     (0x0002_0000, &[RpContent]),
     (0x0004_0000, &[Id]),
-    (0x0000_0800, &[Any, Any]),
-    (0x0000_8000, &[Any, Any]),
+    (0x0000_0800, &[Offset, Offset]),
+    (0x0000_8000, &[Offset, Offset]),
     (0x0000_0400, &[Any, Any]),
     (0x0000_0100, &[WindowRects]),
-    (0x0000_1000, &[Any, Any]),
+    (0x0000_1000, &[Offset, Offset]),
     (0x0000_0200, &[VisibleRects]),
 ];
 
@@ -75,7 +76,7 @@ impl Slot {
     /// The bytes of the number itself.
     pub fn width(self) -> usize {
         match self {
-            Any | Id => 4,
+            Any | Offset | Id => 4,
             Show | RpContent | Stack | Cache | Bits | CachedCache => 1,
             _ => 2,
         }
@@ -101,6 +102,11 @@ impl Slot {
         let below = |random: &mut Random, limit| random.below(limit) as u32;
         match self {
             Any => random.number(u32::MAX),
+            // The least, the greatest, -1, -100, else any.
+            Offset if random.chance(42) => {
+                random.pick(&[0x8000_0000, 0x7FFF_FFFF, 0xFFFF_FFFF, 0xFFFF_FF9C])
+            }
+            Offset => random.number(u32::MAX),
             Id => pool_id(random),
             Show => random.pick(&[0, 2, 3, 5]),
             RpContent => below(random, 2),
@@ -122,7 +128,7 @@ impl Slot {
     /// The numbers at the limits of the field and beside them.
     pub fn edges(self) -> &'static [u32] {
         match self {
-            Any | Id => &[],
+            Any | Offset | Id => &[],
             Show => &[0, 1, 2, 3, 4, 5, 6, 255],
             RpContent => &[0, 1, 2, 255],
             Title => &[0, 1, 2, 518, 519, 520, 521, 522],

@@ -25,6 +25,8 @@ impl Writer<'_> {
             .chance(25)
             .then(|| self.random.below(count.max(1)));
         let orders = self.orders(count, |maker, at| match refused {
+            // One beside a limit is mostly refused too.
+            Some(refused) if refused == at && maker.random.chance(30) => maker.at_edge(),
             Some(refused) if refused == at => maker.refused(),
             _ => maker.good(),
         });
