@@ -15,7 +15,7 @@ use Rattle.journal.specs.Limits.{mostOrders, mostBytes}
 use Rattle.journal.specs.State.{State, run, present, bytesIn}
 use Rattle.session.specs.declared.LookupTarget.{LookupTarget}
 use Rattle.session.specs.declared.LookupTarget.the-variants.{Window, Notification, Cell, Desktop}
-use Rattle.session.specs.Calls.{Call, reset, deliver, checkpoint, undo, look, Payload, nothing, body, picture, Answer, refuse, grant, overFull, without, aBody, aPicture, payloadIn, found, answer, next}
+use Rattle.session.specs.Calls.{Call, reset, deliver, checkpoint, undo, look, writeRecord, Payload, nothing, body, picture, orders, Answer, refuse, grant, overFull, without, aBody, aPicture, payloadIn, found, answer, next}
 use Rattle.model.specs.Book.{Book, newBook, makes, tableOf, bytesOf, hasRoom, joined, markMoved, lastGone, says, refuses, givesBody, givesPicture, bookNext, bookAnswer}
 
 -- ---- the book's words and the state's
@@ -112,6 +112,7 @@ answer-book (deliver o) b = rw (present-book b) (deliver-says b o (number (table
 answer-book checkpoint b = grants (markMoved b) nothing
 answer-book (undo k) b = undo-says b k
 answer-book (look target) b = ap (λ (t : Table). found (b .new) (payloadIn target t)) (present-book b) ∙ look-says b target
+answer-book writeRecord b = grants b (orders (b .new))
 
 -- ---- and what it leaves
 
@@ -141,3 +142,4 @@ next-book checkpoint b =
     ap {B = State} (λ (t : Table). record { marked = t; log = [] }) (sym (run-append emptied (b .old) (b .new)))
 next-book (undo k) b = undo-moves b k
 next-book (look target) b = refl
+next-book writeRecord b = refl

@@ -3,3 +3,4 @@ pub mod BookUpdates
 pub mod Demand3
 pub mod Wellformed
 pub mod Lossless
+pub mod Records

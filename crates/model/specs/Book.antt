@@ -12,7 +12,7 @@ use Rattle.body.specs.Bodies.{Body}
 use Rattle.table.specs.Table.{Table, emptied, number, after, recordAt, pictureAt}
 use Rattle.journal.specs.Limits.{mostOrders, mostBytes}
 use Rattle.session.specs.declared.LookupTarget.the-variants.{Window, Notification, Cell, Desktop}
-use Rattle.session.specs.Calls.{Call, reset, deliver, checkpoint, undo, look, Payload, nothing, body, picture, Answer}
+use Rattle.session.specs.Calls.{Call, reset, deliver, checkpoint, undo, look, writeRecord, Payload, nothing, body, picture, orders, Answer}
 
 -- a list of standing orders with a mark in it: those up to the mark, and those after it
 pub record Book : Type 0 where
@@ -56,6 +56,7 @@ bookNext (deliver o) b = pick (both (eqb (number (tableOf b) o) 0) (hasRoom b o)
 bookNext checkpoint b = markMoved b
 bookNext (undo k) b = pick (leb k (length (b .new))) (lastGone k b) b
 bookNext (look target) b = b
+bookNext writeRecord b = b
 
 -- the count and the bytes are those of the orders after the mark once the call is done
 abbrev pub says : ℕ → Book → Payload → Answer
@@ -83,6 +84,7 @@ bookAnswer (look (Notification w n)) b = givesBody b (recordAt (tableOf b) notif
 bookAnswer (look (Cell cache entry)) b =
     givesPicture b (pick (both (leb cache 1) (leb entry 5)) (pictureAt (tableOf b) (6 * cache + entry)) none)
 bookAnswer (look Desktop) b = says 0 b (body (tableOf b .desktop))
+bookAnswer writeRecord b = says 0 b (orders (b .new))
 
 -- over a list of calls
 unfoldable pub bookAfter : List Call → Book → Book

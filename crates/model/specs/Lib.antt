@@ -3,3 +3,4 @@ pub mod Updates
 pub mod Claim
 pub mod Wellformed
 pub mod Lossless
+pub mod Records

@@ -16,18 +16,19 @@ use Rattle.wire.proofs.Parts.{splice-start, splice-after}
 use Rattle.wire.proofs.Numbers.{length-bytes}
 use Rattle.layout.specs.Layouts.{windowSize, notificationSize, desktopSize, pictureSize}
 use Rattle.journal.specs.View.{Memory}
+use Rattle.record.specs.Layout.{mostRecord}
 use Rattle.session.specs.declared.Reply.{Reply}
 use Rattle.session.specs.declared.LookupTarget.{LookupTarget}
 use Rattle.session.specs.declared.LookupTarget.the-variants.{Window, Notification, Cell, Desktop}
-use Rattle.session.specs.Calls.{Call, reset, deliver, checkpoint, undo, look}
-use Rattle.session.specs.Outcome.{Response, lookup, replied, handed, neededFor, CallOutcome}
+use Rattle.session.specs.Calls.{Call, reset, deliver, checkpoint, undo, look, writeRecord}
+use Rattle.session.specs.Outcome.{Response, replied, handed, neededFor, CallOutcome}
 use Rattle.session.specs.Packed.{packedOf}
 use Rattle.update.specs.declared.Report.{Report}
 use Rattle.update.specs.Outcome.{UpdateOutcome}
 use Rattle.update.specs.Packed.{standingHalf, grantedHalf}
 use Rattle.model.specs.Updates.{Step, update, responds, reports}
 use Rattle.model.specs.Claim.{none, more, moreAtOnce}
-use Rattle.run.specs.Script.{targetOf, changeOf, callOf, requestOf, oneCall, limitSize, stepOf, blockLength}
+use Rattle.run.specs.Script.{targetOf, changeOf, recordKind, callOf, requestOf, oneCall, limitSize, stepOf, blockLength}
 use Rattle.run.specs.Steps.{Takes, TakesOne, Done}
 
 -- ---- numbers of 8 bytes
@@ -75,12 +76,16 @@ module _ (kind : ℕ) (arg : List ℕ) where
   unfolding callOf
   is-change l = rw (lt-ltb kind 4 l)
 
-  pub is-look : 4 ≤ kind → callOf kind arg ≡ look (targetOf kind arg)
+  pub is-record : kind ≡ recordKind → callOf kind arg ≡ writeRecord
   unfolding callOf
-  is-look l = rw (le-ltb kind 4 l)
+  is-record e = rw e
 
-  pub looks : 4 ≤ kind → {target : LookupTarget} → target ≡ targetOf kind arg → callOf kind arg ≡ look target
-  looks l e = is-look l ∙ ap look (sym e)
+  pub is-look : 4 ≤ kind → (kind ≡ recordKind → ⊥) → callOf kind arg ≡ look (targetOf kind arg)
+  unfolding callOf
+  is-look l n = rw (le-ltb kind 4 l, ne-eqb kind recordKind n)
+
+  pub looks : 4 ≤ kind → (kind ≡ recordKind → ⊥) → {target : LookupTarget} → target ≡ targetOf kind arg → callOf kind arg ≡ look target
+  looks l n e = is-look l n ∙ ap look (sym e)
 
   -- a call that changes the state hands nothing out
   pub hands-nothing : neededFor (changeOf kind arg) ≡ 0
@@ -125,24 +130,27 @@ module _ (kind : ℕ) where
   pub length-change : kind < 4 → TakesOne kind 4
   length-change l = record { takes = λ arg. ap (λ (n : ℕ). 4 + n) (sym (hands-nothing kind arg)) ∙ ap oneLength (sym (is-change kind arg l)) }
 
-  length-look : {n : ℕ} → 4 ≤ kind → ((arg : List ℕ) → n ≡ oneLength (look (targetOf kind arg))) → TakesOne kind n
-  length-look l f = record { takes = λ arg. f arg ∙ ap oneLength (sym (is-look kind arg l)) }
+  length-look : {n : ℕ} → 4 ≤ kind → (kind ≡ recordKind → ⊥) → ((arg : List ℕ) → n ≡ oneLength (look (targetOf kind arg))) → TakesOne kind n
+  length-look l r f = record { takes = λ arg. f arg ∙ ap oneLength (sym (is-look kind arg l r)) }
+
+  pub length-record : kind ≡ recordKind → TakesOne kind (4 + mostRecord)
+  length-record e = record { takes = λ arg. ap oneLength (sym (is-record kind arg e)) }
 
   pub length-window : kind ≡ 4 → TakesOne kind (4 + windowSize)
   unfolding targetOf
-  length-window e = length-look (omega (arith, e)) (λ arg. rw e)
+  length-window e = length-look (omega (arith, e)) (λ x. omega (arith, e, x)) (λ arg. rw e)
 
   pub length-notification : kind ≡ 5 → TakesOne kind (4 + notificationSize)
   unfolding targetOf
-  length-notification e = length-look (omega (arith, e)) (λ arg. rw e)
+  length-notification e = length-look (omega (arith, e)) (λ x. omega (arith, e, x)) (λ arg. rw e)
 
   pub length-cell : kind ≡ 6 → TakesOne kind (4 + pictureSize)
   unfolding targetOf
-  length-cell e = length-look (omega (arith, e)) (λ arg. rw e)
+  length-cell e = length-look (omega (arith, e)) (λ x. omega (arith, e, x)) (λ arg. rw e)
 
-  pub length-desktop : 4 ≤ kind → (kind ≡ 4 → ⊥) → (kind ≡ 5 → ⊥) → (kind ≡ 6 → ⊥) → TakesOne kind (4 + desktopSize)
+  pub length-desktop : 4 ≤ kind → (kind ≡ 4 → ⊥) → (kind ≡ 5 → ⊥) → (kind ≡ 6 → ⊥) → (kind ≡ recordKind → ⊥) → TakesOne kind (4 + desktopSize)
   unfolding targetOf
-  length-desktop l a b c = length-look l (λ arg. rw (ne-eqb kind 4 a, ne-eqb kind 5 b, ne-eqb kind 6 c))
+  length-desktop l a b c r = length-look l r (λ arg. rw (ne-eqb kind 4 a, ne-eqb kind 5 b, ne-eqb kind 6 c))
 
 -- ---- the block of a call that hands nothing out
 
@@ -162,13 +170,13 @@ change-block {r = r} {v = v} out z o l p w =
           ∙ ap (λ (x : ℕ). bytesOf 4 x ++ []) p;
     }
 
--- ---- lookups
+-- ---- calls that hand something out
 
 zeros-after : (k n : ℕ) → drop k (replicate {A = ℕ} (k + n) 0) ≡ replicate n 0
 zeros-after zero n = rw (zero-add n)
 zeros-after (suc k) n = let e : suc k + n ≡ suc (k + n) = omega arith in rw e (zeros-after k n)
 
--- the part of cleared output that a lookup is lent
+-- the part of cleared output that the call is lent
 module _ (out clear : List ℕ) (n : ℕ) (l : length out ≡ 4 + n) (cl : clear ≡ splice out 0 (replicate (length out) 0)) where
   cleared : clear ≡ replicate (4 + n) 0
   cleared =
@@ -199,17 +207,17 @@ module _ (out clear : List ℕ) (n : ℕ) (l : length out ≡ 4 + n) (cl : clear
       ∙ ap (λ (y : List ℕ). part ++ y) nothing-after ∙ append-nil part in
       w ∙ splice-start x head ∙ ap (λ (y : List ℕ). head ++ y) d
 
-pub look-block : (target : LookupTarget) {m : Memory} {r : Reply} {v : ℕ} (out clear part : List ℕ) {out' : List ℕ} → length out ≡ blockLength (oneCall (look target))
+pub handed-block : (c : Call) {m : Memory} {r : Reply} {v : ℕ} (out clear part : List ℕ) {out' : List ℕ} → length out ≡ blockLength (oneCall c)
     → clear ≡ splice out 0 (replicate (length out) 0)
-    → CallOutcome (lookup target (take (length out - 4) (drop 4 clear))) m (handed r part) m
+    → CallOutcome (record { call = c; out = take (length out - 4) (drop 4 clear) }) m (handed r part) m
     → v ≡ packedOf r
     → out' ≡ splice (take 4 clear ++ (part ++ drop (length out - 4) (drop 4 clear))) 0 (bytesOf 4 v)
-    → Done (oneCall (look target)) m m out'
-look-block target {m} {r} {v} out clear part {out'} l cl o p w =
-    let n : ℕ = neededFor (look target) in
+    → Done (oneCall c) m m out'
+handed-block c {m} {r} {v} out clear part {out'} l cl o p w =
+    let n : ℕ = neededFor c in
     record {
       said = responds (handed r part);
-      outcome = more (subst (λ (x : List ℕ). CallOutcome (lookup target x) m (handed r part) m) (lent-zeros out clear n l cl) o) none;
+      outcome = more (subst (λ (x : List ℕ). CallOutcome (record { call = c; out = x }) m (handed r part) m) (lent-zeros out clear n l cl) o) none;
       block =
           headed out clear n l cl part (bytesOf 4 v) out' (length-bytes 4 v) w
           ∙ ap (λ (x : ℕ). bytesOf 4 x ++ part) p;

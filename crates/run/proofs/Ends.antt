@@ -13,7 +13,7 @@ use Rattle.wire.specs.Tests.{pick}
 use Rattle.wire.specs.Parts.{slice}
 use Rattle.wire.specs.Numbers.{numAt}
 use Rattle.wire.proofs.Numbers.{num-drop}
-use Rattle.run.specs.Script.{stepOf, kindOf, itemLength, firstCall, blockLength, endsWith, Course, endsHere, callFirst, unlessEnds, courseFrom}
+use Rattle.run.specs.Script.{stepOf, lastKind, kindOf, itemLength, firstCall, blockLength, endsWith, Course, endsHere, callFirst, unlessEnds, courseFrom}
 use Rattle.run.specs.Steps.{Takes, endNumber}
 
 -- ---- from the number to the tests
@@ -27,12 +27,12 @@ pub record Going (s : List ℕ) (room : ℕ) : Type 0 where
 pub going : (s : List ℕ) (room : ℕ) → endNumber (endsWith s room) ≡ 255 → Going s room
 unfolding endsWith
 going s room e =
-    go (eqb (length s) 0) refl (ltb (length s) 3) refl (ltb (length s) (itemLength s)) refl (ltb 8 (kindOf s)) refl (ltb room (blockLength (firstCall s))) refl
+    go (eqb (length s) 0) refl (ltb (length s) 3) refl (ltb (length s) (itemLength s)) refl (ltb lastKind (kindOf s)) refl (ltb room (blockLength (firstCall s))) refl
   where
     not-here : {n : ℕ} → endsWith s room ≡ some n → (n ≡ 255 → ⊥) → Going s room
     not-here w x = absurd (x (sym (ap endNumber w) ∙ e))
 
-    go : (a : Bool) → eqb (length s) 0 ≡ a → (b : Bool) → ltb (length s) 3 ≡ b → (c : Bool) → ltb (length s) (itemLength s) ≡ c → (d : Bool) → ltb 8 (kindOf s) ≡ d
+    go : (a : Bool) → eqb (length s) 0 ≡ a → (b : Bool) → ltb (length s) 3 ≡ b → (c : Bool) → ltb (length s) (itemLength s) ≡ c → (d : Bool) → ltb lastKind (kindOf s) ≡ d
         → (f : Bool) → ltb room (blockLength (firstCall s)) ≡ f → Going s room
     go true p b q c r d t f u = not-here {n = 0} (rw p) (λ x. omega (arith, x))
     go false p true q c r d t f u = not-here {n = 2} (rw (p, q)) (λ x. omega (arith, x))
@@ -56,7 +56,7 @@ some-same e = ap endNumber e
 pub number-small : (s : List ℕ) (room : ℕ) → endNumber (endsWith s room) ≤ 255
 unfolding endsWith
 number-small s room =
-    go (eqb (length s) 0) (ltb (length s) 3) (ltb (length s) (itemLength s)) (ltb 8 (kindOf s)) (ltb room (blockLength (firstCall s)))
+    go (eqb (length s) 0) (ltb (length s) 3) (ltb (length s) (itemLength s)) (ltb lastKind (kindOf s)) (ltb room (blockLength (firstCall s)))
   where
     go : (a b c d e : Bool) → endNumber (pick a (some 0) (pick b (some 2) (pick c (some 3) (pick d (some 4) (pick e (some 14) none))))) ≤ 255
     go true b c d e = omega arith
@@ -135,13 +135,13 @@ module _ (s : List ℕ) (at room : ℕ) where
         whole : ltb (length rest) (itemLength rest) ≡ false
         whole = le-ltb (length rest) (itemLength rest) (omega (arith, length-drop at s, size-at s at, z, has-all))
 
-        pub ends-4 : 8 < kind → 4 ≡ endNumber (endsWith rest room)
+        pub ends-4 : lastKind < kind → 4 ≡ endNumber (endsWith rest room)
         unfolding endsWith
-        ends-4 l = rw (not-over, headed, whole, lt-ltb 8 (kindOf rest) (omega (arith, kind-at s at, k, l)))
+        ends-4 l = rw (not-over, headed, whole, lt-ltb lastKind (kindOf rest) (omega (arith, kind-at s at, k, l)))
 
-        module _ (is-known : kind ≤ 8) {block : ℕ} (b : Takes kind block) where
-          known : ltb 8 (kindOf rest) ≡ false
-          known = le-ltb 8 (kindOf rest) (omega (arith, kind-at s at, k, is-known))
+        module _ (is-known : kind ≤ lastKind) {block : ℕ} (b : Takes kind block) where
+          known : ltb lastKind (kindOf rest) ≡ false
+          known = le-ltb lastKind (kindOf rest) (omega (arith, kind-at s at, k, is-known))
 
           pub ends-14 : room < block → 14 ≡ endNumber (endsWith rest room)
           unfolding endsWith

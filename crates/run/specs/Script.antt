@@ -13,7 +13,7 @@ use Rattle.wire.specs.Numbers.{numAt, bytesOf}
 use Rattle.journal.specs.View.{Memory, Past, tooShort}
 use Rattle.session.specs.declared.LookupTarget.{LookupTarget}
 use Rattle.session.specs.declared.LookupTarget.the-variants.{Window, Notification, Cell, Desktop}
-use Rattle.session.specs.Calls.{Call, reset, deliver, checkpoint, undo, look}
+use Rattle.session.specs.Calls.{Call, reset, deliver, checkpoint, undo, look, writeRecord}
 use Rattle.session.specs.Outcome.{Request, neededFor}
 use Rattle.session.specs.Packed.{packedOf}
 use Rattle.update.specs.Packed.{standingHalf, grantedHalf}
@@ -38,10 +38,14 @@ changeOf kind arg =
     (pick (eqb kind 1) (deliver arg)
     (pick (eqb kind 2) checkpoint (undo (numAt 8 arg 0))))
 
-unfoldable pub callOf : ℕ → List ℕ → Call
-callOf kind arg = pick (ltb kind 4) (changeOf kind arg) (look (targetOf kind arg))
+-- 9: the session record is written
+abbrev pub recordKind : ℕ
+recordKind = 9
 
--- a lookup is lent zeros, which are left where it is refused
+unfoldable pub callOf : ℕ → List ℕ → Call
+callOf kind arg = pick (ltb kind 4) (changeOf kind arg) (pick (eqb kind recordKind) writeRecord (look (targetOf kind arg)))
+
+-- a call that hands something out is lent zeros, which are left where it is refused
 abbrev pub requestOf : Call → Request
 requestOf c = record { call = c; out = replicate (neededFor c) 0 }
 
@@ -55,6 +59,9 @@ limitSize = 4
 unfoldable pub stepOf : ℕ → List ℕ → Step
 stepOf kind arg = pick (eqb kind 8) (update (numAt 4 arg 0) (drop limitSize arg)) (oneCall (callOf kind arg))
 
+abbrev pub lastKind : ℕ
+lastKind = 9
+
 -- the first item of a script: its kind, its bytes in all, and its call
 abbrev pub kindOf : List ℕ → ℕ
 kindOf s = numAt 1 s 0
@@ -67,7 +74,7 @@ firstCall s = stepOf (kindOf s) (slice s 3 (numAt 2 s 1))
 
 -- ---- the answers: a block for each call, of fixed size
 
--- the packed reply (4 bytes), then what a lookup hands out; of a report what stands (4) and what was granted (4)
+-- the packed reply (4 bytes), then what is handed out, with zeros behind a record; of a report what stands (4) and what was granted (4)
 abbrev pub blockOf : Said → List ℕ
 blockOf (responds r) = bytesOf 4 (packedOf (r .reply)) ++ r .out
 blockOf (reports r) = bytesOf 4 (standingHalf r) ++ bytesOf 4 (grantedHalf r)
@@ -89,7 +96,7 @@ endsWith s room =
     pick (eqb (length s) 0) (some 0)
     (pick (ltb (length s) 3) (some 2)
     (pick (ltb (length s) (itemLength s)) (some 3)
-    (pick (ltb 8 (kindOf s)) (some 4)
+    (pick (ltb lastKind (kindOf s)) (some 4)
     (pick (ltb room (blockLength (firstCall s))) (some 14) none))))
 
 -- the calls that are done, and the number with which the run ends

@@ -4,7 +4,7 @@ ghost use Prim.Native.Nat.{_≤_};
 ghost use lib.ListN.{length, drop};
 ghost use Rattle.wire.specs.Numbers.{numAt};
 ghost use Rattle.journal.specs.View.{memory, formed, viewOf};
-ghost use Rattle.session.specs.Calls.{look};
+ghost use Rattle.session.specs.Calls.{look, writeRecord};
 ghost use Rattle.session.specs.Outcome.{replied, CallOutcome};
 ghost use Rattle.model.specs.Updates.{update};
 ghost use Rattle.model.specs.Wellformed.{emptiedState};
@@ -15,10 +15,15 @@ use protocol::WindowId;
 use session::LookupTarget;
 use session::Reply;
 
-// The last kind, a whole update: its limit, LIMIT bytes, before its own.
+// A whole update: its limit, LIMIT bytes, before its own.
 const UPDATE: u8 = 8;
 
 const LIMIT: usize = 4;
+
+// The session record written, and the last kind.
+const RECORD: u8 = 9;
+
+const LAST: u8 = 9;
 
 // The number of 8 bytes at the start; a byte past the end counts 0.
 fn read_u64(s: &[u8]) -> u64
@@ -89,6 +94,9 @@ fn single_length(kind: u8) -> usize
     if kind == 6 {
         return 4 + layout::PICTURE;
     }
+    if kind == RECORD {
+        return 4 + record::MOST;
+    }
     4 + layout::DESKTOP
 }
 
@@ -121,6 +129,38 @@ fn look_up(
     wire::write_u32(out, 0, head);
 }
 
+// The session record and its block, in a field of zeros.
+fn put_record(dir: &[u8], bodies: &[u8], cells: &[u8], journal: &[u8], out: &mut [u8])
+    requires { ⌜ length (now out) ≡ blockLength (oneCall writeRecord) ⌝ }
+    ensures { λ _. ⌜ Done (oneCall writeRecord) (memory (now (dir .entry)) (now (bodies .entry)) (now (cells .entry)) (now (journal .entry))) (memory (now (dir .entry)) (now (bodies .entry)) (now (cells .entry)) (now (journal .entry))) (now (out .exit)) ⌝ }
+{
+    let end = out.len();
+    wire::clear(out, 0, end);
+    let r = session::records::write(dir, bodies, cells, journal, &mut out[4..end]);
+    let head = session::packed::packed(r);
+    wire::write_u32(out, 0, head);
+}
+
+// A single call from kind 4 on, which hands something out, and its block.
+fn hand_out(
+    dir: &[u8],
+    bodies: &[u8],
+    cells: &[u8],
+    journal: &[u8],
+    kind: u8,
+    arg: &[u8],
+    out: &mut [u8],
+)
+    requires { ⌜ (4 ≤ kind) × (length (now out) ≡ blockLength (oneCall (callOf kind (now arg)))) ⌝ }
+    ensures { λ _. ⌜ Done (oneCall (callOf kind (now (arg .entry)))) (memory (now (dir .entry)) (now (bodies .entry)) (now (cells .entry)) (now (journal .entry))) (memory (now (dir .entry)) (now (bodies .entry)) (now (cells .entry)) (now (journal .entry))) (now (out .exit)) ⌝ }
+{
+    if kind == RECORD {
+        return put_record(dir, bodies, cells, journal, out);
+    }
+    let target = target_of(kind, arg);
+    look_up(dir, bodies, cells, journal, target, out)
+}
+
 // A single call and its block.
 fn single(
     dir: &mut [u8],
@@ -139,8 +179,7 @@ fn single(
         let head = session::packed::packed(r);
         wire::write_u32(out, 0, head);
     } else {
-        let target = target_of(kind, arg);
-        look_up(dir, bodies, cells, journal, target, out);
+        hand_out(dir, bodies, cells, journal, kind, arg, out);
     }
 }
 
@@ -213,7 +252,7 @@ fn end_at(script: &[u8], at: usize, room: usize) -> u8
     if left < 3 + size {
         return 3;
     }
-    if UPDATE < kind {
+    if LAST < kind {
         return 4;
     }
     if room < block_length(kind) {

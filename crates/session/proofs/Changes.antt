@@ -23,7 +23,7 @@ use Rattle.journal.specs.Replay.{Applied}
 use Rattle.journal.proofs.Logged.{Long, Logged, markedIn, withJournal, logged-none, logged-take, logged-within, logged-orders, logged-low, logged-high, past-counted}
 use Rattle.session.specs.declared.Reply.{Reply}
 use Rattle.session.specs.Calls.{Call, reset, checkpoint, undo, nothing, refuse, grant, answer, next, answerView, nextView}
-use Rattle.session.specs.Outcome.{plain, replied, neededFor, bytesFor, replyOf, CallOutcome}
+use Rattle.session.specs.Outcome.{plain, replied, sizeFor, bytesFor, replyOf, CallOutcome}
 use Rattle.session.proofs.Outcomes.{answer-in, next-in, refused-in, granted}
 
 abbrev pub nothingStands : Reply
@@ -34,7 +34,7 @@ nothingStands = record { number = 0; count = 0; bytes = 0 }
 module _ (m : Memory) (l : Long m) {d b k : List ℕ} (same-d : length d ≡ length (m .dir)) (same-b : length b ≡ length (m .bodies))
     (same-k : length k ≡ length (m .cells)) {j : List ℕ} (put : j ≡ splice (m .journal) 0 (bytesOf 2 0)) where
   -- with the table t at the mark
-  restarted : (c : Call) {t : Table} {r : Reply} → neededFor c ≡ 0 → bytesFor c nothing ≡ [] → markedIn (memory d b k j) ≡ t → soundTable d b k ≡ true
+  restarted : (c : Call) {t : Table} {r : Reply} → sizeFor c nothing ≡ 0 → bytesFor c nothing ≡ [] → markedIn (memory d b k j) ≡ t → soundTable d b k ≡ true
       → PastKept (m .dir) (m .bodies) (m .cells) d b k → answerView c (viewOf m) ≡ grant [] nothing
       → nextView c (viewOf m) ≡ formed (record { marked = t; log = [] }) → r ≡ nothingStands → CallOutcome (plain c) m (replied r) (memory d b k j)
   restarted c {t = t} room none table sound past a n e =

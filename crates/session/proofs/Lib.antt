@@ -4,3 +4,4 @@ pub mod Deliveries
 pub mod Changes
 pub mod Targets
 pub mod Found
+pub mod Recorded

@@ -13,7 +13,7 @@ use Rattle.journal.specs.View.{Memory, Past, tooShort, wellFormed, meetsRule, s
 use Rattle.journal.proofs.Logged.{Logged, markedIn, logged-view, logged-bytes}
 use Rattle.session.specs.declared.Reply.{Reply}
 use Rattle.session.specs.Calls.{Call, Payload, nothing, Answer, refuse, grant, isReset, answer, next, answerView, nextView}
-use Rattle.session.specs.Outcome.{Request, plain, Response, replied, handed, neededFor, bytesFor, replyOf, answerWithin, outAfter, responseOf, CallOutcome}
+use Rattle.session.specs.Outcome.{Request, plain, Response, replied, handed, sizeFor, bytesFor, replyOf, answerWithin, outAfter, responseOf, CallOutcome}
 
 -- ---- a call that leaves the memory as it is
 
@@ -75,7 +75,7 @@ module _ {m : Memory} {w : JournalExtent} {os : List (List ℕ)} (l : Logged m w
   reply-in p = rw (l .many, logged-bytes l)
 
 -- a grant that hands nothing out, by the log of the memory then
-pub granted : (c : Call) {m m' : Memory} {w : JournalExtent} {os : List (List ℕ)} {r : Reply} → neededFor c ≡ 0 → bytesFor c nothing ≡ [] → Logged m' w os
+pub granted : (c : Call) {m m' : Memory} {w : JournalExtent} {os : List (List ℕ)} {r : Reply} → sizeFor c nothing ≡ 0 → bytesFor c nothing ≡ [] → Logged m' w os
     → answerView c (viewOf m) ≡ grant os nothing → nextView c (viewOf m) ≡ formed (stateIn m' os) → r ≡ record { number = 0; count = w .count; bytes = w .end - logStart }
     → Past m m' → CallOutcome (plain c) m (replied r) m'
 unfolding responseOf answerWithin outAfter splice

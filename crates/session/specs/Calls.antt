@@ -15,19 +15,21 @@ use Rattle.journal.specs.View.{View, short, unformed, formed}
 use Rattle.session.specs.declared.LookupTarget.{LookupTarget}
 use Rattle.session.specs.declared.LookupTarget.the-variants.{Window, Notification, Cell, Desktop}
 
--- document 01's emptying, delivery, mark, step back and looking up
+-- document 01's emptying, delivery, mark, step back and looking up; writing the session record
 pub data Call : Type 0 where
   reset : Call
   deliver : List ℕ → Call
   checkpoint : Call
   undo : ℕ → Call
   look : LookupTarget → Call
+  writeRecord : Call
 
--- what a lookup hands out, raw
+-- what a call hands out, raw
 pub data Payload : Type 0 where
   nothing : Payload
   body : Body → Payload
   picture : List ℕ → Payload
+  orders : List (List ℕ) → Payload
 
 -- a granted call reports how many orders stand after the mark and their bytes
 pub record Answer : Type 0 where
@@ -72,6 +74,7 @@ abbrev pub found : List (List ℕ) → Payload → Answer
 found log nothing = refuse 9
 found log (body b) = grant log (body b)
 found log (picture p) = grant log (picture p)
+found log (orders os) = grant log (orders os)
 
 -- ---- on a state
 
@@ -83,6 +86,7 @@ answer (deliver o) s =
 answer checkpoint s = grant [] nothing
 answer (undo k) s = pick (ltb (length (s .log)) k) (refuse 13) (grant (without k (s .log)) nothing)
 answer (look target) s = found (s .log) (payloadIn target (present s))
+answer writeRecord s = grant (s .log) (orders (s .log))
 
 unfoldable pub next : Call → State → State
 next reset s = record { marked = emptied; log = [] }
@@ -91,6 +95,7 @@ next (deliver o) s =
 next checkpoint s = record { marked = present s; log = [] }
 next (undo k) s = pick (ltb (length (s .log)) k) s (record { marked = s .marked; log = without k (s .log) })
 next (look target) s = s
+next writeRecord s = s
 
 -- ---- on any memory: 1 where it is too short or not well formed, but emptying takes any that is long enough
 
@@ -100,6 +105,7 @@ isReset (deliver o) = false
 isReset checkpoint = false
 isReset (undo k) = false
 isReset (look target) = false
+isReset writeRecord = false
 
 unfoldable pub answerView : Call → View → Answer
 answerView c short = refuse 1

@@ -9,10 +9,11 @@ use Rattle.wire.specs.Parts.{splice}
 use Rattle.body.specs.Bodies.{Body, windowFields, notificationFields, desktopFields}
 use Rattle.layout.specs.Layouts.{recordBytes, pictureBytes}
 use Rattle.journal.specs.View.{Memory, Past, viewOf}
+use Rattle.record.specs.Layout.{recordOf, mostRecord}
 use Rattle.session.specs.declared.Reply.{Reply}
 use Rattle.session.specs.declared.LookupTarget.{LookupTarget}
 use Rattle.session.specs.declared.LookupTarget.the-variants.{Window, Notification, Cell, Desktop}
-use Rattle.session.specs.Calls.{Call, reset, deliver, checkpoint, undo, look, Payload, nothing, body, picture, Answer, refuse, answerView, nextView}
+use Rattle.session.specs.Calls.{Call, reset, deliver, checkpoint, undo, look, writeRecord, Payload, nothing, body, picture, orders, Answer, refuse, answerView, nextView}
 
 -- a call and the output memory lent with it: none for a call that hands nothing out
 pub record Request : Type 0 where
@@ -24,6 +25,9 @@ plain c = record { call = c; out = [] }
 
 abbrev pub lookup : LookupTarget → List ℕ → Request
 lookup target out = record { call = look target; out = out }
+
+abbrev pub recordTo : List ℕ → Request
+recordTo out = record { call = writeRecord; out = out }
 
 -- its reply, and what it leaves in that memory
 pub record Response : Type 0 where
@@ -55,14 +59,32 @@ unfoldable pub payloadBytes : LookupTarget → Payload → List ℕ
 payloadBytes target nothing = []
 payloadBytes target (body b) = layoutOf target b
 payloadBytes target (picture p) = pictureBytes p
+payloadBytes target (orders os) = []
 
--- of any call
+-- the session record of the orders handed out
+unfoldable pub sessionRecord : Payload → List ℕ
+sessionRecord nothing = []
+sessionRecord (body b) = []
+sessionRecord (picture p) = []
+sessionRecord (orders os) = recordOf os
+
+-- of any call: so many bytes are enough whatever it hands out
 abbrev pub neededFor : Call → ℕ
 neededFor reset = 0
 neededFor (deliver o) = 0
 neededFor checkpoint = 0
 neededFor (undo k) = 0
 neededFor (look target) = layoutSize target
+neededFor writeRecord = mostRecord
+
+-- so many it needs for what it hands out
+abbrev pub sizeFor : Call → Payload → ℕ
+sizeFor reset p = 0
+sizeFor (deliver o) p = 0
+sizeFor checkpoint p = 0
+sizeFor (undo k) p = 0
+sizeFor (look target) p = layoutSize target
+sizeFor writeRecord p = length (sessionRecord p)
 
 abbrev pub bytesFor : Call → Payload → List ℕ
 bytesFor reset p = []
@@ -70,15 +92,16 @@ bytesFor (deliver o) p = []
 bytesFor checkpoint p = []
 bytesFor (undo k) p = []
 bytesFor (look target) p = payloadBytes target p
+bytesFor writeRecord p = sessionRecord p
 
 -- ---- the outcome
 
 abbrev pub replyOf : Answer → Reply
 replyOf a = record { number = a .number; count = a .count; bytes = a .bytes }
 
--- 14 comes after the lookup's own numbers
+-- 14 comes after the call's own numbers
 unfoldable pub answerWithin : Call → Answer → ℕ → Answer
-answerWithin c a room = pick (both (eqb (a .number) 0) (ltb room (neededFor c))) (refuse 14) a
+answerWithin c a room = pick (both (eqb (a .number) 0) (ltb room (sizeFor c (a .payload)))) (refuse 14) a
 
 -- what is handed out stands at the start of the output memory; a refusal leaves it
 unfoldable pub outAfter : Call → Answer → List ℕ → List ℕ

@@ -7,6 +7,7 @@ use protocol::WindowId;
 pub mod calls;
 pub mod lookups;
 pub mod packed;
+pub mod records;
 mod replies;
 
 // The needed bytes of the four parts.

@@ -1,6 +1,7 @@
 -- The output is cleared, the lookup is lent what follows the first four bytes, and its reply is put there.
 use denote.Ref.{now}
-use Rattle.run.proofs.Calls.{look-block}
+use Rattle.session.specs.Calls.{look}
+use Rattle.run.proofs.Calls.{handed-block}
 use borrow.Author.Needs.{needs}
 use Rattle.run.proofs.look_up.Statement.{statement}
 use Rattle.run.proofs.look_up.Tie as tie
@@ -21,4 +22,4 @@ look-up-spec =
     let start = c .before .before .before .before .before .before .before .before .before .before .before .before .before .before .before .before .before .before in
     let cleared = c .before .before .before .before .before .before .before .before .before .before .before in
     let looked = c .before .before .before .before .before .before .before in
-    look-block (start .args .target) (now (start .args .out)) _ _ (start .pre) (cleared .clear .ensures) (looked .look .ensures) (c .before .before .before .before .packed .ensures) (c .before .before .write-u32 .ensures)))
+    handed-block (look (start .args .target)) (now (start .args .out)) _ _ (start .pre) (cleared .clear .ensures) (looked .look .ensures) (c .before .before .before .before .packed .ensures) (c .before .before .write-u32 .ensures)))

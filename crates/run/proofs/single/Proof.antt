@@ -1,9 +1,9 @@
--- By the kind: a change has a block of its reply alone, a lookup one of its own.
+-- By the kind: a change has a block of its reply alone; the others hand something out.
 use mathlib.Core.Path.{ap, _∙_}
 use denote.Ref.{now}
 use Rattle.session.specs.Calls.{Call}
 use Rattle.run.specs.Script.{oneCall, blockLength}
-use Rattle.run.proofs.Calls.{is-change, looks, hands-nothing, done-as, change-block}
+use Rattle.run.proofs.Calls.{is-change, hands-nothing, done-as, change-block}
 use borrow.Author.Needs.{needs}
 use Rattle.run.proofs.single.Statement.{statement}
 use Rattle.run.proofs.single.Tie as tie
@@ -16,9 +16,6 @@ single-spec =
     (λ c κs. search needs)
     (λ c κs. search needs)
     (λ c κs. search needs)
-    (λ c κs.  -- look-up-requires
-    let start = c .before .before .before .before .before .before .before .before .before .before .before .before .before in
-    start .pre ∙ ap (λ (x : Call). blockLength (oneCall x)) (looks _ _ (c .before .before .before .before .before .before .if1 .left) (c .before .before .before .before .before .target-of .ensures)))
     (λ c. search needs)
     (λ c. search needs)
     (λ c. search needs)
@@ -37,4 +34,4 @@ single-spec =
     (λ c. search needs)
     (λ c. search needs)
     (λ c. search needs)
-    (λ c. done-as (ap oneCall (looks _ _ (c .before .before .before .before .before .before .before .before .before .if1 .left) (c .before .before .before .before .before .before .before .before .target-of .ensures))) (c .before .before .look-up .ensures)))  -- returns-2
+    (λ c. c .before .before .hand-out .ensures))  -- returns-2

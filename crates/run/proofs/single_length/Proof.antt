@@ -1,5 +1,5 @@
--- By the kind: four bytes for the reply, and those of the layout that a lookup of the kind hands out.
-use Rattle.run.proofs.Calls.{length-change, length-window, length-notification, length-cell, length-desktop}
+-- By the kind: four bytes for the reply, and those of what a call of the kind hands out at most.
+use Rattle.run.proofs.Calls.{length-change, length-window, length-notification, length-cell, length-record, length-desktop}
 use borrow.Author.Needs.{needs}
 use Rattle.run.proofs.single_length.Statement.{statement}
 use Rattle.run.proofs.single_length.Tie as tie
@@ -16,4 +16,6 @@ single-length-spec =
     (λ c. search needs)
     (λ c. length-cell _ (c .if4 .taken))  -- returns-4
     (λ c. search needs)
-    (λ c. length-desktop _ (c .before .before .before .if1 .left) (c .before .before .if2 .left) (c .before .if3 .left) (c .if4 .left)))  -- returns-5
+    (λ c. length-record _ (c .if5 .taken))  -- returns-5
+    (λ c. search needs)
+    (λ c. length-desktop _ (c .before .before .before .before .if1 .left) (c .before .before .before .if2 .left) (c .before .before .if3 .left) (c .before .if4 .left) (c .if5 .left)))  -- returns-6
