@@ -51,7 +51,8 @@ enum rail_measure {
     RAIL_MEASURE_NOTIFICATION = 5,
     RAIL_MEASURE_DESKTOP = 6,
     RAIL_MEASURE_PICTURE = 7,
-    RAIL_MEASURE_CHUNK = 8
+    RAIL_MEASURE_CHUNK = 8,
+    RAIL_MEASURE_RECORD = 9 /* the longest session record */
 };
 
 /* ---- Limits of the table and of its history. */
@@ -90,7 +91,9 @@ enum rail_numbers {
     RAIL_TOO_MANY_STEPS = 13,  /* more steps back than stand after the mark */
     RAIL_OUTPUT_TOO_SMALL = 14, /* output memory too small */
     RAIL_CHUNK_TOO_SHORT = 15, /* chunk under 8 bytes */
-    RAIL_BAD_CHUNK = 16        /* chunk compressed, not first with nothing begun, or not what its total says */
+    RAIL_BAD_CHUNK = 16,       /* chunk compressed, not first with nothing begun, or not what its total says */
+    RAIL_RECORD_CUT = 18,      /* session record: no whole count or table of contents, or a body past the end */
+    RAIL_RECORD_DIFFERS = 19   /* session record over its limits, or not laid out as one */
 };
 
 /* ---- Answers, all in one packing: the number; where that is 0, a state call's count of orders that stand after the mark and their
@@ -121,6 +124,10 @@ static inline const char *rail_number_words(uint32_t number) {
         "chunk under 8 bytes",
         "chunk is compressed; not first with nothing begun; a total of 0 or over 17,052; a total differing from the first's; or data past the total or, in a last chunk, short of it",
     };
+    if (number == RAIL_RECORD_CUT)
+        return "fewer than 2 bytes, or than 2 plus 8 for each counted order, or an offset plus size past the end";
+    if (number == RAIL_RECORD_DIFFERS)
+        return "count over 128, sizes over 32,768 in all, offsets not those of the layout, or bytes left over";
     return number < sizeof words / sizeof words[0] ? words[number] : "no number of this library";
 }
 
@@ -189,8 +196,8 @@ uint32_t rail_desktop(const uint8_t *directory, size_t directory_size, const uin
 /* ---- A list of calls in one. Empties the state memory and does the calls of `script` on it, in turn. A call is its kind (1 byte), the
  * size of what it carries (2 bytes) and so many bytes: an order, 8 bytes of steps, a limit of 4 bytes and an update, or the ids of a lookup as
  * its function takes them, in 4 bytes each (a cell: 1 and 2 bytes). What is missing of them counts 0. Each answer takes a block of `out`: the 4
- * bytes that the call itself answers (an update: 8), and for a lookup RAIL_.._SIZE bytes more, zeros where it is refused. Numbers are
- * little-endian.
+ * bytes that the call itself answers (an update: 8), and for a lookup RAIL_.._SIZE bytes more (for the session record
+ * RAIL_RECORD_MAX), zeros where it is refused. Numbers are little-endian.
  * Answers how many calls were done and why no further one: RAIL_DONE at the end of the script; RAIL_BAD_STATE where a part is too short, and
  * then no byte is changed; before an item that is not done RAIL_TOO_SHORT (fewer than 3 bytes are left), RAIL_LENGTH_DIFFERS (it is cut),
  * RAIL_UNKNOWN_TYPE (no such kind), RAIL_OUTPUT_TOO_SMALL (`out` has no room for its block). Of these the first that applies is given; the
@@ -204,7 +211,8 @@ enum rail_call {
     RAIL_CALL_NOTIFICATION = 5,
     RAIL_CALL_CELL = 6,
     RAIL_CALL_DESKTOP = 7,
-    RAIL_CALL_UPDATE = 8
+    RAIL_CALL_UPDATE = 8,
+    RAIL_CALL_RECORD = 9 /* carries nothing; its block has RAIL_RECORD_MAX bytes, zeros behind the record */
 };
 uint64_t rail_run(uint8_t *directory, size_t directory_size, uint8_t *bodies, size_t bodies_size,
                   uint8_t *cells, size_t cells_size, uint8_t *journal, size_t journal_size,
@@ -229,6 +237,7 @@ uint32_t rail_pdu_write(const uint32_t words[12], const uint8_t *strings, size_t
 #endif
 
 #include "rail/chunk.h"
+#include "rail/session_record.h"
 #include "rail/messages.h"
 #include "rail/records.h"
 #include "rail/orders.h"

@@ -69,6 +69,7 @@ void test_decoders(void);
 void test_reading(void);
 void test_writing(void);
 void test_chunks(void);
+void test_session_record(void);
 void test_script(void);
 void test_updates(void);
 void test_stack(void);

@@ -185,6 +185,7 @@ int main(void) {
     test_reading();
     test_writing();
     test_chunks();
+    test_session_record();
     test_script();
     test_updates();
     test_stack();

@@ -204,4 +204,7 @@ void test_decoders(void) {
     CHECK(strcmp(rail_number_words(RAIL_BAD_CHUNK), rail_number_words(17)) != 0);
     CHECK(strcmp(rail_number_words(RAIL_FLAGS_CLASH), "order flags clash") == 0);
     CHECK(strcmp(rail_number_words(17), rail_number_words(UINT32_MAX)) == 0);
+    CHECK(strcmp(rail_number_words(RAIL_RECORD_CUT), rail_number_words(17)) != 0);
+    CHECK(strcmp(rail_number_words(RAIL_RECORD_DIFFERS), rail_number_words(17)) != 0);
+    CHECK(strcmp(rail_number_words(20), rail_number_words(17)) == 0);
 }

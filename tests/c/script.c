@@ -3,7 +3,7 @@
 
 #include <string.h>
 
-static uint8_t script[4096], expected[16384];
+static uint8_t script[4096], expected[16384 + 2 * RAIL_RECORD_MAX];
 static size_t script_size, expected_size, calls;
 
 /* The block of a call that was answered so, with `size` bytes for a record. */
@@ -83,6 +83,12 @@ static void add_update(uint8_t limit) {
     add(RAIL_CALL_UPDATE, arg, sizeof arg);
 }
 
+static void add_record(void) {
+    uint8_t *const record = block(0, RAIL_RECORD_MAX);
+    answered(record, rail_record_write(NOW, record, RAIL_RECORD_MAX));
+    add(RAIL_CALL_RECORD, script, 0);
+}
+
 static void add_calls(void) {
     begin_window(WINDOW_ORDER_STATE_NEW | WINDOW_ORDER_FIELD_TITLE, 7);
     put_string(40, 0x41);
@@ -105,6 +111,7 @@ static void add_calls(void) {
     put32(7);
     add_order();
     add_desktop();
+    add_record();
     add_undo(1, 0);
     add_undo(1, 1); /* 13: more than 32 bits of steps */
     add_desktop();
@@ -151,7 +158,7 @@ void test_script(void) {
     /* an emptying, and then an item that is no call: less than its head, cut, of an unknown kind, and in this order */
     add(RAIL_CALL_RESET, script, 0);
     add(RAIL_CALL_WINDOW, script, 0);
-    script[script_size] = RAIL_CALL_UPDATE + 1;
+    script[script_size] = RAIL_CALL_RECORD + 1;
     script[script_size + 1] = script[script_size + 2] = 0;
     CHECK(ends(rail_run(OTHER, RAIL_JOURNAL_SIZE, script, script_size + 2, out, sizeof out), RAIL_TOO_SHORT, calls));
     CHECK(ends(rail_run(OTHER, RAIL_JOURNAL_SIZE, script, script_size + 3, out, sizeof out), RAIL_UNKNOWN_TYPE, calls));

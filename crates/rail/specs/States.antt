@@ -7,14 +7,16 @@ use Rattle.layout.specs.Layouts.{windowSize, notificationSize, desktopSize, pic
 use Rattle.chunk.specs.Memory.{memorySize}
 use Rattle.journal.specs.Limits.{indexLength, bodiesLength, cellsLength, journalLength}
 use Rattle.journal.specs.View.{Memory, viewOf, Past}
+use Rattle.record.specs.Layout.{mostRecord}
 use Rattle.session.specs.Calls.{answerView, nextView}
 use Rattle.session.specs.Outcome.{Request, Response, responseOf}
 use Rattle.session.specs.Packed.{packedOf}
 
--- the bytes of the four parts, of the three records, of a picture, and of the chunk memory
+-- the bytes of the four parts, of the three records, of a picture, of the chunk memory, and of the longest session record
 abbrev pub sizes : List ℕ
 sizes =
-    indexLength ∷ bodiesLength ∷ cellsLength ∷ journalLength ∷ windowSize ∷ notificationSize ∷ desktopSize ∷ pictureSize ∷ memorySize ∷ []
+    indexLength ∷ bodiesLength ∷ cellsLength ∷ journalLength ∷ windowSize ∷ notificationSize ∷ desktopSize ∷ pictureSize ∷ memorySize
+    ∷ mostRecord ∷ []
 
 unfoldable pub sizeOf : ℕ → ℕ
 sizeOf what = getD sizes what 0

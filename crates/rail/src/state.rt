@@ -13,7 +13,7 @@ use session::calls;
 use session::lookups::look;
 use session::packed::packed;
 
-// The bytes of a part of the state memory, of a record, or of the chunk memory.
+// The bytes of a part of the state memory, of a record, of the chunk memory, or of the longest session record.
 #[no_mangle]
 pub extern "C" fn rail_size(what: u32) -> u32
     ensures { λ r. ⌜ r ≡ sizeOf what ⌝ }
@@ -28,6 +28,7 @@ pub extern "C" fn rail_size(what: u32) -> u32
         6 => layout::DESKTOP as u32,
         7 => layout::PICTURE as u32,
         8 => chunk::MEMORY as u32,
+        9 => record::MOST as u32,
         _ => 0,
     }
 }

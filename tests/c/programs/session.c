@@ -139,6 +139,48 @@ static int run_update(const struct item *item) {
     return 1;
 }
 
+/* O: the record in memory of the size that the item names. Whether the run goes on. */
+static int run_record(const struct item *item) {
+    static uint8_t record[65535];
+    const size_t size = rail_get16(item->payload);
+    uint32_t answer;
+    size_t length, i;
+    memset(record, 0xEE, sizeof record);
+    answer = rail_record_write(LENT, record, size);
+    memcpy(lent, whole, sizeof lent);
+    length = rail_record_length(answer);
+    for (i = length; i < sizeof record; i++)
+        if (record[i] != 0xEE)
+            break;
+    if (changed(4) || length > size || i < sizeof record) {
+        puts("memory changed");
+        return 0;
+    }
+    printf("O %u", rail_number(answer));
+    if (rail_number(answer) == RAIL_DONE) {
+        printf(" %u %u", rail_count(answer), rail_bytes(answer));
+        print_hex(" ", record, length);
+    }
+    putchar('\n');
+    return 1;
+}
+
+/* V: a record read. No state memory is lent. */
+static int run_read(const struct item *item) {
+    const uint32_t answer = rail_record_check(item->payload, item->size);
+    uint32_t i;
+    printf("V %u", rail_number(answer));
+    if (rail_number(answer) == RAIL_DONE) {
+        printf(" %u bodies=", rail_count(answer));
+        for (i = 0; i < rail_count(answer); i++) {
+            const uint32_t place = rail_record_body(item->payload, item->size, i);
+            print_hex(i == 0 ? "" : ",", item->payload + rail_record_offset(place), rail_record_size(place));
+        }
+    }
+    putchar('\n');
+    return 1;
+}
+
 static void print_found(const struct item *item) {
     const uint8_t *p = item->payload;
     switch (item->kind) {
@@ -175,6 +217,10 @@ static int run(const struct item *item) {
     before = state;
     if (item->kind == 'U')
         return run_update(item);
+    if (item->kind == 'O')
+        return run_record(item);
+    if (item->kind == 'V')
+        return run_read(item);
     memset(out, 0xEE, sizeof out);
     answer = call(item, &record);
     memcpy(lent, whole, sizeof lent);
@@ -193,10 +239,10 @@ static int run(const struct item *item) {
 
 /* The item's kind and length are listed. */
 static int listed(const struct item *item) {
-    static const char kinds[] = "EMBWNCSTX";
-    static const size_t sizes[] = {0, 0, 4, 4, 8, 3, 0, 3, 6};
+    static const char kinds[] = "EMBWNCSTXO";
+    static const size_t sizes[] = {0, 0, 4, 4, 8, 3, 0, 3, 6, 2};
     const char *kind = item->kind == '\0' ? NULL : strchr(kinds, item->kind);
-    return item->kind == 'D' || (item->kind == 'U' && item->size >= 4) || (kind != NULL && sizes[kind - kinds] == item->size);
+    return item->kind == 'D' || item->kind == 'V' || (item->kind == 'U' && item->size >= 4) || (kind != NULL && sizes[kind - kinds] == item->size);
 }
 
 int main(void) {
