@@ -110,6 +110,11 @@ impl Book {
         }
     }
 
+    /// The orders after the mark.
+    pub fn orders(&self) -> &[Vec<u8>] {
+        &self.after_mark
+    }
+
     /// The table that the standing orders make.
     pub fn table(&self) -> &Table {
         &self.table

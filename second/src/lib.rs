@@ -2,8 +2,8 @@
 //! as a second program, so that another one can be compared with it.
 //!
 //! [`pdu`] reads and writes control messages. [`order`] judges window orders,
-//! [`table`] is what they change, [`book`] keeps a list of them with a mark, and
-//! [`update`] delivers many at once.
+//! [`table`] is what they change, [`book`] keeps a list of them with a mark,
+//! [`update`] delivers many at once, and [`record`] is the session record of those after the mark.
 //! The other modules drive these: [`script`] runs call scripts, [`generate`] makes
 //! them, [`coverage`] tells what they reach, [`compare`] runs another program on
 //! them, [`fault`] has it meet faults in its memory, [`hex`] turns hand-written text
@@ -23,6 +23,7 @@ pub mod number;
 pub mod order;
 pub mod pdu;
 mod program;
+pub mod record;
 pub mod script;
 pub mod support;
 pub mod table;

@@ -55,6 +55,14 @@ usage:
       with --hex a text of hex with comments): each order is delivered, and after each
       that changes the table all windows, notification icons and the desktop state are
       looked up.
+  second record < script > record
+      Runs a script of state calls and writes the session record of the orders that
+      then stand after the mark.
+  second list-record [--after SCRIPT] < record
+      Lists a session record, a line for each order: its offset and size, the number
+      that it gets when all are delivered in turn, its kind, ids and flags. They are
+      delivered to an emptied state, or with --after to the one that SCRIPT leaves,
+      with a mark at its end. A refused record is told on standard error, status 1.
   second explain SCRIPT < output
       Tells what a session script asked and what was answered, in words: refusals by
       document 01's conditions, orders by their fields, titles as text. `output` is
@@ -117,6 +125,9 @@ fn dispatch(arguments: &[&str]) -> Result<ExitCode, String> {
         ["hex-session"] => print_script(script::session::KINDS),
         ["update-to-script"] => print(&support::import::script(&input()?)),
         ["update-to-script", "--hex"] => print(&support::import::script(&hex_input()?)),
+        ["record"] => print(&support::record::of_script(&input()?)?),
+        ["list-record"] => list_record(&[]),
+        ["list-record", "--after", script] => list_record(&file(script)?),
         ["explain", script] => explain(script),
         ["--help"] | ["-h"] => print(HELP.as_bytes()),
         _ => Err("unknown arguments, see --help".into()),
@@ -165,8 +176,22 @@ fn hex_input() -> Result<Vec<u8>, String> {
     Ok(bytes)
 }
 
+fn file(name: &str) -> Result<Vec<u8>, String> {
+    std::fs::read(name).map_err(|fault| format!("{name}: {fault}"))
+}
+
+fn list_record(before: &[u8]) -> Result<ExitCode, String> {
+    match support::record::list(&input()?, before) {
+        Ok(text) => print(text.as_bytes()),
+        Err(fault) => {
+            eprintln!("second: {fault}");
+            Ok(ExitCode::from(1))
+        }
+    }
+}
+
 fn explain(script: &str) -> Result<ExitCode, String> {
-    let bytes = std::fs::read(script).map_err(|fault| format!("{script}: {fault}"))?;
+    let bytes = file(script)?;
     let output = String::from_utf8(input()?).map_err(|_| "input: not a text")?;
     let text = support::explain::explain(&bytes, &output)?;
     print(text.as_bytes())

@@ -2,6 +2,7 @@
 use crate::batch;
 use crate::faults;
 use crate::faults::Lack;
+use crate::records;
 use crate::show;
 ghost use Prim.Native.Nat.{_≤_};
 ghost use lib.ListN.{length};
@@ -61,8 +62,9 @@ fn is_listed(kind: u8, len: usize) -> bool {
         b'N' => len == 8,
         b'C' | b'T' => len == 3,
         b'X' => len == 6,
-        b'D' => true,
+        b'D' | b'V' => true,
         b'U' => batch::is_listed(len),
+        b'O' => len == 2,
         _ => false,
     }
 }
@@ -182,6 +184,17 @@ fn lent_call(
     let b = faults::lent(1, bodies.len(), lack);
     let c = faults::lent(2, cells.len(), lack);
     let j = faults::lent(3, journal.len(), lack);
+    if kind == b'O' {
+        let on = records::write_call(
+            &dir[0..d],
+            &bodies[0..b],
+            &cells[0..c],
+            &journal[0..j],
+            s,
+            out,
+        );
+        return ended(on);
+    }
     let n = call(
         &mut dir[0..d],
         &mut bodies[0..b],
@@ -240,6 +253,12 @@ fn fault(
     bad_item()
 }
 
+// V: no state memory is lent, so the next call still lacks what it lacked.
+fn read_record(s: &[u8], out: &mut [u8], lack: Lack) -> Turn {
+    let on = records::read_call(s, out);
+    Turn { on, lack }
+}
+
 // Runs an item.
 fn run_item(
     dir: &mut [u8],
@@ -254,6 +273,7 @@ fn run_item(
     match kind {
         b'T' => shorten(s),
         b'X' => fault(dir, bodies, cells, journal, s, lack),
+        b'V' => read_record(s, out, lack),
         _ => lent_call(dir, bodies, cells, journal, kind, s, out, lack),
     }
 }

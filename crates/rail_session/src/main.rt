@@ -2,6 +2,7 @@
 mod batch;
 mod faults;
 mod item;
+mod records;
 mod show;
 
 // A proved loop has to end, and nothing says that the input does: the items are counted down from
@@ -33,7 +34,7 @@ fn main() {
     let mut cells = [0xEEu8; session::CELLS];
     let mut journal = [0xEEu8; session::JOURNAL];
     let mut payload = [0u8; 65535];
-    let mut out = [0u8; 16384];
+    let mut out = [0u8; 69632];
     run(
         &mut dir,
         &mut bodies,

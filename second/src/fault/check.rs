@@ -3,7 +3,8 @@
 use super::Met;
 use crate::compare::{difference, item_text, line_text};
 use crate::generate::fault::Faulty;
-use crate::number::{ROOM_PASSED, STATE_UNFIT, TOO_MANY_STEPS, WRONG_ID};
+use crate::number::{OUTPUT_TOO_SMALL, ROOM_PASSED, STATE_UNFIT, TOO_MANY_STEPS, WRONG_ID};
+use crate::record;
 use crate::script::parts::Parts;
 use crate::script::session::{call, run, Call, SILENT};
 use crate::script::take_item;
@@ -51,7 +52,10 @@ fn check_each<'a>(
             continue;
         }
         let line = lines.next();
-        let is_short = std::mem::take(&mut is_short);
+        let is_short = match call {
+            Call::ReadRecord(_) => false,
+            _ => std::mem::take(&mut is_short),
+        };
         let number = line
             .and_then(|line| number(line, item.kind))
             .filter(|&number| may_answer(&call, number, is_short))
@@ -114,6 +118,8 @@ fn may_answer(call: &Call<'_>, number: u8, is_short: bool) -> bool {
         Call::Window(_) | Call::Icon(..) | Call::Cell(_) => {
             [0, STATE_UNFIT, WRONG_ID].contains(&number)
         }
+        Call::WriteRecord(_) => [0, STATE_UNFIT, OUTPUT_TOO_SMALL].contains(&number),
+        Call::ReadRecord(bytes) => number == record::read(bytes).err().unwrap_or(0),
         Call::Shorten | Call::Fault => false,
     }
 }

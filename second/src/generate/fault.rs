@@ -39,7 +39,9 @@ pub fn script(seed: u64, items: usize, parts: &Parts) -> Faulty {
         if call == Call::Empty && !is_short {
             strewer.standing.clear();
         }
-        is_short = call == Call::Shorten;
+        if !matches!(call, Call::ReadRecord(_)) {
+            is_short = call == Call::Shorten;
+        }
         if strewer.random.below(FAULT_EVERY) == 0 {
             push_item(&mut script, b'X', &strewer.fault());
         }
@@ -53,8 +55,8 @@ pub fn script(seed: u64, items: usize, parts: &Parts) -> Faulty {
     Faulty { script, last_part }
 }
 
-/// The items of a script up to a bad one, less a last `T`, which would make the
-/// call after them too short.
+/// The items of a script up to a bad one, less a last `T` that still waits for its
+/// call, which would make the call after them too short.
 fn good_items<'a>(script: &'a [u8], parts: &Parts) -> Vec<(Item<'a>, Call<'a>)> {
     let mut items = Vec::new();
     let mut rest = script;
@@ -63,7 +65,12 @@ fn good_items<'a>(script: &'a [u8], parts: &Parts) -> Vec<(Item<'a>, Call<'a>)> 
         items.push((item, call));
         rest = tail;
     }
-    while items.last().is_some_and(|&(_, call)| call == Call::Shorten) {
+    let is_waiting = |items: &[(Item<'_>, Call<'_>)]| {
+        let mut last = items.iter().rev().map(|&(_, call)| call);
+        let call = last.find(|call| !matches!(call, Call::ReadRecord(_) | Call::Fault));
+        call == Some(Call::Shorten)
+    };
+    while is_waiting(&items) {
         items.pop();
     }
     items

@@ -4,16 +4,18 @@ use std::io;
 
 use super::lookup::push_found;
 use super::parts::Parts;
+use super::print::push_hex;
 pub use super::End;
 use super::{take_item, Item};
 use crate::book::Book;
 use crate::ids::{NotifyIconId, WindowId};
-use crate::number::STATE_UNFIT;
+use crate::number::{OUTPUT_TOO_SMALL, STATE_UNFIT};
 use crate::order::CellPlace;
+use crate::record;
 use crate::update::{self, Report};
 
 /// The kinds of items.
-pub const KINDS: &[u8] = b"EDUMBWNCSTX";
+pub const KINDS: &[u8] = b"EDUMBWNCSOVTX";
 
 /// The kinds of items that print nothing.
 pub const SILENT: &[u8] = b"TX";
@@ -39,6 +41,10 @@ pub enum Call<'a> {
     Cell(CellPlace),
     /// The desktop state is looked up.
     Desktop,
+    /// The session record is written to so many bytes of output memory.
+    WriteRecord(u16),
+    /// A session record is read.
+    ReadRecord(&'a [u8]),
     /// No call: the next one is lent memory that is too short.
     Shorten,
     /// No call: a byte of the memory changes.
@@ -66,6 +72,8 @@ pub fn call<'a>(item: Item<'a>, parts: &Parts) -> Option<Call<'a>> {
             entry: u16::from_le_bytes([low, high]),
         }),
         (b'S', []) => Call::Desktop,
+        (b'O', &[low, high]) => Call::WriteRecord(u16::from_le_bytes([low, high])),
+        (b'V', record) => Call::ReadRecord(record),
         (b'T', &[part, low, high]) if parts.can_lack(part, u16::from_le_bytes([low, high])) => {
             Call::Shorten
         }
@@ -94,6 +102,10 @@ impl Session {
             self.short |= *call == Call::Shorten;
             return None;
         }
+        if let Call::ReadRecord(bytes) = call {
+            // no state memory is lent: the call that lacks some is still to come
+            return Some(record::read(bytes).err().unwrap_or(0));
+        }
         if std::mem::take(&mut self.short) {
             return Some(STATE_UNFIT);
         }
@@ -115,7 +127,12 @@ impl Session {
             Call::Window(id) => self.book.window(id).map(drop)?,
             Call::Icon(window, icon) => self.book.icon(window, icon).map(drop)?,
             Call::Cell(place) => self.book.cell(place).map(drop)?,
-            Call::Desktop | Call::Shorten | Call::Fault => {}
+            Call::WriteRecord(room) => {
+                if record::write(self.book.orders()).len() > usize::from(room) {
+                    return Err(OUTPUT_TOO_SMALL);
+                }
+            }
+            Call::Desktop | Call::ReadRecord(_) | Call::Shorten | Call::Fault => {}
         }
         Ok(())
     }
@@ -138,6 +155,9 @@ impl Session {
         if number == STATE_UNFIT || number != 0 && !is_update {
             return;
         }
+        if let Call::ReadRecord(bytes) = call {
+            return push_bodies(line, bytes);
+        }
         if is_update {
             let granted = format!(" {} {}", self.report.orders, self.report.bytes);
             line.extend_from_slice(granted.as_bytes());
@@ -145,7 +165,23 @@ impl Session {
         let standing = self.book.standing();
         let counts = format!(" {} {}", standing.orders, standing.bytes);
         line.extend_from_slice(counts.as_bytes());
+        if let Call::WriteRecord(_) = call {
+            line.push(b' ');
+            push_hex(line, &record::write(self.book.orders()));
+        }
         push_found(line, self.book.table(), call);
+    }
+}
+
+/// Adds how many bodies a granted record has, and the bodies.
+fn push_bodies(line: &mut Vec<u8>, bytes: &[u8]) {
+    let bodies = record::read(bytes).unwrap_or_default();
+    line.extend_from_slice(format!(" {} bodies=", bodies.len()).as_bytes());
+    for (index, body) in bodies.iter().enumerate() {
+        if index > 0 {
+            line.push(b',');
+        }
+        push_hex(line, body);
     }
 }
 

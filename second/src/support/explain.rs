@@ -44,7 +44,7 @@ pub fn explain(script: &[u8], output: &str) -> Result<String, String> {
             .and_then(|(_, line)| line.strip_prefix(char::from(kind))?.strip_prefix(' '))
             .and_then(|line| match call {
                 Call::Update(..) => reported(line),
-                _ => answered(line),
+                _ => answered(&call, line),
             });
         match answer {
             Some(answer) => text += &format!("    {answer}{}\n", why(&call, &answer)),
@@ -93,6 +93,8 @@ fn asked(call: &Call<'_>) -> String {
         Call::Icon(window, icon) => format!("look up notification icon {}/{}", window.0, icon.0),
         Call::Cell(place) => format!("look up cell {}/{}", place.cache, place.entry),
         Call::Desktop => "look up the desktop".into(),
+        Call::WriteRecord(room) => format!("write the session record to {room} bytes"),
+        Call::ReadRecord(record) => format!("read a session record of {} bytes", record.len()),
         Call::Shorten => "lend the next call too little".into(),
         Call::Fault => "change a byte of the state memory".into(),
     }
@@ -132,15 +134,25 @@ fn reported(line: &str) -> Option<String> {
 }
 
 /// An answer from its number on; none where it is no answer.
-fn answered(line: &str) -> Option<String> {
+fn answered(call: &Call<'_>, line: &str) -> Option<String> {
     let mut words = line.split(' ');
     let number: u8 = words.next()?.parse().ok()?;
     if number != 0 {
         let text = format!("refused, {number}: {}", condition(number));
-        return (words.next().is_none() && number <= 14).then_some(text);
+        let is_known = matches!(number, 1..=14 | 18 | 19);
+        return (words.next().is_none() && is_known).then_some(text);
+    }
+    if let Call::ReadRecord(_) = call {
+        let bodies: u32 = words.next()?.parse().ok()?;
+        return (words.count() == 1).then(|| format!("done; {bodies} orders"));
     }
     let orders: u32 = words.next()?.parse().ok()?;
     let bytes: u32 = words.next()?.parse().ok()?;
+    if let Call::WriteRecord(_) = call {
+        let record = hex::bytes(words.next()?.as_bytes()).ok()?;
+        let told = format!("done; {orders} orders, {bytes} bytes after the mark");
+        return Some(format!("{told}, a record of {} bytes", record.len()));
+    }
     let fields: Vec<String> = words.map(field).collect::<Option<_>>()?;
     if fields.is_empty() {
         return Some(format!(

@@ -1,9 +1,10 @@
-//! For those who look at a case: a raw update made a script, answers told in words,
-//! and what is wrong with an input that is no script.
+//! For those who look at a case: a raw update made a script, answers told in words, a
+//! session record made and listed, and what is wrong with an input that is no script.
 
 pub mod explain;
 pub mod import;
 mod order;
+pub mod record;
 mod unfit;
 mod words;
 

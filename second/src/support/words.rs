@@ -21,6 +21,14 @@ pub fn condition(number: u8) -> &'static str {
         12 => "history room would be passed",
         13 => "more steps back than stand after the mark",
         14 => "output memory too small",
+        18 => {
+            "fewer than 2 bytes, or than 2 plus 8 for each counted order, or an offset \
+             plus size past the end"
+        }
+        19 => {
+            "count over 128, sizes over 32,768 in all, offsets not those of the layout, \
+             or bytes left over"
+        }
         _ => "no number of document 01",
     }
 }

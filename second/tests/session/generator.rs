@@ -102,7 +102,7 @@ fn bad_ends_differ() {
 
 #[test]
 fn nothing_expected_is_missing() {
-    assert_eq!(of_seeds(0, 149, 300).missing(), Vec::<&str>::new());
+    assert_eq!(of_seeds(0, 199, 300).missing(), Vec::<&str>::new());
 }
 
 #[test]

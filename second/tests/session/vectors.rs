@@ -28,6 +28,11 @@ fn public_document() {
 }
 
 #[test]
+fn session_record() {
+    check(include_str!("../../vectors/session-record.txt"), 32);
+}
+
+#[test]
 fn demo() {
     check(include_str!("../../vectors/session.txt"), 23);
 }

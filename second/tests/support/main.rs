@@ -238,7 +238,7 @@ fn explaining_by_command_line() {
 fn unfit_input_is_named() {
     let usage = "usage: second session < script (second --help)\n";
     for (input, fault) in [
-        (&update()[..], "item 1, at byte 0: 2E is no kind of item (E D U M B W N C S T X). It may be a raw update: second update-to-script makes a script of it"),
+        (&update()[..], "item 1, at byte 0: 2E is no kind of item (E D U M B W N C S O V T X). It may be a raw update: second update-to-script makes a script of it"),
         (b"M\0\0M\x01", "item 2, at byte 3: item M is cut"),
         (b"M\0\0B\x02\0\x01\0", "item 2, at byte 3: item B cannot carry these 2 bytes"),
     ] {
@@ -299,4 +299,79 @@ fn the_documents_lines_are_told() {
     for line in shown {
         assert!(told.lines().any(|told| told == line), "{line}");
     }
+}
+
+/// A script with a mark in it: a window; then its show state and a desktop order.
+fn script_with_mark() -> Vec<u8> {
+    let mut script = Vec::new();
+    let mut add = |kind, payload: &[u8]| second::script::push_item(&mut script, kind, payload);
+    add(b'D', &hex("2E0F0004000011 58000100 0200 4100"));
+    add(b'M', &[]);
+    add(b'D', &hex("2E0C0010000001 58000100 05"));
+    add(b'D', &hex("2E070002000004"));
+    script
+}
+
+#[test]
+fn a_record_of_a_script_is_listed() {
+    let record = second(&["record"], &script_with_mark());
+    assert!(record.status.success());
+    let head = "0200 12000000 0C000000 1E000000 07000000";
+    let bodies = "2E0C0010000001 58000100 05 2E070002000004";
+    assert_eq!(record.stdout, hex(&format!("{head} {bodies}")));
+
+    // delivered to an emptied state, the window is not there
+    let listed = second(&["list-record"], &record.stdout);
+    assert_eq!(
+        String::from_utf8(listed.stdout).unwrap(),
+        "order offset size number kind ids flags\n\
+         1 18 12 9 window 65624 WINDOW_ORDER_TYPE_WINDOW|WINDOW_ORDER_FIELD_SHOW\n\
+         2 30 7 0 desktop - WINDOW_ORDER_TYPE_DESKTOP|WINDOW_ORDER_FIELD_DESKTOP_HOOKED\n"
+    );
+
+    // to the state at the mark it is
+    let before = std::env::temp_dir().join(format!("second-record-{}", std::process::id()));
+    fs::write(&before, &script_with_mark()[..18]).unwrap();
+    let listed = second(
+        &["list-record", "--after", before.to_str().unwrap()],
+        &record.stdout,
+    );
+    fs::remove_file(&before).unwrap();
+    let text = String::from_utf8(listed.stdout).unwrap();
+    assert!(
+        text.lines()
+            .nth(1)
+            .unwrap()
+            .starts_with("1 18 12 0 window 65624 "),
+        "{text}"
+    );
+}
+
+#[test]
+fn a_refused_record_is_told() {
+    let listed = second(&["list-record"], &[1, 0]);
+    assert_eq!(listed.status.code(), Some(1));
+    assert!(listed.stdout.is_empty());
+    let text = String::from_utf8(listed.stderr).unwrap();
+    assert!(
+        text.starts_with("second: refused, 18: fewer than 2 bytes"),
+        "{text}"
+    );
+}
+
+#[test]
+fn bodies_that_are_no_orders_are_listed() {
+    let record = hex("0300 1A000000 00000000 1A000000 07000000 21000000 0F000000 2E070000000003 2E0F00FFFFFF02 01000000 02000000");
+    let listed = second(&["list-record"], &record);
+    let text = String::from_utf8(listed.stdout).unwrap();
+    let lines: Vec<&str> = text.lines().collect();
+    assert_eq!(lines[1], "1 26 0 2 unknown - -");
+    assert_eq!(
+        lines[2],
+        "2 26 7 4 unknown - WINDOW_ORDER_TYPE_WINDOW|WINDOW_ORDER_TYPE_NOTIFY"
+    );
+    let names = "WINDOW_ORDER_TYPE_NOTIFY|WINDOW_ORDER_FIELD_NOTIFY_VERSION|\
+                 WINDOW_ORDER_FIELD_NOTIFY_TIP|WINDOW_ORDER_FIELD_NOTIFY_INFO_TIP|\
+                 WINDOW_ORDER_FIELD_NOTIFY_STATE|00FFFFF0";
+    assert_eq!(lines[3], format!("3 33 15 5 notification 1/2 {names}"));
 }

@@ -3,7 +3,7 @@
 use crate::coverage::order::expected as order;
 
 /// The calls with the numbers that each can meet.
-const CALLS: [(char, &[u8]); 9] = [
+const CALLS: [(char, &[u8]); 11] = [
     ('E', &[0, 1]),
     ('D', &[0, 1, 2, 3, 4, 5, 6, 7, 8, 9, 10, 11, 12]),
     ('U', &[0, 1, 2, 3, 4, 5, 6, 7, 8, 9, 10, 11, 12]),
@@ -13,6 +13,8 @@ const CALLS: [(char, &[u8]); 9] = [
     ('N', &[0, 1, 9]),
     ('C', &[0, 1, 9]),
     ('S', &[0, 1]),
+    ('O', &[0, 1, 14]),
+    ('V', &[0, 18, 19]),
 ];
 
 /// The sorts of orders that pass the room of the history.
@@ -64,6 +66,30 @@ const SINGLE: [&str; 25] = [
 pub const OFFSETS: [&str; 4] = ["client", "offset", "delta", "visible"];
 pub const FAR: [i32; 4] = [i32::MIN, i32::MAX, -1, -100];
 
+/// Facts of session records.
+const RECORDS: [&str; 20] = [
+    "O exact 0",
+    "O one short 14",
+    "O short 14",
+    "O more 0",
+    "V no count 18",
+    "V no contents 18",
+    "V count=0 0",
+    "V count=1 0",
+    "V count=127 0",
+    "V count=128 0",
+    "V count=129 19",
+    "V count=129 18",
+    "V count=65535 18",
+    "V bytes=0 0",
+    "V bytes=32768 0",
+    "V bytes=32769 19",
+    "V past the end 18",
+    "V wraps 18",
+    "V misplaced 19",
+    "V left over 19",
+];
+
 /// All expected facts.
 pub fn facts() -> Vec<String> {
     let mut facts = order::calls(&CALLS);
@@ -75,5 +101,7 @@ pub fn facts() -> Vec<String> {
             facts.extend(["x", "y"].map(|axis| format!("W {name} {axis}={far} 0")));
         }
     }
+
+    facts.extend(RECORDS.map(String::from));
     facts
 }

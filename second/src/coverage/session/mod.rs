@@ -1,12 +1,14 @@
 //! What generated scripts of state calls reach.
 
 mod expected;
+mod records;
 
 use super::order::{Listed, Room};
 use super::Facts;
 use crate::book::{Standing, BYTES_ROOM, ORDERS_ROOM};
 use crate::generate;
 use crate::number::{ROOM_PASSED, STATE_UNFIT};
+use crate::record;
 use crate::script::parts::Parts;
 use crate::script::session::{call, Call, Session};
 use crate::script::take_item;
@@ -70,6 +72,11 @@ impl Coverage {
             (Call::Window(id), _) if number == 0 => {
                 self.add_offsets(session.book().table().window(*id));
             }
+            (Call::WriteRecord(room), _) => {
+                let needed = record::write(session.book().orders()).len();
+                self.facts.add_written(usize::from(*room), needed, number);
+            }
+            (Call::ReadRecord(bytes), _) => self.facts.add_read(bytes, number),
             _ => {}
         }
     }

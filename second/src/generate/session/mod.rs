@@ -5,6 +5,7 @@ mod draft;
 mod faults;
 mod good;
 mod pair;
+mod records;
 mod slot;
 mod updates;
 
@@ -15,6 +16,7 @@ use slot::{pool_icon_id, pool_id};
 use super::random::Random;
 use crate::book::{BYTES_ROOM, ORDERS_ROOM};
 use crate::order::{flags, CellPlace};
+use crate::record;
 use crate::script::parts::Parts;
 use crate::script::session::{call, Call, Session};
 use crate::script::{push_item, take_item};
@@ -113,7 +115,9 @@ impl Writer<'_> {
         let made = take_item(&self.script[start..])
             .and_then(|(item, _)| call(item, self.parts))
             .expect("an item with a listed form");
-        self.is_short = made == Call::Shorten;
+        if !matches!(made, Call::ReadRecord(_)) {
+            self.is_short = made == Call::Shorten;
+        }
         let steps_back = matches!(made, Call::StepBack(1..));
         let number = self.session.make(&made);
         if steps_back && number == Some(0) && self.random.chance(15) {
@@ -135,12 +139,14 @@ impl Writer<'_> {
 
     /// Each call as often as the others.
     fn any_call(&mut self) -> (u8, Vec<u8>) {
-        match self.random.below(7) {
+        match self.random.below(9) {
             0 => (b'E', Vec::new()),
             1 => (b'D', self.order()),
             6 => self.update(),
             2 => (b'M', Vec::new()),
             3 => self.step_back(),
+            4 => self.write_record(),
+            5 => self.read_record(),
             _ => self.lookup(),
         }
     }
@@ -149,7 +155,9 @@ impl Writer<'_> {
         match self.random.below(100) {
             0..=55 => (b'D', self.order()),
             56..=63 => self.update(),
-            64..=86 => self.lookup(),
+            64 | 65 => self.write_record(),
+            66..=68 => self.read_record(),
+            69..=86 => self.lookup(),
             87..=93 => self.step_back(),
             94..=96 => (b'M', Vec::new()),
             97 if self.random.chance(40) => (b'E', Vec::new()),
@@ -225,6 +233,7 @@ impl Writer<'_> {
         match self.random.below(10) {
             0 => (b'M', Vec::new()),
             1 => self.step_back(),
+            2 if self.random.chance(50) => self.write_record(),
             2 => self.lookup(),
             3..=5 => (b'D', self.maker().small()),
             _ => (b'D', self.order()),
@@ -239,10 +248,10 @@ impl Writer<'_> {
             return (b'M', Vec::new());
         }
         if rest == 0 {
-            return if self.random.chance(50) {
-                (b'D', self.order())
-            } else {
-                self.step_back()
+            return match self.random.below(4) {
+                0 | 1 => (b'D', self.order()),
+                2 => self.write_record(),
+                _ => self.step_back(),
             };
         }
         let one_more = usize::from(self.random.chance(50));
@@ -301,6 +310,25 @@ impl Writer<'_> {
         (b'B', (steps as u32).to_le_bytes().to_vec())
     }
 
+    /// A session record is written, to just enough memory, one byte less, or another size.
+    fn write_record(&mut self) -> (u8, Vec<u8>) {
+        let needed = record::write(self.session.book().orders()).len();
+        let room = match self.random.below(8) {
+            0..=2 => needed,
+            3 | 4 => needed - 1,
+            5 => self.random.below(needed + 1),
+            6 => self.random.pick(&[0, 1, 2, usize::from(u16::MAX)]),
+            _ => needed + self.random.below(300),
+        };
+        (b'O', (room as u16).to_le_bytes().to_vec())
+    }
+
+    /// A session record is read.
+    fn read_record(&mut self) -> (u8, Vec<u8>) {
+        let orders = self.session.book().orders();
+        (b'V', records::record(&mut self.random, orders))
+    }
+
     /// The next call is lent a part that is too short.
     fn shorten(&mut self) -> (u8, Vec<u8>) {
         let lengths = self.parts.lengths();
@@ -327,7 +355,7 @@ impl Writer<'_> {
                 script.truncate(script.len() - 1 - random.below(7));
             }
             2 => push_item(script, random.pick(b"ARPdmZ\0\xff"), &[]),
-            3 => push_item(script, random.pick(b"EMSBWNCTX"), &[0; 9]),
+            3 => push_item(script, random.pick(b"EMSBWNCTXO"), &[0; 9]),
             4 => push_item(script, random.pick(b"BWNCTXU"), &[1, 0]),
             5 if parts < 256 => push_item(script, b'T', &[part, 1, 0]),
             6 if parts < 256 => push_item(script, b'X', &[part, 0, 0, 0, 0, 1]),
