@@ -10,6 +10,7 @@ mod instructions;
 mod kinds;
 mod orders;
 mod plain;
+mod records;
 mod search;
 mod state;
 mod table;
@@ -23,7 +24,7 @@ const HELP: &str = "\
 bench: the proved code beside the plain Rust of `second`
 
   bench                check, time, instructions, chunks, orders, state, search and
-                       updates, in turn
+                       updates and records, in turn
   bench check          compare the two sides' answers, words and bytes on every
                        benchmark message and on generated ones
   bench time           print nanoseconds per call as a Markdown table
@@ -59,6 +60,12 @@ bench: the proved code beside the plain Rust of `second`
                        make N calls and print nothing, for callgrind. ORDER: a label of
                        that table; SIDE: rail_update or plain_update
 
+  bench records        print instructions of writing a session record and of opening
+                       one, as a Markdown table
+  bench record-one ORDERS BYTES CALL N
+                       make N calls and print nothing, for callgrind. BYTES: of each
+                       order, 7 or a title's; CALL: refused, written or opened
+
 Jobs: `read` takes a message's bytes to the 12 words of its record, judged;
 `write` takes 12 words and strings to a message's bytes in an output buffer.
 
@@ -93,6 +100,8 @@ fn main() -> ExitCode {
         ["update-one", listing, order, limit, side, calls] => {
             updates::one(listing, order, limit, side, calls)
         }
+        ["records"] => records::run(),
+        ["record-one", orders, bytes, call, calls] => records::one(orders, bytes, call, calls),
         ["--help" | "-h" | "help"] => {
             print!("{HELP}");
             Ok(())
@@ -126,7 +135,9 @@ fn everything() -> Result<(), String> {
     println!();
     search::run()?;
     println!();
-    updates::run()
+    updates::run()?;
+    println!();
+    records::run()
 }
 
 fn list_messages() -> Result<(), String> {

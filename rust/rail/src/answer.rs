@@ -50,6 +50,11 @@ pub enum Refusal {
     /// 16: a chunk that is compressed, not first with nothing begun, or not what its
     /// total says. What was begun is dropped.
     BadChunk = 16,
+    /// 18: a session record without its whole count or table of contents, or with a body
+    /// past its end.
+    RecordCut = 18,
+    /// 19: a session record over its limits, or not laid out as one.
+    RecordDiffers = 19,
 }
 
 impl Refusal {
@@ -71,9 +76,11 @@ impl Refusal {
         Refusal::OutputTooSmall,
         Refusal::ChunkTooShort,
         Refusal::BadChunk,
+        Refusal::RecordCut,
+        Refusal::RecordDiffers,
     ];
 
-    /// Its number in documents 01 and 02, 1 to 16.
+    /// Its number in documents 01 and 02.
     pub fn number(self) -> u8 {
         self as u8
     }
@@ -103,6 +110,14 @@ impl Refusal {
                 "chunk is compressed; not first with nothing begun; a total of 0 or over 17,052; \
                  a total differing from the first's; \
                  or data past the total or, in a last chunk, short of it"
+            }
+            Refusal::RecordCut => {
+                "fewer than 2 bytes, or than 2 plus 8 for each counted order, \
+                 or an offset plus size past the end"
+            }
+            Refusal::RecordDiffers => {
+                "count over 128, sizes over 32,768 in all, offsets not those of the layout, \
+                 or bytes left over"
             }
         }
     }
@@ -225,12 +240,12 @@ mod tests {
     #[test]
     fn numbers_of_refusals() {
         let numbers = Refusal::ALL.iter().map(|refusal| refusal.number());
-        assert!(numbers.eq(1..=16));
+        assert!(numbers.eq((1..=16).chain([18, 19])));
         for &refusal in Refusal::ALL {
             assert_eq!(Refusal::try_from(refusal.number()), Ok(refusal));
             assert_eq!(u8::from(refusal), refusal.number());
         }
-        for number in (17..=255).chain([0]) {
+        for number in (20..=255).chain([0, 17]) {
             assert_eq!(Refusal::try_from(number), Err(UnknownNumber(number)));
         }
     }
@@ -248,7 +263,11 @@ mod tests {
             .lines()
             .filter_map(|line| line.trim().strip_suffix("\",")?.strip_prefix('"'));
         assert_eq!(words.next(), Some("done"));
-        assert!(words.eq(Refusal::ALL.iter().map(|refusal| refusal.words())));
+        let (listed, others) = Refusal::ALL.split_at(16);
+        assert!(words.eq(listed.iter().map(|refusal| refusal.words())));
+        for refusal in others {
+            assert!(header.contains(&format!("return \"{}\";", refusal.words())));
+        }
     }
 
     #[test]

@@ -122,6 +122,20 @@ extern "C" {
         out: *mut u8,
         out_length: usize,
     ) -> u32;
+    fn rail_record_write(
+        directory: *const u8,
+        directory_length: usize,
+        bodies: *const u8,
+        bodies_length: usize,
+        cells: *const u8,
+        cells_length: usize,
+        journal: *const u8,
+        journal_length: usize,
+        out: *mut u8,
+        out_length: usize,
+    ) -> u32;
+    fn rail_record_check(record: *const u8, record_length: usize) -> u32;
+    fn rail_record_body(record: *const u8, record_length: usize, index: u32) -> u32;
     fn rail_chunk_reset(memory: *mut u8, memory_length: usize) -> u32;
     fn rail_chunk(
         memory: *mut u8,
@@ -319,6 +333,35 @@ pub(crate) fn desktop(view: View<'_>, out: &mut [u8]) -> u32 {
     }
 }
 
+pub(crate) fn record_write(view: View<'_>, out: &mut [u8]) -> u32 {
+    // SAFETY: only `out` is written, which is borrowed mutably and so apart from the
+    // parts; each has its own length.
+    unsafe {
+        rail_record_write(
+            view.directory.as_ptr(),
+            view.directory.len(),
+            view.bodies.as_ptr(),
+            view.bodies.len(),
+            view.cells.as_ptr(),
+            view.cells.len(),
+            view.journal.as_ptr(),
+            view.journal.len(),
+            out.as_mut_ptr(),
+            out.len(),
+        )
+    }
+}
+
+pub(crate) fn record_check(record: &[u8]) -> u32 {
+    // SAFETY: the record is read with its length.
+    unsafe { rail_record_check(record.as_ptr(), record.len()) }
+}
+
+pub(crate) fn record_body(record: &[u8], index: u32) -> u32 {
+    // SAFETY: the record is read with its length.
+    unsafe { rail_record_body(record.as_ptr(), record.len(), index) }
+}
+
 pub(crate) fn chunk_reset(memory: &mut [u8]) -> u32 {
     // SAFETY: the memory is written with its length.
     unsafe { rail_chunk_reset(memory.as_mut_ptr(), memory.len()) }
@@ -376,7 +419,8 @@ mod tests {
         for (what, expected) in (0..).zip(sizes) {
             assert_eq!(size(what), expected as u32);
         }
-        for what in [9, 10, 255, 256, u32::MAX] {
+        assert_eq!(size(9), crate::RECORD_LIMIT as u32);
+        for what in [10, 255, 256, u32::MAX] {
             assert_eq!(size(what), 0);
         }
     }

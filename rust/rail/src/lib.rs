@@ -56,6 +56,7 @@ mod order;
 pub mod protocol;
 mod record;
 mod session;
+mod session_record;
 mod text;
 mod update;
 
@@ -71,6 +72,7 @@ pub use record::{
     CacheCell, Desktop, NotificationIcon, Picture, Point, Rectangle, ShowState, Size, Window,
 };
 pub use session::{NotificationIcons, Session, Windows};
+pub use session_record::{Bodies, Record, RECORD_LIMIT};
 pub use text::{text_lossy, utf16_bytes};
 pub use update::{Report, Taken};
 

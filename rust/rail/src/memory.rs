@@ -223,6 +223,18 @@ impl<'a> View<'a> {
         state_answer(ffi::window(self, id.0, out))
     }
 
+    /// Writes the session record of the orders since the checkpoint to the beginning of
+    /// `out`, as [`window_bytes`](Self::window_bytes) does; [`RECORD_LIMIT`] bytes are
+    /// always enough.
+    ///
+    /// # Errors
+    /// [`Refusal::UnfitMemory`], then [`Refusal::OutputTooSmall`].
+    ///
+    /// [`RECORD_LIMIT`]: crate::RECORD_LIMIT
+    pub fn record_bytes(self, out: &mut [u8]) -> Result<Standing, Refusal> {
+        state_answer(ffi::record_write(self, out))
+    }
+
     /// Looks up a notification icon by its two ids.
     ///
     /// # Errors

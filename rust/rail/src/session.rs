@@ -237,6 +237,16 @@ impl Session {
         self.standing
     }
 
+    /// The session record of the orders since the checkpoint, for support: see
+    /// [`Record`](crate::Record). Delivering its orders in turn to the session as it stood
+    /// at the checkpoint gives this one.
+    pub fn record(&self) -> Vec<u8> {
+        let size = 2 + 8 * self.standing.orders + self.standing.bytes;
+        let mut bytes = vec![0; size];
+        granted(self.memory.view().record_bytes(&mut bytes));
+        bytes
+    }
+
     /// Looks up a window.
     ///
     /// # Errors

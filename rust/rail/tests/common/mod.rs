@@ -34,6 +34,8 @@ pub fn steps(script: &[u8]) -> Vec<Step<'_>> {
             (Some(Call::Shorten), &[part, low, high]) => {
                 lack = Some((part.into(), u16::from_le_bytes([low, high]).into()));
             }
+            // no state call: tests/session_record.rs has them
+            (Some(Call::ReadRecord(_)), _) => {}
             (Some(call), _) => {
                 let lack = lack.take();
                 steps.push(Step { call, lack });
@@ -78,6 +80,7 @@ pub enum Record {
     Picture(Picture),
     Desktop(Desktop),
     Report(Report),
+    Session(Vec<u8>),
 }
 
 /// What a call answers.
@@ -115,7 +118,14 @@ pub fn make(lent: &mut LentSession<'_>, call: &Call<'_>) -> Answer {
             let found = lent.view().desktop()?;
             Ok((found.standing, Record::Desktop(found.record)))
         }
-        Call::Shorten | Call::Fault => unreachable!("steps have calls only"),
+        Call::WriteRecord(room) => {
+            let mut out = vec![0xEE; room.into()];
+            let standing = lent.view().record_bytes(&mut out)?;
+            let past = out.split_off(2 + 8 * standing.orders + standing.bytes);
+            assert!(past.iter().all(|&byte| byte == 0xEE));
+            Ok((standing, Record::Session(out)))
+        }
+        Call::ReadRecord(_) | Call::Shorten | Call::Fault => unreachable!("steps have calls only"),
     }
 }
 
@@ -164,6 +174,12 @@ pub fn compare(book: &mut BookSession, step: &Step<'_>, answer: &Answer) -> Resu
         let expected = book.report();
         if (report.orders, report.bytes) != (expected.orders as usize, expected.bytes) {
             return Err(format!("reports {report:?}, the book {expected:?}"));
+        }
+        return Ok(());
+    }
+    if let Record::Session(bytes) = record {
+        if *bytes != second::record::write(book.book().orders()) {
+            return Err("writes another record than the book".into());
         }
         return Ok(());
     }
