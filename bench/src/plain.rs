@@ -59,11 +59,17 @@ pub unsafe extern "C" fn plain_pdu_write(
     }
 }
 
+/// A position as a word: sign-extended.
+fn extended(position: i16) -> u32 {
+    i32::from(position) as u32
+}
+
 /// The record that words stand for: none where the type is unknown, a word does
 /// not fit its field or is not 0 after the last, or a string is not in `strings`.
 #[inline]
 fn record_of<'a>(words: &Words, strings: &'a [u8]) -> Option<Record<'a>> {
     let half = |i: usize| u16::try_from(words[i]).ok();
+    let position = |i: usize| i16::try_from(words[i] as i32).ok();
     let window_id = WindowId(words[1]);
     let string = |i: usize| {
         let from = strings.get(words[i] as usize..)?;
@@ -112,10 +118,10 @@ fn record_of<'a>(words: &Words, strings: &'a [u8]) -> Option<Record<'a>> {
             ends(6)?;
             Record::WindowMove(WindowMove {
                 window_id,
-                left: half(2)?,
-                top: half(3)?,
-                right: half(4)?,
-                bottom: half(5)?,
+                left: position(2)?,
+                top: position(3)?,
+                right: position(4)?,
+                bottom: position(5)?,
             })
         }
         order_type::MOVE_SIZE => {
@@ -128,8 +134,8 @@ fn record_of<'a>(words: &Words, strings: &'a [u8]) -> Option<Record<'a>> {
                     _ => return None,
                 },
                 move_size_type: half(3)?,
-                pos_x: half(4)?,
-                pos_y: half(5)?,
+                pos_x: position(4)?,
+                pos_y: position(5)?,
             })
         }
         order_type::MIN_MAX_INFO => {
@@ -138,8 +144,8 @@ fn record_of<'a>(words: &Words, strings: &'a [u8]) -> Option<Record<'a>> {
                 window_id,
                 max_width: half(2)?,
                 max_height: half(3)?,
-                max_pos_x: half(4)?,
-                max_pos_y: half(5)?,
+                max_pos_x: position(4)?,
+                max_pos_y: position(5)?,
                 min_track_width: half(6)?,
                 min_track_height: half(7)?,
                 max_track_width: half(8)?,
@@ -154,8 +160,8 @@ fn record_of<'a>(words: &Words, strings: &'a [u8]) -> Option<Record<'a>> {
             ends(4)?;
             Record::SystemMenu(SystemMenu {
                 window_id,
-                left: half(2)?,
-                top: half(3)?,
+                left: position(2)?,
+                top: position(3)?,
             })
         }
         order_type::GET_APPLICATION_ID => {
@@ -249,26 +255,26 @@ fn words_of(record: &Record<'_>, message: &[u8]) -> Words {
         Record::WindowMove(r) => filled([
             order_type::WINDOW_MOVE.into(),
             r.window_id.0,
-            r.left.into(),
-            r.top.into(),
-            r.right.into(),
-            r.bottom.into(),
+            extended(r.left),
+            extended(r.top),
+            extended(r.right),
+            extended(r.bottom),
         ]),
         Record::MoveSize(r) => filled([
             order_type::MOVE_SIZE.into(),
             r.window_id.0,
             r.is_move_size_start.into(),
             r.move_size_type.into(),
-            r.pos_x.into(),
-            r.pos_y.into(),
+            extended(r.pos_x),
+            extended(r.pos_y),
         ]),
         Record::MinMaxInfo(r) => filled([
             order_type::MIN_MAX_INFO.into(),
             r.window_id.0,
             r.max_width.into(),
             r.max_height.into(),
-            r.max_pos_x.into(),
-            r.max_pos_y.into(),
+            extended(r.max_pos_x),
+            extended(r.max_pos_y),
             r.min_track_width.into(),
             r.min_track_height.into(),
             r.max_track_width.into(),
@@ -278,8 +284,8 @@ fn words_of(record: &Record<'_>, message: &[u8]) -> Words {
         Record::SystemMenu(r) => filled([
             order_type::SYSTEM_MENU.into(),
             r.window_id.0,
-            r.left.into(),
-            r.top.into(),
+            extended(r.left),
+            extended(r.top),
         ]),
         Record::GetApplicationId(r) => {
             filled([order_type::GET_APPLICATION_ID.into(), r.window_id.0])

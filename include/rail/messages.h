@@ -93,15 +93,15 @@
 #define RAIL_WORD_HANDSHAKE_EX_BUILD_NUMBER 1
 #define RAIL_WORD_HANDSHAKE_EX_FLAGS 2 /* TS_RAIL_ORDER_HANDSHAKEEX_FLAGS_... */
 
-/* A word that is a coordinate holds its 16 bits as an unsigned number; this reads them as a signed one. */
+/* A word that is a coordinate holds a number from -32768 to 32767 in two's complement, sign-extended to 32 bits: FFFFFF9C is -100.
+ * Any other word there (0000FF9C) stands for no record, and rail_pdu_write refuses it with 8. This is the number of such a word. */
 static inline int32_t rail_word_coordinate(uint32_t word) {
-    const uint32_t bits = word & 0xFFFFu;
-    return bits < 0x8000u ? (int32_t)bits : (int32_t)bits - 0x10000;
+    return word < 0x80000000u ? (int32_t)word : (int32_t)(word - 0x80000000u) - 0x7FFFFFFF - 1;
 }
 
-/* The word of a signed coordinate from -32768 to 32767. */
+/* The word of a coordinate. */
 static inline uint32_t rail_coordinate_word(int32_t coordinate) {
-    return (uint32_t)coordinate & 0xFFFFu;
+    return (uint32_t)coordinate;
 }
 
 #endif

@@ -195,8 +195,8 @@ void test_decoders(void) {
         decode_any(w, n, d, p);
     }
     CHECK(rail_word_coordinate(0) == 0 && rail_word_coordinate(0x7FFF) == 32767);
-    CHECK(rail_word_coordinate(0x8000) == -32768 && rail_word_coordinate(0xFFFF) == -1);
-    CHECK(rail_coordinate_word(-1) == 0xFFFF && rail_coordinate_word(-32768) == 0x8000 && rail_coordinate_word(7) == 7);
+    CHECK(rail_word_coordinate(0xFFFF8000u) == -32768 && rail_word_coordinate(0xFFFFFFFFu) == -1);
+    CHECK(rail_coordinate_word(-1) == 0xFFFFFFFFu && rail_coordinate_word(-32768) == 0xFFFF8000u && rail_coordinate_word(7) == 7);
     CHECK(rail_number(RAIL_HISTORY_BYTES_MAX * 65536u + RAIL_HISTORY_ORDERS_MAX * 256u + 14u) == 14);
     CHECK(rail_number(RAIL_MESSAGE_MAX * 65536u) == RAIL_DONE && rail_bytes(RAIL_MESSAGE_MAX * 65536u) == RAIL_MESSAGE_MAX);
     CHECK(strcmp(rail_number_words(RAIL_OUTPUT_TOO_SMALL), "output memory too small") == 0);

@@ -55,7 +55,7 @@ static void window_move(uint32_t *w) {
     put16(w[RAIL_WORD_WINDOWMOVE_LEFT] = rail_coordinate_word(-100));
     put16(w[RAIL_WORD_WINDOWMOVE_TOP] = 0x0102);
     put16(w[RAIL_WORD_WINDOWMOVE_RIGHT] = 0x0304);
-    put16(w[RAIL_WORD_WINDOWMOVE_BOTTOM] = 0x8506);
+    put16(w[RAIL_WORD_WINDOWMOVE_BOTTOM] = rail_coordinate_word(-0x7AFA));
 }
 
 static void move_size(uint32_t *w) {

@@ -6,12 +6,15 @@ use Prim.Native.Nat.{ℕ, _+_, _%_, _≤_, _<_}
 use native.Mathlib.Omega.{arith}
 use lib.ListN.{length, getD, drop}
 use lib.Dec.{leb, ltb, eqb}
+use lib.IntN.{ℤ}
 use borrow.Author.Tests.{leb-true, le-ltb, eq-eqb}
 use Rattle.wire.specs.Tests.{both, pick}
 use Rattle.wire.specs.Parts.{splice}
 use Rattle.wire.specs.Numbers.{numAt, numsAt, putAll, total, fitsIn, allFit}
 use Rattle.wire.proofs.Tests.{both-left, both-right}
 use Rattle.wire.proofs.Numbers.{nums-put, length-put, fits2}
+use Rattle.signs.specs.TwosComplement.{signed, unsigned, holds}
+use Rattle.signs.proofs.TwosComplement.{back-2}
 use Rattle.pdu.specs.declared.Pdu.{Pdu}
 use Rattle.pdu.specs.declared.Pdu.the-variants.{Execute, Activate, SystemCommand, Handshake, NotifyEvent, WindowMove, MoveSize, MinMaxInfo, ClientInformation, SystemMenu, GetApplicationId, ApplicationIdResponse, ExecuteResult, SystemParameters, HandshakeEx}
 use Rattle.pdu.specs.declared.Span.{Span}
@@ -21,11 +24,11 @@ use Rattle.pdu.specs.declared.Read.the-variants.{Message}
 use Rattle.pdu.specs.declared.Setting.{Setting}
 use Rattle.pdu.specs.Layout.{oneOf, known, widths}
 use Rattle.pdu.specs.Settings.{settingWidths, Data, numberOf, dataOf, dataSpans, dataSize, dataAllowed, settingWith, moved}
-use Rattle.pdu.specs.Records.{isYes, yesNumber, recordOf, kindOf, numsOf, widthsOf, sizeOf, spansOf}
+use Rattle.pdu.specs.Records.{isYes, yesNumber, recordOf, kindOf, numsOf, positionsOf, widthsOf, sizeOf, spansOf}
 use Rattle.pdu.specs.Rules.{textOk, executeFlagsOk, execResults, executeAllowed, executeResultAllowed, allowed}
 use Rattle.pdu.specs.Reading.{recordAs, unknownSetting, lengthsAgree, bodyNumber, readNumber, answerAs, readOf}
 use Rattle.pdu.specs.Writing.{partOf, zeros, filled, stringsOf, joined, row, line, encode, grants}
-use Rattle.pdu.specs.RoundTrip.{rebased, typed, ReadsBack}
+use Rattle.pdu.specs.RoundTrip.{rebased, allHold, typed, ReadsBack}
 use Rattle.pdu.proofs.Strings.{spansFrom, parts, parts-back, filled-whole}
 use Rattle.pdu.proofs.Writing.{allowed-of, stringLengths, string-lengths, length-encode}
 use Rattle.pdu.proofs.Settings.{shape, Made, made, moved-shape, moved-size, moved-allowed, least-size, most-size, data-back, spans-shape, filled-data, lines-fine}
@@ -40,27 +43,41 @@ is-yes false = refl
 moved-made : (s : Setting) → Made (numberOf s) (moved (dataOf s)) (settingWith (numberOf s) (moved (dataOf s)))
 moved-made s = made (numberOf s) (moved (dataOf s)) (moved-shape (numberOf s) (dataOf s) (shape s))
 
--- the numbers of a record make the record
-record-back : (p : Pdu) → recordOf (kindOf p) (numsOf p) ≡ rebased p
-unfolding recordOf kindOf numsOf rebased
-record-back (Execute e) = refl
-record-back (Activate e) = refl
-record-back (SystemCommand e) = refl
-record-back (Handshake e) = refl
-record-back (NotifyEvent e) = refl
-record-back (WindowMove e) = refl
-record-back (MoveSize e) =
-    ap (λ (b : Bool). MoveSize (record { «window_id» = e .«window_id»; «is_start» = b; «move_size_type» = e .«move_size_type»; «pos_x» = e .«pos_x»; «pos_y» = e .«pos_y» })) (is-yes (e .«is_start»))
-record-back (MinMaxInfo e) = refl
-record-back (ClientInformation e) = refl
-record-back (SystemMenu e) = refl
-record-back (GetApplicationId e) = refl
-record-back (ApplicationIdResponse e) = refl
-record-back (ExecuteResult e) = refl
-record-back (SystemParameters e) =
+-- the first of values that all have a number is that number's value, and the rest have theirs
+position : (z : ℤ) (zs : List ℤ) → allHold 2 (z ∷ zs) ≡ true → signed 2 (unsigned 2 z) ≡ z
+unfolding allHold
+position z zs t = back-2 z (both-left (holds 2 z) (allHold 2 zs) t)
+
+rest : (z : ℤ) (zs : List ℤ) → allHold 2 (z ∷ zs) ≡ true → allHold 2 zs ≡ true
+unfolding allHold
+rest z zs t = both-right (holds 2 z) (allHold 2 zs) t
+
+-- the numbers of a record make the record, where each position has a number
+record-back : (p : Pdu) → allHold 2 (positionsOf p) ≡ true → recordOf (kindOf p) (numsOf p) ≡ rebased p
+unfolding recordOf kindOf numsOf rebased positionsOf allHold
+record-back (Execute e) t = refl
+record-back (Activate e) t = refl
+record-back (SystemCommand e) t = refl
+record-back (Handshake e) t = refl
+record-back (NotifyEvent e) t = refl
+record-back (WindowMove e) t =
+    let t2 = rest (e .left) (e .top ∷ e .right ∷ e .bottom ∷ []) t in
+    let t3 = rest (e .top) (e .right ∷ e .bottom ∷ []) t2 in
+    let t4 = rest (e .right) (e .bottom ∷ []) t3 in
+    rw (position (e .left) (e .top ∷ e .right ∷ e .bottom ∷ []) t, position (e .top) (e .right ∷ e .bottom ∷ []) t2, position (e .right) (e .bottom ∷ []) t3, position (e .bottom) [] t4)
+record-back (MoveSize e) t =
+    rw (is-yes (e .«is_start»), position (e .«pos_x») (e .«pos_y» ∷ []) t, position (e .«pos_y») [] (rest (e .«pos_x») (e .«pos_y» ∷ []) t))
+record-back (MinMaxInfo e) t =
+    rw (position (e .«max_pos_x») (e .«max_pos_y» ∷ []) t, position (e .«max_pos_y») [] (rest (e .«max_pos_x») (e .«max_pos_y» ∷ []) t))
+record-back (ClientInformation e) t = refl
+record-back (SystemMenu e) t = rw (position (e .left) (e .top ∷ []) t, position (e .top) [] (rest (e .left) (e .top ∷ []) t))
+record-back (GetApplicationId e) t = refl
+record-back (ApplicationIdResponse e) t = refl
+record-back (ExecuteResult e) t = refl
+record-back (SystemParameters e) t =
     let c = numberOf (e .setting) in
     ap (λ (d : Data). SystemParameters (record { setting = settingWith c d })) (data-back c (dataOf (e .setting)) (shape (e .setting)))
-record-back (HandshakeEx e) = refl
+record-back (HandshakeEx e) t = refl
 
 size-back : (p : Pdu) → sizeOf (rebased p) ≡ sizeOf p
 unfolding sizeOf rebased
@@ -237,9 +254,16 @@ setting-fine (SystemParameters e) s b = lines-fine (numberOf (e .setting)) (data
 setting-fine (HandshakeEx e) s b = (refl, refl)
 
 module _ (p : Pdu) (src : List ℕ) (g : grants p src ≡ true) (t : typed p ≡ true) where
-  fits : allFit (row p) (line p) ≡ true
+  numbers-fit : allFit (widthsOf p) (numsOf p) ≡ true
   unfolding typed
-  fits = row-fits (kindOf p) (sizeOf p) (widthsOf p) (numsOf p) (fits2 (kindOf p) (kind-small p)) (fits2 (sizeOf p) (size-small p (allowed-of p src g))) t
+  numbers-fit = both-left (allFit (widthsOf p) (numsOf p)) (allHold 2 (positionsOf p)) t
+
+  positions-hold : allHold 2 (positionsOf p) ≡ true
+  unfolding typed
+  positions-hold = both-right (allFit (widthsOf p) (numsOf p)) (allHold 2 (positionsOf p)) t
+
+  fits : allFit (row p) (line p) ≡ true
+  fits = row-fits (kindOf p) (sizeOf p) (widthsOf p) (numsOf p) (fits2 (kindOf p) (kind-small p)) (fits2 (sizeOf p) (size-small p (allowed-of p src g))) numbers-fit
 
   nums : numsAt (row p) (encode p src) 0 ≡ line p
   unfolding encode
@@ -263,7 +287,7 @@ module _ (p : Pdu) (src : List ℕ) (g : grants p src ≡ true) (t : typed p ≡
       let b = encode p src in
       ap (λ (ws : List ℕ). recordOf (kindOf p) (numsAt ws b 4)) (seen-widths (eqb (kindOf p) 0x03) (widths (kindOf p)) (numsOf p) b body)
       ∙ ap (recordOf (kindOf p)) body
-      ∙ record-back p
+      ∙ record-back p positions-hold
 
   message-back : readOf (encode p src) ≡ Message (rebased p)
   message-back =

@@ -15,6 +15,8 @@ use Rattle.wire.proofs.Tests.{Each, one-of}
 use Rattle.wire.proofs.Parts.{length-slice, splice-append}
 use Rattle.wire.proofs.Numbers.{Bytes, put-nums, length-put}
 use Rattle.pdu.specs.declared.Span.{Span}
+use Rattle.signs.specs.TwosComplement.{signed, unsigned}
+use Rattle.signs.proofs.TwosComplement.{forth-2, num-under}
 use Rattle.pdu.specs.declared.Pdu.{Pdu}
 use Rattle.pdu.specs.declared.Pdu.the-variants.{SystemParameters}
 use Rattle.pdu.specs.declared.Setting.{Setting}
@@ -150,6 +152,10 @@ module _ (b : List ℕ) (ok : Bytes b) (told : numAt 2 b 2 ≡ length b) where
   strings k n ws ls e w z =
       same k n ws (joined (parts b (spansFrom (total (2 ∷ 2 ∷ ws)) ls))) e w (omega (arith, w, z)) (parts-join ls b (total (2 ∷ 2 ∷ ws)) (z ∙ w))
 
+  -- a position is written as the number that was read
+  place : (at : ℕ) → unsigned 2 (signed 2 (numAt 2 b at)) ≡ numAt 2 b at
+  place at = forth-2 (numAt 2 b at) (num-under 2 b at ok)
+
   activate-back : Kind b 0x02
   unfolding recordAs recordOf widths numsAt numsOf kindOf sizeOf spansOf encode stringsOf filled joined total tidyAs
   activate-back e w = record { within = refl; bytes-back = plain 0x02 9 (widths 0x02) e w refl }
@@ -168,11 +174,11 @@ module _ (b : List ℕ) (ok : Bytes b) (told : numAt 2 b 2 ≡ length b) where
 
   window-move-back : Kind b 0x08
   unfolding recordAs recordOf widths numsAt numsOf kindOf sizeOf spansOf encode stringsOf filled joined total tidyAs
-  window-move-back e w = record { within = refl; bytes-back = plain 0x08 16 (widths 0x08) e w refl }
+  window-move-back e w = record { within = refl; bytes-back = rw (place 8, place 10, place 12, place 14) (plain 0x08 16 (widths 0x08) e w refl) }
 
   min-max-info-back : Kind b 0x0A
   unfolding recordAs recordOf widths numsAt numsOf kindOf sizeOf spansOf encode stringsOf filled joined total tidyAs
-  min-max-info-back e w = record { within = refl; bytes-back = plain 0x0A 24 (widths 0x0A) e w refl }
+  min-max-info-back e w = record { within = refl; bytes-back = rw (place 12, place 14) (plain 0x0A 24 (widths 0x0A) e w refl) }
 
   client-information-back : Kind b 0x0B
   unfolding recordAs recordOf widths numsAt numsOf kindOf sizeOf spansOf encode stringsOf filled joined total tidyAs
@@ -180,7 +186,7 @@ module _ (b : List ℕ) (ok : Bytes b) (told : numAt 2 b 2 ≡ length b) where
 
   system-menu-back : Kind b 0x0C
   unfolding recordAs recordOf widths numsAt numsOf kindOf sizeOf spansOf encode stringsOf filled joined total tidyAs
-  system-menu-back e w = record { within = refl; bytes-back = plain 0x0C 12 (widths 0x0C) e w refl }
+  system-menu-back e w = record { within = refl; bytes-back = rw (place 8, place 10) (plain 0x0C 12 (widths 0x0C) e w refl) }
 
   get-application-id-back : Kind b 0x0E
   unfolding recordAs recordOf widths numsAt numsOf kindOf sizeOf spansOf encode stringsOf filled joined total tidyAs
@@ -206,9 +212,9 @@ module _ (b : List ℕ) (ok : Bytes b) (told : numAt 2 b 2 ≡ length b) where
       let ws : List ℕ = 2 ∷ 2 ∷ widths 0x09 in
       record {
         within = refl;
-        bytes-back = append-nil (putAll ws (ns (yesNumber y)))
+        bytes-back = rw (place 12, place 14) (append-nil (putAll ws (ns (yesNumber y)))
             ∙ swap-start 0x09 16 (numAt 4 b 4) (numAt 2 b 8) (numAt 2 b 10) (numAt 2 b 12) (numAt 2 b 14) y
-            ∙ ap (λ (x : List ℕ). splice x 8 (yesNumber y ∷ 0 ∷ [])) (sym (append-nil (putAll ws (ns (numAt 2 b 8)))) ∙ plain 0x09 16 (widths 0x09) e w refl);
+            ∙ ap (λ (x : List ℕ). splice x 8 (yesNumber y ∷ 0 ∷ [])) (sym (append-nil (putAll ws (ns (numAt 2 b 8)))) ∙ plain 0x09 16 (widths 0x09) e w refl));
       }
 
   application-id-response-back : Kind b 0x0F

@@ -1,10 +1,12 @@
--- Records and numbers: the record that a type's numbers make, and the type, the numbers and the size of a record. Assumes nothing.
+-- Records and numbers: the record that a type's numbers make, and the type, the numbers and the size of a record. Positions are signed. Assumes nothing.
 use Prim.Native.Nat.{ℕ, _+_}
 use mathlib.Core.Bool.{Bool, not}
 use mathlib.Core.List.{List, [], _∷_}
 use lib.ListN.{getD}
 use lib.Dec.{eqb}
+use lib.IntN.{ℤ}
 use Rattle.wire.specs.Tests.{pick}
+use Rattle.signs.specs.TwosComplement.{signed, unsigned}
 use Rattle.pdu.specs.declared.Span.{Span}
 use Rattle.pdu.specs.declared.Pdu.{Pdu}
 use Rattle.pdu.specs.declared.Pdu.the-variants.{Execute, Activate, SystemCommand, Handshake, NotifyEvent, WindowMove, MoveSize, MinMaxInfo, ClientInformation, SystemMenu, GetApplicationId, ApplicationIdResponse, ExecuteResult, SystemParameters, HandshakeEx}
@@ -34,15 +36,15 @@ recordOf k n =
     (pick (eqb k 0x06)
     (NotifyEvent (record { «window_id» = record { id = getD n 0 0 }; «notify_icon_id» = record { id = getD n 1 0 }; message = getD n 2 0 }))
     (pick (eqb k 0x08)
-    (WindowMove (record { «window_id» = record { id = getD n 0 0 }; left = getD n 1 0; top = getD n 2 0; right = getD n 3 0; bottom = getD n 4 0 }))
+    (WindowMove (record { «window_id» = record { id = getD n 0 0 }; left = signed 2 (getD n 1 0); top = signed 2 (getD n 2 0); right = signed 2 (getD n 3 0); bottom = signed 2 (getD n 4 0) }))
     (pick (eqb k 0x09)
-    (MoveSize (record { «window_id» = record { id = getD n 0 0 }; «is_start» = isYes (getD n 1 0); «move_size_type» = getD n 2 0; «pos_x» = getD n 3 0; «pos_y» = getD n 4 0 }))
+    (MoveSize (record { «window_id» = record { id = getD n 0 0 }; «is_start» = isYes (getD n 1 0); «move_size_type» = getD n 2 0; «pos_x» = signed 2 (getD n 3 0); «pos_y» = signed 2 (getD n 4 0) }))
     (pick (eqb k 0x0A)
-    (MinMaxInfo (record { «window_id» = record { id = getD n 0 0 }; «max_width» = getD n 1 0; «max_height» = getD n 2 0; «max_pos_x» = getD n 3 0; «max_pos_y» = getD n 4 0; «min_track_width» = getD n 5 0; «min_track_height» = getD n 6 0; «max_track_width» = getD n 7 0; «max_track_height» = getD n 8 0 }))
+    (MinMaxInfo (record { «window_id» = record { id = getD n 0 0 }; «max_width» = getD n 1 0; «max_height» = getD n 2 0; «max_pos_x» = signed 2 (getD n 3 0); «max_pos_y» = signed 2 (getD n 4 0); «min_track_width» = getD n 5 0; «min_track_height» = getD n 6 0; «max_track_width» = getD n 7 0; «max_track_height» = getD n 8 0 }))
     (pick (eqb k 0x0B)
     (ClientInformation (record { flags = getD n 0 0 }))
     (pick (eqb k 0x0C)
-    (SystemMenu (record { «window_id» = record { id = getD n 0 0 }; left = getD n 1 0; top = getD n 2 0 }))
+    (SystemMenu (record { «window_id» = record { id = getD n 0 0 }; left = signed 2 (getD n 1 0); top = signed 2 (getD n 2 0) }))
     (pick (eqb k 0x0E)
     (GetApplicationId (record { «window_id» = record { id = getD n 0 0 } }))
     (pick (eqb k 0x0F)
@@ -78,11 +80,11 @@ numsOf (Activate e) = e .«window_id» .id ∷ e .enabled ∷ []
 numsOf (SystemCommand e) = e .«window_id» .id ∷ e .command ∷ []
 numsOf (Handshake e) = e .«build_number» ∷ []
 numsOf (NotifyEvent e) = e .«window_id» .id ∷ e .«notify_icon_id» .id ∷ e .message ∷ []
-numsOf (WindowMove e) = e .«window_id» .id ∷ e .left ∷ e .top ∷ e .right ∷ e .bottom ∷ []
-numsOf (MoveSize e) = e .«window_id» .id ∷ yesNumber (e .«is_start») ∷ e .«move_size_type» ∷ e .«pos_x» ∷ e .«pos_y» ∷ []
-numsOf (MinMaxInfo e) = e .«window_id» .id ∷ e .«max_width» ∷ e .«max_height» ∷ e .«max_pos_x» ∷ e .«max_pos_y» ∷ e .«min_track_width» ∷ e .«min_track_height» ∷ e .«max_track_width» ∷ e .«max_track_height» ∷ []
+numsOf (WindowMove e) = e .«window_id» .id ∷ unsigned 2 (e .left) ∷ unsigned 2 (e .top) ∷ unsigned 2 (e .right) ∷ unsigned 2 (e .bottom) ∷ []
+numsOf (MoveSize e) = e .«window_id» .id ∷ yesNumber (e .«is_start») ∷ e .«move_size_type» ∷ unsigned 2 (e .«pos_x») ∷ unsigned 2 (e .«pos_y») ∷ []
+numsOf (MinMaxInfo e) = e .«window_id» .id ∷ e .«max_width» ∷ e .«max_height» ∷ unsigned 2 (e .«max_pos_x») ∷ unsigned 2 (e .«max_pos_y») ∷ e .«min_track_width» ∷ e .«min_track_height» ∷ e .«max_track_width» ∷ e .«max_track_height» ∷ []
 numsOf (ClientInformation e) = e .flags ∷ []
-numsOf (SystemMenu e) = e .«window_id» .id ∷ e .left ∷ e .top ∷ []
+numsOf (SystemMenu e) = e .«window_id» .id ∷ unsigned 2 (e .left) ∷ unsigned 2 (e .top) ∷ []
 numsOf (GetApplicationId e) = e .«window_id» .id ∷ []
 numsOf (ApplicationIdResponse e) = e .«window_id» .id ∷ []
 numsOf (ExecuteResult e) = e .flags ∷ e .«exec_result» ∷ e .«raw_result» ∷ 0 ∷ e .«exe_or_file» .len ∷ []
@@ -92,6 +94,24 @@ numsOf (HandshakeEx e) = e .«build_number» ∷ e .flags ∷ []
 -- their widths
 abbrev pub widthsOf : Pdu → List ℕ
 widthsOf p = widthsWith (kindOf p) (getD (numsOf p) 0 0)
+
+-- the positions of a record: its signed fields of 2 bytes
+unfoldable pub positionsOf : Pdu → List ℤ
+positionsOf (Execute e) = []
+positionsOf (Activate e) = []
+positionsOf (SystemCommand e) = []
+positionsOf (Handshake e) = []
+positionsOf (NotifyEvent e) = []
+positionsOf (WindowMove e) = e .left ∷ e .top ∷ e .right ∷ e .bottom ∷ []
+positionsOf (MoveSize e) = e .«pos_x» ∷ e .«pos_y» ∷ []
+positionsOf (MinMaxInfo e) = e .«max_pos_x» ∷ e .«max_pos_y» ∷ []
+positionsOf (ClientInformation e) = []
+positionsOf (SystemMenu e) = e .left ∷ e .top ∷ []
+positionsOf (GetApplicationId e) = []
+positionsOf (ApplicationIdResponse e) = []
+positionsOf (ExecuteResult e) = []
+positionsOf (SystemParameters e) = []
+positionsOf (HandshakeEx e) = []
 
 -- the bytes that a record takes
 unfoldable pub sizeOf : Pdu → ℕ

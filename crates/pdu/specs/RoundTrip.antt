@@ -4,10 +4,12 @@ use mathlib.Core.Bool.{Bool, true}
 use mathlib.Core.List.{List, [], _∷_}
 use mathlib.Core.Path.{_≡_}
 use lib.Dec.{eqb}
+use lib.IntN.{ℤ}
 use lib.ListN.{length, getD, take}
-use Rattle.wire.specs.Tests.{pick}
+use Rattle.wire.specs.Tests.{pick, both}
 use Rattle.wire.specs.Parts.{splice}
 use Rattle.wire.specs.Numbers.{numAt, allFit}
+use Rattle.signs.specs.TwosComplement.{holds}
 use Rattle.pdu.specs.declared.Pdu.{Pdu}
 use Rattle.pdu.specs.declared.Pdu.the-variants.{Execute, Activate, SystemCommand, Handshake, NotifyEvent, WindowMove, MoveSize, MinMaxInfo, ClientInformation, SystemMenu, GetApplicationId, ApplicationIdResponse, ExecuteResult, SystemParameters, HandshakeEx}
 use Rattle.pdu.specs.declared.Read.{Read}
@@ -15,7 +17,7 @@ use Rattle.pdu.specs.declared.Read.the-variants as R
 use Rattle.pdu.specs.declared.Written.{Written}
 use Rattle.pdu.specs.declared.Written.the-variants as W
 use Rattle.pdu.specs.Settings.{numberOf, dataOf, settingWith, moved}
-use Rattle.pdu.specs.Records.{span, isYes, yesNumber, kindOf, numsOf, widthsOf, sizeOf}
+use Rattle.pdu.specs.Records.{span, isYes, yesNumber, kindOf, numsOf, positionsOf, widthsOf, sizeOf}
 use Rattle.pdu.specs.Answers.{answers, readSays, writtenSays}
 use Rattle.pdu.specs.Reading.{typeAt, recordAs, readOf, readNumber}
 use Rattle.pdu.specs.Writing.{stringsOf, encode, grants, writtenOf, writtenNumber, outAfter}
@@ -45,9 +47,14 @@ rebased (ExecuteResult e) =
 rebased (SystemParameters e) = SystemParameters (record { setting = settingWith (numberOf (e .setting)) (moved (dataOf (e .setting))) })
 rebased (HandshakeEx e) = HandshakeEx e
 
--- the numbers of a record fit their fields, as those of every value in memory that writing grants do
+-- w bytes have a number for each of these values
+unfoldable pub allHold : ℕ → List ℤ → Bool
+allHold w [] = true
+allHold w (z ∷ zs) = both (holds w z) (allHold w zs)
+
+-- the numbers and positions of a record fit their fields, as those of every value in memory that writing grants do
 unfoldable pub typed : Pdu → Bool
-typed p = allFit (widthsOf p) (numsOf p)
+typed p = both (allFit (widthsOf p) (numsOf p)) (allHold 2 (positionsOf p))
 
 -- the bytes of a message with Padding 0 and a nonzero start 1
 unfoldable pub tidyAs : ℕ → List ℕ → List ℕ

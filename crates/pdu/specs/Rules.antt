@@ -5,7 +5,6 @@ use mathlib.Core.List.{List, [], _∷_}
 use lib.Dec.{ltb, leb, eqb}
 use Rattle.wire.specs.Tests.{both, either, all}
 use Rattle.pdu.specs.declared.Execute as E
-use Rattle.pdu.specs.declared.MoveSize as M
 use Rattle.pdu.specs.declared.ExecuteResult as X
 use Rattle.pdu.specs.declared.Pdu.{Pdu}
 use Rattle.pdu.specs.declared.Pdu.the-variants.{Execute, Activate, SystemCommand, Handshake, NotifyEvent, WindowMove, MoveSize, MinMaxInfo, ClientInformation, SystemMenu, GetApplicationId, ApplicationIdResponse, ExecuteResult, SystemParameters, HandshakeEx}
@@ -36,8 +35,8 @@ executeAllowed e =
     ∷ executeFlagsOk (e .flags)
     ∷ [])
 
-abbrev pub moveSizeAllowed : M.MoveSize → Bool
-moveSizeAllowed e = both (leb 1 (e .«move_size_type»)) (leb (e .«move_size_type») 11)
+abbrev pub moveSizeTypeOk : ℕ → Bool
+moveSizeTypeOk v = both (leb 1 v) (leb v 11)
 
 abbrev pub executeResultAllowed : X.ExecuteResult → Bool
 executeResultAllowed e =
@@ -48,7 +47,7 @@ unfoldable pub allowed : Pdu → Bool
 allowed (Execute e) = executeAllowed e
 allowed (Activate e) = leb (e .enabled) 1
 allowed (SystemCommand e) = oneOf (e .command) commands
-allowed (MoveSize e) = moveSizeAllowed e
+allowed (MoveSize e) = moveSizeTypeOk (e .«move_size_type»)
 allowed (ApplicationIdResponse e) = leb (e .«application_id» .len) 520
 allowed (ExecuteResult e) = executeResultAllowed e
 allowed (SystemParameters e) = dataAllowed (dataOf (e .setting))

@@ -2,7 +2,7 @@
 use protocol::NotifyIconId;
 use protocol::WindowId;
 ghost use mathlib.Core.Path.{_≡_};
-ghost use Rattle.pdu.specs.Rules.{textOk, executeFlagsOk, commands, execResults, executeAllowed, moveSizeAllowed, executeResultAllowed};
+ghost use Rattle.pdu.specs.Rules.{textOk, executeFlagsOk, commands, execResults, executeAllowed, moveSizeTypeOk, executeResultAllowed};
 ghost use Rattle.pdu.specs.Layout.{oneOf};
 ghost use Rattle.pdu.specs.Settings.{isByte, isArea, settingWith, byte, area, schemeFits};
 ghost use lib.Dec.{leb};
@@ -48,10 +48,10 @@ pub struct NotifyEvent {
 // TS_RAIL_ORDER_WINDOWMOVE, type 0008
 pub struct WindowMove {
     pub window_id: WindowId,
-    pub left: u16,
-    pub top: u16,
-    pub right: u16,
-    pub bottom: u16,
+    pub left: i16,
+    pub top: i16,
+    pub right: i16,
+    pub bottom: i16,
 }
 
 // TS_RAIL_ORDER_LOCALMOVESIZE, type 0009
@@ -59,8 +59,8 @@ pub struct MoveSize {
     pub window_id: WindowId,
     pub is_start: bool,
     pub move_size_type: u16,
-    pub pos_x: u16,
-    pub pos_y: u16,
+    pub pos_x: i16,
+    pub pos_y: i16,
 }
 
 // TS_RAIL_ORDER_MINMAXINFO, type 000A
@@ -68,8 +68,8 @@ pub struct MinMaxInfo {
     pub window_id: WindowId,
     pub max_width: u16,
     pub max_height: u16,
-    pub max_pos_x: u16,
-    pub max_pos_y: u16,
+    pub max_pos_x: i16,
+    pub max_pos_y: i16,
     pub min_track_width: u16,
     pub min_track_height: u16,
     pub max_track_width: u16,
@@ -84,8 +84,8 @@ pub struct ClientInformation {
 // TS_RAIL_ORDER_SYSMENU, type 000C
 pub struct SystemMenu {
     pub window_id: WindowId,
-    pub left: u16,
-    pub top: u16,
+    pub left: i16,
+    pub top: i16,
 }
 
 // TS_RAIL_ORDER_GET_APPID_REQ, type 000E
@@ -242,10 +242,10 @@ pub fn system_command_allowed(e: SystemCommand) -> bool
     command_ok(e.command)
 }
 
-pub fn move_size_allowed(e: MoveSize) -> bool
-    ensures { λ r. ⌜ r ≡ moveSizeAllowed e ⌝ }
+pub fn move_size_type_allowed(v: u16) -> bool
+    ensures { λ r. ⌜ r ≡ moveSizeTypeOk v ⌝ }
 {
-    (1 <= e.move_size_type) & (e.move_size_type <= 11)
+    (1 <= v) & (v <= 11)
 }
 
 pub fn application_id_response_allowed(e: ApplicationIdResponse) -> bool

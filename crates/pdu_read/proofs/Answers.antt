@@ -11,6 +11,8 @@ use Rattle.wire.specs.Tests.{pick}
 use Rattle.wire.specs.Numbers.{numAt, numsAt}
 use Rattle.wire.proofs.Tests.{Each, one-of}
 use Rattle.wire.proofs.Numbers.{Bytes}
+use Rattle.signs.specs.TwosComplement.{signed, unsigned, holds, signedAt}
+use Rattle.signs.proofs.TwosComplement.{num-under, held-2, word-short}
 use Rattle.pdu.specs.declared.Pdu.{Pdu}
 use Rattle.pdu.specs.declared.Read.{Read}
 use Rattle.pdu.specs.declared.Read.the-variants.{Message, Refused}
@@ -18,7 +20,8 @@ use Rattle.pdu.specs.Layout.{types, known, widths}
 use Rattle.pdu.specs.declared.Rectangle.{Rectangle}
 use Rattle.pdu.specs.Settings.{highContrast, knownSetting}
 use Rattle.pdu.specs.Settings as S
-use Rattle.pdu.specs.Records.{isYes, yesNumber, recordOf, kindOf, sizeOf}
+use Rattle.pdu.specs.Records.{isYes, yesNumber, recordOf, kindOf, positionsOf, sizeOf}
+use Rattle.pdu.specs.RoundTrip.{allHold}
 use Rattle.pdu.specs.Rules.{allowed}
 use Rattle.pdu.specs.Answers.{Answer}
 use Rattle.pdu.specs.Reading.{typeAt, settingAt, recordAs, unknownSetting, lengthsAgree, bodyNumber, readNumber, answerAs, readOf}
@@ -28,16 +31,10 @@ use Rattle.pdu.proofs.WriteBack.{not-not, reading}
 use Rattle.pdu_words.specs.Words.{wordsOf}
 use Rattle.pdu_read.specs.Told.{wordsAfter, Told}
 use Rattle.pdu_words.specs.FromWords.{u8, u16, u32, stand, Stands, pduOf, fits}
-use Rattle.pdu_words.proofs.FromWords.{words-stand, words-back, setting-fits}
+use Rattle.pdu_words.proofs.FromWords.{words-stand, words-back, word-most, setting-fits}
 use Rattle.pdu_read.specs.Answers.{Answerable, answerOf}
 
 -- ---- the numbers of a record that was read fit their fields
-
--- a number of w bytes is less than 256 to the w
-num-under : (w : ℕ) (s : List ℕ) (at : ℕ) → Bytes s → numAt w s at < 256 ^ w
-unfolding numAt
-num-under zero s at ok = omega arith
-num-under (suc w) s at ok = omega (arith, ok .small at, num-under w s (at + 1) ok)
 
 start-most : (b : Bool) → leb (yesNumber b) 1 ≡ true
 start-most true = refl
@@ -59,6 +56,16 @@ module _ (s : List ℕ) (ok : Bytes s) where
   full : (at : ℕ) → leb (numAt 4 s at) u32 ≡ true
   full at = most-of 4 u32 at (omega arith)
 
+  -- a position has a number, and its word fits and stands for it
+  place : (at : ℕ) → holds 2 (signedAt 2 s at) ≡ true
+  place at = held-2 (numAt 2 s at) (num-under 2 s at ok)
+
+  word : (at : ℕ) → leb (unsigned 4 (signedAt 2 s at)) u32 ≡ true
+  word at = word-most (signedAt 2 s at) (place at)
+
+  stands : (at : ℕ) → holds 2 (signed 4 (unsigned 4 (signedAt 2 s at))) ≡ true
+  stands at = word-short (signedAt 2 s at) (place at)
+
   -- where the second and the third string of an Execute message stand
   second : leb (12 + numAt 2 s 6) u32 ≡ true
   second = le-leb (12 + numAt 2 s 6) u32 (omega (arith, num-under 2 s 6 ok))
@@ -75,20 +82,20 @@ module _ (s : List ℕ) (ok : Bytes s) where
 
   setting-fits-read : Fits 0x03
   setting-fits-read u =
-      let place : Rectangle = record { left = numAt 2 s 8; top = numAt 2 s 10; right = numAt 2 s 12; bottom = numAt 2 s 14 } in
+      let box : Rectangle = record { left = numAt 2 s 8; top = numAt 2 s 10; right = numAt 2 s 12; bottom = numAt 2 s 14 } in
       by-shape (settingAt s) (not-not (knownSetting (settingAt s)) u) (fits (recordAs 0x03 s) ≡ true)
       (λ h. ap fits (byte-is s h refl refl) ∙ setting-fits (settingAt s) (S.byte (numAt 1 s 8)) h (under 1 u8 8 (omega arith)))
       (λ g h.
       ap fits (area-is s g h refl refl refl refl refl)
-      ∙ setting-fits (settingAt s) (S.area place) (g, h) (under 2 u16 8 (omega arith), under 2 u16 10 (omega arith), under 2 u16 12 (omega arith), under 2 u16 14 (omega arith)))
+      ∙ setting-fits (settingAt s) (S.area box) (g, h) (under 2 u16 8 (omega arith), under 2 u16 10 (omega arith), under 2 u16 12 (omega arith), under 2 u16 14 (omega arith)))
       (λ h.
       ap fits (scheme-is s (sym h) refl refl)
       ∙ setting-fits highContrast (S.scheme (record { flags = numAt 4 s 8; «color_scheme» = record { at = 18; len = numAt 2 s 16 } })) refl (under 4 u32 8 (omega arith), omega arith, under 2 u32 16 (omega arith)))
 
   each-fits : Each Fits types
-  unfolding widths numsAt recordOf recordAs wordsOf fits stand known
+  unfolding widths numsAt recordOf recordAs wordsOf positionsOf allHold fits stand known
   each-fits =
-      (λ u. rw (half 4, long 6, second, long 8, third, long 10), (λ u. rw (full 4, byte 8), (λ u. rw (full 4, half 8), (λ u. rw (full 4), (λ u. rw (full 4, full 8, full 12), (λ u. rw (full 4, half 8, half 10, half 12, half 14), (λ u. rw (full 4, start-most (isYes (numAt 2 s 8)), half 10, half 12, half 14), (λ u. rw (full 4, half 8, half 10, half 12, half 14, half 16, half 18, half 20, half 22), (λ u. rw (full 4), (λ u. rw (full 4, half 8, half 10), (λ u. rw (full 4), (λ u. rw (full 4), (setting-fits-read, (λ u. rw (full 4, full 8), (λ u. rw (half 4, half 6, full 8, long 14), tt)))))))))))))))
+      (λ u. rw (half 4, long 6, second, long 8, third, long 10), (λ u. rw (full 4, byte 8), (λ u. rw (full 4, half 8), (λ u. rw (full 4), (λ u. rw (full 4, full 8, full 12), (λ u. rw (full 4, word 8, word 10, word 12, word 14, stands 8, stands 10, stands 12, stands 14, place 8, place 10, place 12, place 14), (λ u. rw (full 4, start-most (isYes (numAt 2 s 8)), half 10, word 12, word 14, stands 12, stands 14, place 12, place 14), (λ u. rw (full 4, half 8, half 10, word 12, word 14, half 16, half 18, half 20, half 22, stands 12, stands 14, place 12, place 14), (λ u. rw (full 4), (λ u. rw (full 4, word 8, word 10, stands 8, stands 10, place 8, place 10), (λ u. rw (full 4), (λ u. rw (full 4), (setting-fits-read, (λ u. rw (full 4, full 8), (λ u. rw (half 4, half 6, full 8, long 14), tt)))))))))))))))
 
   -- the record of each message that reading grants has numbers that fit their fields
   read-fits : (p : Pdu) → readOf s ≡ Message p → fits p ≡ true
@@ -149,5 +156,6 @@ module _ {s lent words : List ℕ} {n : ℕ} (ok : Bytes s) (t : Told (readOf s)
       go : (b : Bool) → eqb n 0 ≡ b → pick (eqb n 0) (Message (pduOf words)) (Refused n) ≡ readOf s
       go true e =
           let z = eqb-true n 0 e in
-          rw e (ap Message (ap pduOf (are-words z) ∙ words-back (recordAs (typeAt s) s)) ∙ sym (is-message z))
+          let p = recordAs (typeAt s) s in
+          rw e (ap Message (ap pduOf (are-words z) ∙ words-back p (read-fits s ok p (is-message z))) ∙ sym (is-message z))
       go false e = rw e (refused e)

@@ -1,21 +1,22 @@
 -- The record of each type from the numbers read, and the ways through reading. Assumes nothing.
 use mathlib.Core.Path.{_≡_, refl, sym, ap, _∙_, subst}
 use mathlib.Core.Bool.{Bool, true, false}
-use mathlib.Core.List.{List, _∷_}
+use mathlib.Core.List.{List, [], _∷_}
 use Prim.Native.Nat.{ℕ, _+_, _≤_, _<_}
 use native.Mathlib.Omega.{arith}
-use lib.ListN.{length, getD}
+use lib.ListN.{length, getD, set}
 use lib.Dec.{eqb}
 use borrow.Author.Tests.{eq-eqb, ne-eqb, le-ltb, lt-ltb}
 use Rattle.wire.specs.Numbers.{numAt, numsAt}
 use Rattle.wire.proofs.Numbers.{Bytes}
 use Rattle.pdu.specs.declared.Pdu.{Pdu}
-use Rattle.pdu.specs.declared.Pdu.the-variants.{Execute, Activate, SystemCommand, Handshake, NotifyEvent, WindowMove, MoveSize, MinMaxInfo, ClientInformation, SystemMenu, GetApplicationId, ApplicationIdResponse, ExecuteResult, SystemParameters, HandshakeEx}
+use Rattle.pdu.specs.declared.Pdu.the-variants.{Execute, Activate, SystemCommand, Handshake, NotifyEvent, ClientInformation, GetApplicationId, ApplicationIdResponse, ExecuteResult, SystemParameters, HandshakeEx}
 use Rattle.pdu.specs.declared.Read.{Read}
 use Rattle.pdu.specs.declared.Read.the-variants.{Message, Refused}
 use Rattle.pdu.specs.Layout.{known, widths}
 use Rattle.pdu.specs.Settings.{isByte, isArea, highContrast, knownSetting, Data, byte, area, scheme, numberOf, dataOf, settingWith, dataAt, dataSize, dataAllowed, settingWidths}
-use Rattle.pdu.specs.Records.{span, isYes, recordOf, sizeOf}
+use Rattle.pdu.specs.Records.{span, isYes, yesNumber, recordOf, sizeOf}
+use Rattle.signs.specs.TwosComplement.{unsigned, signedAt}
 use Rattle.pdu.specs.Rules.{allowed}
 use Rattle.pdu.specs.Answers.{readSays}
 use Rattle.pdu.specs.Reading.{recordAs, unknownSetting, lengthsAgree, bodyNumber, readNumber, answerAs, readOf, bodyOf}
@@ -26,7 +27,7 @@ use Rattle.pdu.proofs.Answers.{read-says}
 use Rattle.pdu.proofs.Settings.{Shape, made, shape-known, byte-other, area-other, least-size}
 use Rattle.pdu.proofs.WriteBack.{writes-back}
 
--- ---- the record of each type
+-- ---- the record of each type, or its words
 
 module _ (s : List ℕ) where
   pub execute-is : {a b d e : ℕ} → a ≡ numAt 2 s 4 → b ≡ numAt 2 s 6 → d ≡ numAt 2 s 8 → e ≡ numAt 2 s 10
@@ -54,30 +55,31 @@ module _ (s : List ℕ) where
   unfolding recordAs recordOf widths numsAt
   notify-event-is e0 e1 e2 = rw (e0, e1, e2)
 
-  pub window-move-is : {a b d e f : ℕ} → a ≡ numAt 4 s 4 → b ≡ numAt 2 s 8 → d ≡ numAt 2 s 10 → e ≡ numAt 2 s 12 → f ≡ numAt 2 s 14
-      → recordAs 0x08 s ≡ WindowMove (record { «window_id» = record { id = a }; left = b; top = d; right = e; bottom = f })
-  unfolding recordAs recordOf widths numsAt
-  window-move-is e0 e1 e2 e3 e4 = rw (e0, e1, e2, e3, e4)
+  pub window-move-words : {a b d e f : ℕ} → a ≡ numAt 4 s 4 → b ≡ unsigned 4 (signedAt 2 s 8) → d ≡ unsigned 4 (signedAt 2 s 10) → e ≡ unsigned 4 (signedAt 2 s 12) → f ≡ unsigned 4 (signedAt 2 s 14)
+      → 0x08 ∷ a ∷ b ∷ d ∷ e ∷ f ∷ 0 ∷ 0 ∷ 0 ∷ 0 ∷ 0 ∷ 0 ∷ [] ≡ wordsOf (recordAs 0x08 s)
+  unfolding recordAs recordOf widths numsAt wordsOf
+  window-move-words e0 e1 e2 e3 e4 = rw (e0, e1, e2, e3, e4)
 
-  pub move-size-is : {a b d e f : ℕ} → a ≡ numAt 4 s 4 → b ≡ numAt 2 s 8 → d ≡ numAt 2 s 10 → e ≡ numAt 2 s 12 → f ≡ numAt 2 s 14
-      → recordAs 0x09 s ≡ MoveSize (record { «window_id» = record { id = a }; «is_start» = isYes b; «move_size_type» = d; «pos_x» = e; «pos_y» = f })
-  unfolding recordAs recordOf widths numsAt
-  move-size-is e0 e1 e2 e3 e4 = rw (e0, e1, e2, e3, e4)
+  pub move-size-words : {a b d e f : ℕ} → a ≡ numAt 4 s 4 → b ≡ yesNumber (isYes (numAt 2 s 8)) → d ≡ numAt 2 s 10 → e ≡ unsigned 4 (signedAt 2 s 12) → f ≡ unsigned 4 (signedAt 2 s 14)
+      → 0x09 ∷ a ∷ b ∷ d ∷ e ∷ f ∷ 0 ∷ 0 ∷ 0 ∷ 0 ∷ 0 ∷ 0 ∷ [] ≡ wordsOf (recordAs 0x09 s)
+  unfolding recordAs recordOf widths numsAt wordsOf
+  move-size-words e0 e1 e2 e3 e4 = rw (e0, e1, e2, e3, e4)
 
-  pub min-max-info-is : {a b d e f g h i j : ℕ} → a ≡ numAt 4 s 4 → b ≡ numAt 2 s 8 → d ≡ numAt 2 s 10 → e ≡ numAt 2 s 12 → f ≡ numAt 2 s 14 → g ≡ numAt 2 s 16 → h ≡ numAt 2 s 18 → i ≡ numAt 2 s 20 → j ≡ numAt 2 s 22
-      → recordAs 0x0A s ≡ MinMaxInfo (record { «window_id» = record { id = a }; «max_width» = b; «max_height» = d; «max_pos_x» = e; «max_pos_y» = f; «min_track_width» = g; «min_track_height» = h; «max_track_width» = i; «max_track_height» = j })
-  unfolding recordAs recordOf widths numsAt
-  min-max-info-is e0 e1 e2 e3 e4 e5 e6 e7 e8 = rw (e0, e1, e2, e3, e4, e5, e6, e7, e8)
+  pub min-max-info-words : {a b d e f g h i j : ℕ} → a ≡ numAt 4 s 4 → b ≡ numAt 2 s 8 → d ≡ numAt 2 s 10 → e ≡ unsigned 4 (signedAt 2 s 12) → f ≡ unsigned 4 (signedAt 2 s 14)
+      → g ≡ numAt 2 s 16 → h ≡ numAt 2 s 18 → i ≡ numAt 2 s 20 → j ≡ numAt 2 s 22
+      → {x y : List ℕ} → x ≡ 0x0A ∷ a ∷ b ∷ d ∷ e ∷ f ∷ 0 ∷ 0 ∷ 0 ∷ 0 ∷ 0 ∷ 0 ∷ [] → y ≡ set (set (set (set x 6 g) 7 h) 8 i) 9 j → y ≡ wordsOf (recordAs 0x0A s)
+  unfolding recordAs recordOf widths numsAt wordsOf
+  min-max-info-words e0 e1 e2 e3 e4 e5 e6 e7 e8 ex ey = ey ∙ rw (ex, e0, e1, e2, e3, e4, e5, e6, e7, e8)
 
   pub client-information-is : {a : ℕ} → a ≡ numAt 4 s 4
       → recordAs 0x0B s ≡ ClientInformation (record { flags = a })
   unfolding recordAs recordOf widths numsAt
   client-information-is e0 = rw (e0)
 
-  pub system-menu-is : {a b d : ℕ} → a ≡ numAt 4 s 4 → b ≡ numAt 2 s 8 → d ≡ numAt 2 s 10
-      → recordAs 0x0C s ≡ SystemMenu (record { «window_id» = record { id = a }; left = b; top = d })
-  unfolding recordAs recordOf widths numsAt
-  system-menu-is e0 e1 e2 = rw (e0, e1, e2)
+  pub system-menu-words : {a b d : ℕ} → a ≡ numAt 4 s 4 → b ≡ unsigned 4 (signedAt 2 s 8) → d ≡ unsigned 4 (signedAt 2 s 10)
+      → 0x0C ∷ a ∷ b ∷ d ∷ 0 ∷ 0 ∷ 0 ∷ 0 ∷ 0 ∷ 0 ∷ 0 ∷ 0 ∷ [] ≡ wordsOf (recordAs 0x0C s)
+  unfolding recordAs recordOf widths numsAt wordsOf
+  system-menu-words e0 e1 e2 = rw (e0, e1, e2)
 
   pub get-application-id-is : {a : ℕ} → a ≡ numAt 4 s 4
       → recordAs 0x0E s ≡ GetApplicationId (record { «window_id» = record { id = a } })

@@ -8,21 +8,18 @@ use pdu::GetApplicationId;
 use pdu::Handshake;
 use pdu::HandshakeEx;
 use pdu::HighContrast;
-use pdu::MinMaxInfo;
-use pdu::MoveSize;
 use pdu::NotifyEvent;
 use pdu::Read;
 use pdu::Rectangle;
 use pdu::Span;
 use pdu::SystemCommand;
-use pdu::SystemMenu;
-use pdu::WindowMove;
 use protocol::NotifyIconId;
 use protocol::WindowId;
 ghost use mathlib.Core.Bool.{true, false};
 ghost use mathlib.Core.Path.{_≡_};
 ghost use Rattle.wire.specs.Numbers.{numAt};
 ghost use Rattle.pdu.specs.Settings.{isByte, isArea, highContrast};
+ghost use Rattle.pdu.specs.Records.{isYes, yesNumber};
 ghost use Rattle.pdu.specs.Reading.{bodyOf, readOf};
 ghost use Rattle.pdu.specs.RoundTrip.{ReadOutcome};
 ghost use Rattle.pdu_read.specs.Told.{Told};
@@ -134,17 +131,23 @@ fn read_window_move(s: &[u8], words: &mut [u32; 12]) -> u32
     if s.len() != 16 {
         return 7;
     }
-    let e = WindowMove {
-        window_id: WindowId {
-            id: wire::read_u32(s, 4),
-        },
-        left: wire::read_u16(s, 8),
-        top: wire::read_u16(s, 10),
-        right: wire::read_u16(s, 12),
-        bottom: wire::read_u16(s, 14),
-    };
-    pdu_words::window_move_words(words, e);
+    let id = wire::read_u32(s, 4);
+    let left = signs::read_word(s, 8);
+    let top = signs::read_word(s, 10);
+    let right = signs::read_word(s, 12);
+    let bottom = signs::read_word(s, 14);
+    pdu_words::four_words(words, 0x08, id, left, top, right, bottom);
     0
+}
+
+// Any number but 0 is a start.
+fn start_number(n: u16) -> u32
+    ensures { λ r. ⌜ r ≡ yesNumber (isYes n) ⌝ }
+{
+    if n == 0 {
+        return 0;
+    }
+    1
 }
 
 fn read_move_size(s: &[u8], words: &mut [u32; 12]) -> u32
@@ -153,19 +156,15 @@ fn read_move_size(s: &[u8], words: &mut [u32; 12]) -> u32
     if s.len() != 16 {
         return 7;
     }
-    let e = MoveSize {
-        window_id: WindowId {
-            id: wire::read_u32(s, 4),
-        },
-        is_start: wire::read_u16(s, 8) != 0,
-        move_size_type: wire::read_u16(s, 10),
-        pos_x: wire::read_u16(s, 12),
-        pos_y: wire::read_u16(s, 14),
-    };
-    if !pdu::move_size_allowed(e) {
+    let kind = wire::read_u16(s, 10);
+    if !pdu::move_size_type_allowed(kind) {
         return 8;
     }
-    pdu_words::move_size_words(words, e);
+    let id = wire::read_u32(s, 4);
+    let start = start_number(wire::read_u16(s, 8));
+    let x = signs::read_word(s, 12);
+    let y = signs::read_word(s, 14);
+    pdu_words::four_words(words, 0x09, id, start, kind as u32, x, y);
     0
 }
 
@@ -175,20 +174,17 @@ fn read_min_max_info(s: &[u8], words: &mut [u32; 12]) -> u32
     if s.len() != 24 {
         return 7;
     }
-    let e = MinMaxInfo {
-        window_id: WindowId {
-            id: wire::read_u32(s, 4),
-        },
-        max_width: wire::read_u16(s, 8),
-        max_height: wire::read_u16(s, 10),
-        max_pos_x: wire::read_u16(s, 12),
-        max_pos_y: wire::read_u16(s, 14),
-        min_track_width: wire::read_u16(s, 16),
-        min_track_height: wire::read_u16(s, 18),
-        max_track_width: wire::read_u16(s, 20),
-        max_track_height: wire::read_u16(s, 22),
-    };
-    pdu_words::min_max_info_words(words, e);
+    let id = wire::read_u32(s, 4);
+    let width = wire::read_u16(s, 8) as u32;
+    let height = wire::read_u16(s, 10) as u32;
+    let pos_x = signs::read_word(s, 12);
+    let pos_y = signs::read_word(s, 14);
+    let a = wire::read_u16(s, 16) as u32;
+    let b = wire::read_u16(s, 18) as u32;
+    let c = wire::read_u16(s, 20) as u32;
+    let d = wire::read_u16(s, 22) as u32;
+    pdu_words::four_words(words, 0x0A, id, width, height, pos_x, pos_y);
+    pdu_words::track_words(words, a, b, c, d);
     0
 }
 
@@ -211,14 +207,10 @@ fn read_system_menu(s: &[u8], words: &mut [u32; 12]) -> u32
     if s.len() != 12 {
         return 7;
     }
-    let e = SystemMenu {
-        window_id: WindowId {
-            id: wire::read_u32(s, 4),
-        },
-        left: wire::read_u16(s, 8),
-        top: wire::read_u16(s, 10),
-    };
-    pdu_words::system_menu_words(words, e);
+    let id = wire::read_u32(s, 4);
+    let left = signs::read_word(s, 8);
+    let top = signs::read_word(s, 10);
+    pdu_words::four_words(words, 0x0C, id, left, top, 0, 0);
     0
 }
 

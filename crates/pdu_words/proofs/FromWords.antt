@@ -2,19 +2,25 @@
 use mathlib.Core.Path.{_≡_, refl, sym, ap, _∙_, subst}
 use mathlib.Core.Bool.{Bool, true, false}
 use mathlib.Core.List.{List, [], _∷_, map}
-use Prim.Native.Nat.{ℕ, zero, suc, _+_, _-_, _≤_, _<_}
+use Prim.Native.Nat.{ℕ, zero, suc, _+_, _-_, _*_, _≤_, _<_}
 use native.Mathlib.Nat.{add-zero}
 use native.Mathlib.Omega.{arith}
-use lib.ListN.{length, getD, drop, replicate}
+use lib.ListN.{length, getD, set, drop, replicate}
 use lib.Seq.{drop-cons, drop-length}
 use lib.Dec.{leb, eqb}
-use borrow.Author.Tests.{leb-true, le-leb, eqb-true, ne-eqb}
-use mir.Val.{Val}
+use lib.IntN.{ℤ}
+use lib.Signed.{mag}
+use borrow.Author.Tests.{leb-true, le-leb, lt-ltb, eqb-true, ne-eqb}
+use mir.Syntax.{w16}
+use mir.Val.{Val, ofZ, toZ}
+use mir.ValLaws.{toZ-ofZ}
 use denote.Laws.{Is}
 use denote.Enum.Declared.{row, variants}
 use denote.Enum.Laws.{Fields, spellss, owed}
 use Rattle.wire.specs.Tests.{both, either, pick, allAfter}
 use Rattle.wire.proofs.Tests.{both-left, both-right, Each, one-of}
+use Rattle.signs.specs.TwosComplement.{signed, unsigned, holds}
+use Rattle.signs.proofs.TwosComplement.{back-4, forth-4, longer, word-small, word-short}
 use Rattle.pdu.proofs.Pdu.{the-type}
 use Rattle.pdu.proofs.Pdu.Laws.{the-laws}
 use Rattle.pdu.specs.declared.Pdu.{Pdu}
@@ -23,10 +29,15 @@ use Rattle.pdu.specs.declared.Setting.{Setting}
 use Rattle.pdu.specs.declared.Setting.the-variants.{DragFullWindows, KeyboardCues, KeyboardPref, MouseButtonSwap, WorkArea, TaskbarPos, DisplayChange, HighContrast, ScreenSaveActive, ScreenSaveSecure}
 use Rattle.pdu.specs.Layout.{types, known}
 use Rattle.pdu.specs.Settings.{isByte, isArea, highContrast, knownSetting, Data, byte, area, scheme, numberOf, dataOf, settingWith}
-use Rattle.pdu.specs.Records.{isYes, yesNumber, kindOf}
+use Rattle.pdu.specs.Records.{isYes, yesNumber, kindOf, positionsOf}
+use Rattle.pdu.specs.RoundTrip.{allHold}
+use Rattle.pdu.specs.declared.WindowMove as W08
+use Rattle.pdu.specs.declared.MoveSize as M09
+use Rattle.pdu.specs.declared.MinMaxInfo as M0A
+use Rattle.pdu.specs.declared.SystemMenu as S0C
 use Rattle.pdu.proofs.Settings.{Shape, shape, setting-again, made, not-byte, not-area, by-shape}
-use Rattle.pdu_words.specs.Words.{settingWords, wordsOf}
-use Rattle.pdu_words.specs.FromWords.{u8, u16, u32, nothing, most, byteMost, areaMost, schemeMost, settingMost, limits, within, Within, stand, Stands, areaFrom, schemeFrom, dataFrom, recordFrom, pduOf, fits}
+use Rattle.pdu_words.specs.Words.{settingWords, wordsOf, windowMoveWords, moveSizeWords, minMaxInfoWords, systemMenuWords}
+use Rattle.pdu_words.specs.FromWords.{u8, u16, u32, nothing, most, byteMost, areaMost, schemeMost, settingMost, limits, within, Within, positionWords, isPosition, Positions, fitting, stand, Stands, areaFrom, schemeFrom, dataFrom, recordFrom, windowMoveFrom, moveSizeFrom, minMaxInfoFrom, systemMenuFrom, pduOf, fits}
 
 -- ---- limits
 
@@ -109,7 +120,7 @@ no-type k h = others k (h .0) ∙ ne-eqb k 0x80 (h .1)
 
 module _ (w : List ℕ) where
   -- the words of a known type stand where each is within its field
-  pub standing : {k : ℕ} {r : Bool} → getD w 0 0 ≡ k → known k ≡ true → r ≡ within w (limits k (getD w 1 0)) → r ≡ stand w
+  pub standing : {k : ℕ} {r : Bool} → getD w 0 0 ≡ k → known k ≡ true → r ≡ fitting k w → r ≡ stand w
   unfolding stand
   standing q u e = e ∙ rw (q, u)
 
@@ -119,15 +130,25 @@ module _ (w : List ℕ) where
 
   known-type : stand w ≡ true → known (getD w 0 0) ≡ true
   unfolding stand
-  known-type h = both-left (known (getD w 0 0)) (within w (limits (getD w 0 0) (getD w 1 0))) h
+  known-type h = both-left (known (getD w 0 0)) (fitting (getD w 0 0) w) h
+
+  fitting-type : stand w ≡ true → fitting (getD w 0 0) w ≡ true
+  unfolding stand
+  fitting-type h = both-right (known (getD w 0 0)) (fitting (getD w 0 0) w) h
+
+  -- then each word is within its field
+  within-of : (k : ℕ) → fitting k w ≡ true → within w (limits k (getD w 1 0)) ≡ true
+  within-of k h = first-of (within w (limits k (getD w 1 0))) (map (isPosition w) (positionWords k)) h
 
   within-type : stand w ≡ true → within w (limits (getD w 0 0) (getD w 1 0)) ≡ true
-  unfolding stand
-  within-type h = both-right (known (getD w 0 0)) (within w (limits (getD w 0 0) (getD w 1 0))) h
+  within-type h = within-of (getD w 0 0) (fitting-type h)
 
 -- words that stand and have none of the other types have the last
 pub last-type : {w : List ℕ} → Stands w → Others (getD w 0 0) → getD w 0 0 ≡ 0x80
 last-type {w} h o = eqb-true (getD w 0 0) 0x80 (sym (others (getD w 0 0) o) ∙ known-type w (h .holds))
+
+fitting-as : (k : ℕ) {w : List ℕ} → Stands w → getD w 0 0 ≡ k → fitting k w ≡ true
+fitting-as k {w} h q = ap (λ (i : ℕ). fitting i w) (sym q) ∙ fitting-type w (h .holds)
 
 pub inside : (k : ℕ) {w : List ℕ} → Stands w → getD w 0 0 ≡ k → Within w (limits k (getD w 1 0))
 inside k {w} h q = all-within w (limits k (getD w 1 0)) (ap (λ (i : ℕ). within w (limits i (getD w 1 0))) (sym q) ∙ within-type w (h .holds))
@@ -177,6 +198,30 @@ module _ (w : List ℕ) where
   unfolding dataFrom
   from-scheme c g h = rw (g, h)
 
+-- and the positions are sign-extended
+two-positions : {w : List ℕ} (a : Bool) (i j : ℕ) → both (both a (isPosition w i)) (isPosition w j) ≡ true → Positions w i j
+two-positions {w} a i j h =
+    record {
+      first = both-right a (isPosition w i) (both-left (both a (isPosition w i)) (isPosition w j) h);
+      second = both-right (both a (isPosition w i)) (isPosition w j) h;
+    }
+
+pub positions-08 : {w : List ℕ} → Stands w → getD w 0 0 ≡ 0x08 → Positions w 2 3 × Positions w 4 5
+positions-08 {w} h q =
+    let a = within w (most 0x08) in
+    let b = both (both a (isPosition w 2)) (isPosition w 3) in
+    let f = fitting-as 0x08 h q in
+    (two-positions a 2 3 (both-left b (isPosition w 4) (both-left (both b (isPosition w 4)) (isPosition w 5) f)), two-positions b 4 5 f)
+
+pub positions-09 : {w : List ℕ} → Stands w → getD w 0 0 ≡ 0x09 → Positions w 4 5
+positions-09 {w} h q = two-positions (within w (most 0x09)) 4 5 (fitting-as 0x09 h q)
+
+pub positions-0A : {w : List ℕ} → Stands w → getD w 0 0 ≡ 0x0A → Positions w 4 5
+positions-0A {w} h q = two-positions (within w (most 0x0A)) 4 5 (fitting-as 0x0A h q)
+
+pub positions-0C : {w : List ℕ} → Stands w → getD w 0 0 ≡ 0x0C → Positions w 2 3
+positions-0C {w} h q = two-positions (within w (most 0x0C)) 2 3 (fitting-as 0x0C h q)
+
 of-type : (w : List ℕ) (k : ℕ) {p : Pdu} → getD w 0 0 ≡ k → p ≡ recordFrom k w → pduOf w ≡ p
 unfolding pduOf
 of-type w k q e = ap (λ (i : ℕ). recordFrom i w) q ∙ sym e
@@ -206,24 +251,38 @@ setting-words-again : (s : Setting) → settingWith (getD (settingWords (numberO
 setting-words-again s =
     rw (first-two (numberOf s) (dataOf s) .1, data-again (numberOf s) (dataOf s) (shape s)) (setting-again s)
 
-record-again : (p : Pdu) → recordFrom (kindOf p) (wordsOf p) ≡ p
-unfolding kindOf wordsOf recordFrom
-record-again (Execute e) = refl
-record-again (Activate e) = refl
-record-again (SystemCommand e) = refl
-record-again (Handshake e) = refl
-record-again (NotifyEvent e) = refl
-record-again (WindowMove e) = refl
-record-again (MoveSize e) = rw (is-yes (e .«is_start»))
-record-again (MinMaxInfo e) = refl
-record-again (ClientInformation e) = refl
-record-again (SystemMenu e) = refl
-record-again (GetApplicationId e) = refl
-record-again (ApplicationIdResponse e) = refl
-record-again (ExecuteResult e) = refl
-record-again (SystemParameters e) =
+-- the first of values that have a number of 2 bytes, as a word and back, and the rest
+again : (z : ℤ) (zs : List ℤ) → allHold 2 (z ∷ zs) ≡ true → signed 4 (unsigned 4 z) ≡ z
+unfolding allHold
+again z zs t = back-4 z (longer z (both-left (holds 2 z) (allHold 2 zs) t))
+
+rest : (z : ℤ) (zs : List ℤ) → allHold 2 (z ∷ zs) ≡ true → allHold 2 zs ≡ true
+unfolding allHold
+rest z zs t = both-right (holds 2 z) (allHold 2 zs) t
+
+record-again : (p : Pdu) → allHold 2 (positionsOf p) ≡ true → recordFrom (kindOf p) (wordsOf p) ≡ p
+unfolding kindOf wordsOf recordFrom positionsOf
+record-again (Execute e) t = refl
+record-again (Activate e) t = refl
+record-again (SystemCommand e) t = refl
+record-again (Handshake e) t = refl
+record-again (NotifyEvent e) t = refl
+record-again (WindowMove e) t =
+    let t2 = rest (e .left) (e .top ∷ e .right ∷ e .bottom ∷ []) t in
+    let t3 = rest (e .top) (e .right ∷ e .bottom ∷ []) t2 in
+    rw (again (e .left) (e .top ∷ e .right ∷ e .bottom ∷ []) t, again (e .top) (e .right ∷ e .bottom ∷ []) t2, again (e .right) (e .bottom ∷ []) t3, again (e .bottom) [] (rest (e .right) (e .bottom ∷ []) t3))
+record-again (MoveSize e) t =
+    rw (is-yes (e .«is_start»), again (e .«pos_x») (e .«pos_y» ∷ []) t, again (e .«pos_y») [] (rest (e .«pos_x») (e .«pos_y» ∷ []) t))
+record-again (MinMaxInfo e) t =
+    rw (again (e .«max_pos_x») (e .«max_pos_y» ∷ []) t, again (e .«max_pos_y») [] (rest (e .«max_pos_x») (e .«max_pos_y» ∷ []) t))
+record-again (ClientInformation e) t = refl
+record-again (SystemMenu e) t = rw (again (e .left) (e .top ∷ []) t, again (e .top) [] (rest (e .left) (e .top ∷ []) t))
+record-again (GetApplicationId e) t = refl
+record-again (ApplicationIdResponse e) t = refl
+record-again (ExecuteResult e) t = refl
+record-again (SystemParameters e) t =
     ap (λ (x : Setting). SystemParameters (record { setting = x })) (setting-words-again (e .setting))
-record-again (HandshakeEx e) = refl
+record-again (HandshakeEx e) t = refl
 
 -- the first word is the type, which is known
 kind-word : (p : Pdu) → (getD (wordsOf p) 0 0 ≡ kindOf p) × (known (kindOf p) ≡ true)
@@ -247,10 +306,70 @@ kind-word (HandshakeEx e) = (refl, refl)
 -- a record's words stand for it
 pub words-stand : (p : Pdu) → fits p ≡ true → Stands (wordsOf p)
 unfolding fits
-words-stand p f = record { holds = f }
+words-stand p f = record { holds = both-left (stand (wordsOf p)) (allHold 2 (positionsOf p)) f }
 
-pub words-back : (p : Pdu) → pduOf (wordsOf p) ≡ p
-words-back p = of-type (wordsOf p) (kindOf p) (kind-word p .0) (sym (record-again p))
+pub positions-hold : (p : Pdu) → fits p ≡ true → allHold 2 (positionsOf p) ≡ true
+unfolding fits
+positions-hold p f = both-right (stand (wordsOf p)) (allHold 2 (positionsOf p)) f
+
+pub words-back : (p : Pdu) → fits p ≡ true → pduOf (wordsOf p) ≡ p
+words-back p f = of-type (wordsOf p) (kindOf p) (kind-word p .0) (sym (record-again p (positions-hold p f)))
+
+-- ---- positions as the machine has them: read back from their bits at every step
+
+pub value-16 : {r z : ℤ} → mag r < 32768 → r ≡ z → toZ w16 (ofZ w16 r) ≡ z
+value-16 {r} h e = toZ-ofZ w16 r (record { sfits = h }) ∙ e
+
+pub word-16 : {n : ℕ} (z : ℤ) → mag z < 32768 → n ≡ unsigned 4 (toZ w16 (ofZ w16 z)) → n ≡ unsigned 4 z
+word-16 z h e = e ∙ ap (unsigned 4) (toZ-ofZ w16 z (record { sfits = h }))
+
+module _ (e : W08.WindowMove) where
+  pub window-move-laid : {x : List ℕ} {a b d f : ℕ} → x ≡ 0x08 ∷ e .«window_id» .id ∷ a ∷ b ∷ d ∷ f ∷ 0 ∷ 0 ∷ 0 ∷ 0 ∷ 0 ∷ 0 ∷ []
+      → a ≡ unsigned 4 (e .left) → b ≡ unsigned 4 (e .top) → d ≡ unsigned 4 (e .right) → f ≡ unsigned 4 (e .bottom) → x ≡ windowMoveWords e
+  window-move-laid ex ea eb ed ef = ex ∙ rw (ea, eb, ed, ef)
+
+module _ (e : M09.MoveSize) where
+  pub move-size-laid : {x : List ℕ} {a b d : ℕ} → x ≡ 0x09 ∷ e .«window_id» .id ∷ a ∷ e .«move_size_type» ∷ b ∷ d ∷ 0 ∷ 0 ∷ 0 ∷ 0 ∷ 0 ∷ 0 ∷ []
+      → a ≡ yesNumber (e .«is_start») → b ≡ unsigned 4 (e .«pos_x») → d ≡ unsigned 4 (e .«pos_y») → x ≡ moveSizeWords e
+  move-size-laid ex ea eb ed = ex ∙ rw (ea, eb, ed)
+
+module _ (e : M0A.MinMaxInfo) where
+  pub min-max-info-laid : {x y : List ℕ} {a b : ℕ} → x ≡ 0x0A ∷ e .«window_id» .id ∷ e .«max_width» ∷ e .«max_height» ∷ a ∷ b ∷ 0 ∷ 0 ∷ 0 ∷ 0 ∷ 0 ∷ 0 ∷ []
+      → y ≡ set (set (set (set x 6 (e .«min_track_width»)) 7 (e .«min_track_height»)) 8 (e .«max_track_width»)) 9 (e .«max_track_height»)
+      → a ≡ unsigned 4 (e .«max_pos_x») → b ≡ unsigned 4 (e .«max_pos_y») → y ≡ minMaxInfoWords e
+  min-max-info-laid ex ey ea eb = ey ∙ rw (ex, ea, eb)
+
+module _ (e : S0C.SystemMenu) where
+  pub system-menu-laid : {x : List ℕ} {a b : ℕ} → x ≡ 0x0C ∷ e .«window_id» .id ∷ a ∷ b ∷ 0 ∷ 0 ∷ 0 ∷ 0 ∷ 0 ∷ 0 ∷ 0 ∷ 0 ∷ []
+      → a ≡ unsigned 4 (e .left) → b ≡ unsigned 4 (e .top) → x ≡ systemMenuWords e
+  system-menu-laid ex ea eb = ex ∙ rw (ea, eb)
+
+module _ (w : List ℕ) where
+  abbrev Position : ℤ → ℕ → Type 0
+  Position z i = z ≡ signed 4 (getD w i 0)
+
+  pub window-move-made : {a b d f : ℤ} → Position a 2 → Position b 3 → Position d 4 → Position f 5
+      → record { «window_id» = record { id = getD w 1 0 }; left = a; top = b; right = d; bottom = f } ≡ windowMoveFrom w
+  window-move-made ea eb ed ef = rw (ea, eb, ed, ef)
+
+  pub move-size-made : {a b : ℤ} → Position a 4 → Position b 5
+      → record { «window_id» = record { id = getD w 1 0 }; «is_start» = isYes (getD w 2 0); «move_size_type» = getD w 3 0; «pos_x» = a; «pos_y» = b } ≡ moveSizeFrom w
+  move-size-made ea eb = rw (ea, eb)
+
+  pub min-max-info-made : {a b : ℤ} → Position a 4 → Position b 5
+      → record { «window_id» = record { id = getD w 1 0 }; «max_width» = getD w 2 0; «max_height» = getD w 3 0; «max_pos_x» = a; «max_pos_y» = b; «min_track_width» = getD w 6 0; «min_track_height» = getD w 7 0; «max_track_width» = getD w 8 0; «max_track_height» = getD w 9 0 } ≡ minMaxInfoFrom w
+  min-max-info-made ea eb = rw (ea, eb)
+
+  pub system-menu-made : {a b : ℤ} → Position a 2 → Position b 3
+      → record { «window_id» = record { id = getD w 1 0 }; left = a; top = b } ≡ systemMenuFrom w
+  system-menu-made ea eb = rw (ea, eb)
+
+-- tests that are joined, one by one
+pub joined-2 : {a b d a' b' d' : Bool} → a ≡ a' → b ≡ b' → d ≡ d' → both (both a b) d ≡ both (both a' b') d'
+joined-2 p q r = rw (p, q, r)
+
+pub joined-4 : {a b d e f a' b' d' e' f' : Bool} → a ≡ a' → b ≡ b' → d ≡ d' → e ≡ e' → f ≡ f' → both (both (both (both a b) d) e) f ≡ both (both (both (both a' b') d') e') f'
+joined-4 p q r s t = rw (p, q, r, s, t)
 
 -- ---- words that stand for a record are its words
 
@@ -268,6 +387,16 @@ start-back : (n : ℕ) → n ≤ 1 → yesNumber (isYes n) ≡ n
 start-back zero h = refl
 start-back (suc zero) h = refl
 start-back (suc (suc n)) h = absurd (omega arith)
+
+-- tests that all hold, joined from the left, hold joined from the right
+two-held : (a x y : Bool) → both (both a x) y ≡ true → both x (both y true) ≡ true
+two-held a x y h = rw (both-right a x (both-left (both a x) y h), both-right (both a x) y h)
+
+four-held : (a x y z u : Bool) → both (both (both (both a x) y) z) u ≡ true → both x (both y (both z (both u true))) ≡ true
+four-held a x y z u h =
+    let g = both-left (both (both (both a x) y) z) u h in
+    let f = both-left (both (both a x) y) z g in
+    rw (both-right a x (both-left (both a x) y f), both-right (both a x) y f, both-right (both (both a x) y) z g, both-right (both (both (both a x) y) z) u h)
 
 module _ (w : List ℕ) where
   -- the last n words are 0 where the limits are
@@ -304,10 +433,22 @@ module _ (w : List ℕ) where
       (λ b a. setting-same (area (areaFrom w)) (areaMost c) 5 (b, a) (from-area w c b a) (area-limits c b a) h (refl, refl) (λ p. rw (q, p)))
       (λ e. setting-same (scheme (schemeFrom w)) (schemeMost c) 4 e (from-scheme w c (ap isByte e ∙ not-byte) (ap isArea e ∙ not-area)) (scheme-limits c e) h (refl, refl) (λ p. rw (q, p)))
 
+  -- a position, as a value and back
+  forth : (k : ℕ) → within w (most k) ≡ true → (j : ℕ) → j < 11 → getD (most k) (suc j) 0 ≡ u32 → unsigned 4 (signed 4 (getD w (suc j) 0)) ≡ getD w (suc j) 0
+  forth k h j l e = forth-4 (getD w (suc j) 0) (omega (arith, below w (most k) h j l))
+
   each-kind : Each Same types
   unfolding wordsOf recordFrom
   each-kind =
-      (λ h q. rw (q, after 0x01 7 h (refl, refl)), (λ h q. rw (q, after 0x02 2 h (refl, refl)), (λ h q. rw (q, after 0x04 2 h (refl, refl)), (λ h q. rw (q, after 0x05 1 h (refl, refl)), (λ h q. rw (q, after 0x06 3 h (refl, refl)), (λ h q. rw (q, after 0x08 5 h (refl, refl)), (λ h q. rw (q, start-back (getD w 2 0) (below w (most 0x09) h 1 (omega arith)), after 0x09 5 h (refl, refl)), (λ h q. rw (q, after 0x0A 9 h (refl, refl)), (λ h q. rw (q, after 0x0B 1 h (refl, refl)), (λ h q. rw (q, after 0x0C 3 h (refl, refl)), (λ h q. rw (q, after 0x0E 1 h (refl, refl)), (λ h q. rw (q, after 0x0F 3 h (refl, refl)), (setting-words, (λ h q. rw (q, after 0x13 2 h (refl, refl)), (λ h q. rw (q, after 0x80 5 h (refl, refl)), tt)))))))))))))))
+      (λ h q. rw (q, after 0x01 7 h (refl, refl)), (λ h q. rw (q, after 0x02 2 h (refl, refl)), (λ h q. rw (q, after 0x04 2 h (refl, refl)), (λ h q. rw (q, after 0x05 1 h (refl, refl)), (λ h q. rw (q, after 0x06 3 h (refl, refl)), (λ h q. rw (q, forth 0x08 h 1 (omega arith) refl, forth 0x08 h 2 (omega arith) refl, forth 0x08 h 3 (omega arith) refl, forth 0x08 h 4 (omega arith) refl, after 0x08 5 h (refl, refl)), (λ h q. rw (q, start-back (getD w 2 0) (below w (most 0x09) h 1 (omega arith)), forth 0x09 h 3 (omega arith) refl, forth 0x09 h 4 (omega arith) refl, after 0x09 5 h (refl, refl)), (λ h q. rw (q, forth 0x0A h 3 (omega arith) refl, forth 0x0A h 4 (omega arith) refl, after 0x0A 9 h (refl, refl)), (λ h q. rw (q, after 0x0B 1 h (refl, refl)), (λ h q. rw (q, forth 0x0C h 1 (omega arith) refl, forth 0x0C h 2 (omega arith) refl, after 0x0C 3 h (refl, refl)), (λ h q. rw (q, after 0x0E 1 h (refl, refl)), (λ h q. rw (q, after 0x0F 3 h (refl, refl)), (setting-words, (λ h q. rw (q, after 0x13 2 h (refl, refl)), (λ h q. rw (q, after 0x80 5 h (refl, refl)), tt)))))))))))))))
+
+  abbrev Held-positions : ℕ → Type 0
+  Held-positions k = fitting k w ≡ true → allHold 2 (positionsOf (recordFrom k w)) ≡ true
+
+  each-held : Each Held-positions types
+  unfolding positionsOf recordFrom allHold
+  each-held =
+      (λ f. refl, (λ f. refl, (λ f. refl, (λ f. refl, (λ f. refl, (λ f. four-held (within w (most 0x08)) (isPosition w 2) (isPosition w 3) (isPosition w 4) (isPosition w 5) f, (λ f. two-held (within w (most 0x09)) (isPosition w 4) (isPosition w 5) f, (λ f. two-held (within w (most 0x0A)) (isPosition w 4) (isPosition w 5) f, (λ f. refl, (λ f. two-held (within w (most 0x0C)) (isPosition w 2) (isPosition w 3) f, (λ f. refl, (λ f. refl, (λ f. refl, (λ f. refl, (λ f. refl, tt)))))))))))))))
 
   pub words-forth : length w ≡ 12 → Stands w → (wordsOf (pduOf w) ≡ w) × (fits (pduOf w) ≡ true)
   unfolding known pduOf fits
@@ -315,7 +456,8 @@ module _ (w : List ℕ) where
       let k = getD w 0 0 in
       let p = recordFrom k w in
       let x : wordsOf p ≡ w = one-of Same types k (known-type w (h .holds)) each-kind (within-type w (h .holds)) refl ∙ list-whole 12 0 w l in
-      (x, ap stand x ∙ h .holds)
+      let z : stand (wordsOf p) ≡ true = ap stand x ∙ h .holds in
+      (x, rw z (one-of Held-positions types k (known-type w (h .holds)) each-held (fitting-type w (h .holds))))
 
 -- ---- the fields of a record in memory fit
 
@@ -358,25 +500,48 @@ words-fit c (scheme d) h g = data-fits c (scheme d) h g
 
 -- a setting with data of its shape that fits
 pub setting-fits : (c : ℕ) (d : Data) → Shape c d → HeldData d → fits (SystemParameters (record { setting = settingWith c d })) ≡ true
-unfolding fits wordsOf
-setting-fits c d h g = let m = made c d h in rw (m .number, m .body) (words-fit c d h g)
+unfolding fits wordsOf positionsOf allHold
+setting-fits c d h g = let m = made c d h in rw (m .number, m .body, words-fit c d h g)
+
+-- a value of 16 bits
+small : (z : ℤ) → mag z < 32768 → holds 2 z ≡ true
+unfolding holds
+small z h = lt-ltb (2 * mag z) 65536 (omega arith)
+
+-- its word fits, and stands for it
+pub word-most : (z : ℤ) → holds 2 z ≡ true → leb (unsigned 4 z) u32 ≡ true
+word-most z h = le-leb (unsigned 4 z) u32 (omega (arith, word-small z h))
 
 held-fits : (p : Pdu) → Held p → fits p ≡ true
-unfolding fits stand known wordsOf
+unfolding fits stand known wordsOf positionsOf allHold
 held-fits (Execute e) g = rw (le-leb (e .flags) u16 (omega (arith, g)), le-leb (e .«exe_or_file» .at) u32 (omega (arith, g)), le-leb (e .«exe_or_file» .len) u32 (omega (arith, g)), le-leb (e .«working_dir» .at) u32 (omega (arith, g)), le-leb (e .«working_dir» .len) u32 (omega (arith, g)), le-leb (e .arguments .at) u32 (omega (arith, g)), le-leb (e .arguments .len) u32 (omega (arith, g)))
 held-fits (Activate e) g = rw (le-leb (e .«window_id» .id) u32 (omega (arith, g)), le-leb (e .enabled) u8 (omega (arith, g)))
 held-fits (SystemCommand e) g = rw (le-leb (e .«window_id» .id) u32 (omega (arith, g)), le-leb (e .command) u16 (omega (arith, g)))
 held-fits (Handshake e) g = rw (le-leb (e .«build_number») u32 (omega (arith, g)))
 held-fits (NotifyEvent e) g = rw (le-leb (e .«window_id» .id) u32 (omega (arith, g)), le-leb (e .«notify_icon_id» .id) u32 (omega (arith, g)), le-leb (e .message) u32 (omega (arith, g)))
-held-fits (WindowMove e) g = rw (le-leb (e .«window_id» .id) u32 (omega (arith, g)), le-leb (e .left) u16 (omega (arith, g)), le-leb (e .top) u16 (omega (arith, g)), le-leb (e .right) u16 (omega (arith, g)), le-leb (e .bottom) u16 (omega (arith, g)))
-held-fits (MoveSize e) g = rw (le-leb (e .«window_id» .id) u32 (omega (arith, g)), start-most (e .«is_start»), le-leb (e .«move_size_type») u16 (omega (arith, g)), le-leb (e .«pos_x») u16 (omega (arith, g)), le-leb (e .«pos_y») u16 (omega (arith, g)))
-held-fits (MinMaxInfo e) g = rw (le-leb (e .«window_id» .id) u32 (omega (arith, g)), le-leb (e .«max_width») u16 (omega (arith, g)), le-leb (e .«max_height») u16 (omega (arith, g)), le-leb (e .«max_pos_x») u16 (omega (arith, g)), le-leb (e .«max_pos_y») u16 (omega (arith, g)), le-leb (e .«min_track_width») u16 (omega (arith, g)), le-leb (e .«min_track_height») u16 (omega (arith, g)), le-leb (e .«max_track_width») u16 (omega (arith, g)), le-leb (e .«max_track_height») u16 (omega (arith, g)))
+held-fits (WindowMove e) g =
+    let s1 = small (e .left) (omega (arith, g)) in
+    let s2 = small (e .top) (omega (arith, g)) in
+    let s3 = small (e .right) (omega (arith, g)) in
+    let s4 = small (e .bottom) (omega (arith, g)) in
+    rw (le-leb (e .«window_id» .id) u32 (omega (arith, g)), word-most (e .left) s1, word-most (e .top) s2, word-most (e .right) s3, word-most (e .bottom) s4, word-short (e .left) s1, word-short (e .top) s2, word-short (e .right) s3, word-short (e .bottom) s4, s1, s2, s3, s4)
+held-fits (MoveSize e) g =
+    let s3 = small (e .«pos_x») (omega (arith, g)) in
+    let s4 = small (e .«pos_y») (omega (arith, g)) in
+    rw (le-leb (e .«window_id» .id) u32 (omega (arith, g)), start-most (e .«is_start»), le-leb (e .«move_size_type») u16 (omega (arith, g)), word-most (e .«pos_x») s3, word-most (e .«pos_y») s4, word-short (e .«pos_x») s3, word-short (e .«pos_y») s4, s3, s4)
+held-fits (MinMaxInfo e) g =
+    let s3 = small (e .«max_pos_x») (omega (arith, g)) in
+    let s4 = small (e .«max_pos_y») (omega (arith, g)) in
+    rw (le-leb (e .«window_id» .id) u32 (omega (arith, g)), le-leb (e .«max_width») u16 (omega (arith, g)), le-leb (e .«max_height») u16 (omega (arith, g)), word-most (e .«max_pos_x») s3, word-most (e .«max_pos_y») s4, le-leb (e .«min_track_width») u16 (omega (arith, g)), le-leb (e .«min_track_height») u16 (omega (arith, g)), le-leb (e .«max_track_width») u16 (omega (arith, g)), le-leb (e .«max_track_height») u16 (omega (arith, g)), word-short (e .«max_pos_x») s3, word-short (e .«max_pos_y») s4, s3, s4)
 held-fits (ClientInformation e) g = rw (le-leb (e .flags) u32 (omega (arith, g)))
-held-fits (SystemMenu e) g = rw (le-leb (e .«window_id» .id) u32 (omega (arith, g)), le-leb (e .left) u16 (omega (arith, g)), le-leb (e .top) u16 (omega (arith, g)))
+held-fits (SystemMenu e) g =
+    let s1 = small (e .left) (omega (arith, g)) in
+    let s2 = small (e .top) (omega (arith, g)) in
+    rw (le-leb (e .«window_id» .id) u32 (omega (arith, g)), word-most (e .left) s1, word-most (e .top) s2, word-short (e .left) s1, word-short (e .top) s2, s1, s2)
 held-fits (GetApplicationId e) g = rw (le-leb (e .«window_id» .id) u32 (omega (arith, g)))
 held-fits (ApplicationIdResponse e) g = rw (le-leb (e .«window_id» .id) u32 (omega (arith, g)), le-leb (e .«application_id» .at) u32 (omega (arith, g)), le-leb (e .«application_id» .len) u32 (omega (arith, g)))
 held-fits (ExecuteResult e) g = rw (le-leb (e .flags) u16 (omega (arith, g)), le-leb (e .«exec_result») u16 (omega (arith, g)), le-leb (e .«raw_result») u32 (omega (arith, g)), le-leb (e .«exe_or_file» .at) u32 (omega (arith, g)), le-leb (e .«exe_or_file» .len) u32 (omega (arith, g)))
-held-fits (SystemParameters e) g = words-fit (numberOf (e .setting)) (dataOf (e .setting)) (shape (e .setting)) (held-data (e .setting) g)
+held-fits (SystemParameters e) g = rw (words-fit (numberOf (e .setting)) (dataOf (e .setting)) (shape (e .setting)) (held-data (e .setting) g))
 held-fits (HandshakeEx e) g = rw (le-leb (e .«build_number») u32 (omega (arith, g)), le-leb (e .flags) u32 (omega (arith, g)))
 
 pub memory-fits : (p : Pdu) (vs : List Val) → Is (row the-type) p vs → fits p ≡ true

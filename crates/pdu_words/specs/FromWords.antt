@@ -27,7 +27,9 @@ use Rattle.pdu.specs.declared.Rectangle.{Rectangle}
 use Rattle.pdu.specs.declared.HighContrast as H
 use Rattle.pdu.specs.declared.Setting.{Setting}
 use Rattle.pdu.specs.Layout.{known}
-use Rattle.pdu.specs.Records.{span, isYes}
+use Rattle.pdu.specs.Records.{span, isYes, positionsOf}
+use Rattle.pdu.specs.RoundTrip.{allHold}
+use Rattle.signs.specs.TwosComplement.{signed, holds}
 use Rattle.pdu.specs.Settings.{isByte, isArea, highContrast, Data, byte, area, scheme, settingWith}
 use Rattle.pdu_words.specs.Words.{wordsOf}
 
@@ -53,11 +55,11 @@ most k =
     (pick (eqb k 0x04) (0x04 ∷ u32 ∷ u16 ∷ 0 ∷ 0 ∷ 0 ∷ 0 ∷ 0 ∷ 0 ∷ 0 ∷ 0 ∷ 0 ∷ [])
     (pick (eqb k 0x05) (0x05 ∷ u32 ∷ 0 ∷ 0 ∷ 0 ∷ 0 ∷ 0 ∷ 0 ∷ 0 ∷ 0 ∷ 0 ∷ 0 ∷ [])
     (pick (eqb k 0x06) (0x06 ∷ u32 ∷ u32 ∷ u32 ∷ 0 ∷ 0 ∷ 0 ∷ 0 ∷ 0 ∷ 0 ∷ 0 ∷ 0 ∷ [])
-    (pick (eqb k 0x08) (0x08 ∷ u32 ∷ u16 ∷ u16 ∷ u16 ∷ u16 ∷ 0 ∷ 0 ∷ 0 ∷ 0 ∷ 0 ∷ 0 ∷ [])
-    (pick (eqb k 0x09) (0x09 ∷ u32 ∷ 1 ∷ u16 ∷ u16 ∷ u16 ∷ 0 ∷ 0 ∷ 0 ∷ 0 ∷ 0 ∷ 0 ∷ [])
-    (pick (eqb k 0x0A) (0x0A ∷ u32 ∷ u16 ∷ u16 ∷ u16 ∷ u16 ∷ u16 ∷ u16 ∷ u16 ∷ u16 ∷ 0 ∷ 0 ∷ [])
+    (pick (eqb k 0x08) (0x08 ∷ u32 ∷ u32 ∷ u32 ∷ u32 ∷ u32 ∷ 0 ∷ 0 ∷ 0 ∷ 0 ∷ 0 ∷ 0 ∷ [])
+    (pick (eqb k 0x09) (0x09 ∷ u32 ∷ 1 ∷ u16 ∷ u32 ∷ u32 ∷ 0 ∷ 0 ∷ 0 ∷ 0 ∷ 0 ∷ 0 ∷ [])
+    (pick (eqb k 0x0A) (0x0A ∷ u32 ∷ u16 ∷ u16 ∷ u32 ∷ u32 ∷ u16 ∷ u16 ∷ u16 ∷ u16 ∷ 0 ∷ 0 ∷ [])
     (pick (eqb k 0x0B) (0x0B ∷ u32 ∷ 0 ∷ 0 ∷ 0 ∷ 0 ∷ 0 ∷ 0 ∷ 0 ∷ 0 ∷ 0 ∷ 0 ∷ [])
-    (pick (eqb k 0x0C) (0x0C ∷ u32 ∷ u16 ∷ u16 ∷ 0 ∷ 0 ∷ 0 ∷ 0 ∷ 0 ∷ 0 ∷ 0 ∷ 0 ∷ [])
+    (pick (eqb k 0x0C) (0x0C ∷ u32 ∷ u32 ∷ u32 ∷ 0 ∷ 0 ∷ 0 ∷ 0 ∷ 0 ∷ 0 ∷ 0 ∷ 0 ∷ [])
     (pick (eqb k 0x0E) (0x0E ∷ u32 ∷ 0 ∷ 0 ∷ 0 ∷ 0 ∷ 0 ∷ 0 ∷ 0 ∷ 0 ∷ 0 ∷ 0 ∷ [])
     (pick (eqb k 0x0F) (0x0F ∷ u32 ∷ u32 ∷ u32 ∷ 0 ∷ 0 ∷ 0 ∷ 0 ∷ 0 ∷ 0 ∷ 0 ∷ 0 ∷ [])
     (pick (eqb k 0x80) (0x80 ∷ u16 ∷ u16 ∷ u32 ∷ u32 ∷ u32 ∷ 0 ∷ 0 ∷ 0 ∷ 0 ∷ 0 ∷ 0 ∷ [])
@@ -99,9 +101,30 @@ pub record Within (w m : List ℕ) : Type 0 where
   pub at10 : getD w 10 0 ≤ getD m 10 0
   pub at11 : getD w 11 0 ≤ getD m 11 0
 
--- the words stand for a record: the type and the setting are known, and each word is within its field, those after the last 0
+-- the words of a record of type k that are positions, and whether a word is one: 2 bytes have a number for its value
+abbrev pub positionWords : ℕ → List ℕ
+positionWords k =
+    pick (eqb k 0x08) (2 ∷ 3 ∷ 4 ∷ 5 ∷ [])
+    (pick (eqb k 0x09) (4 ∷ 5 ∷ [])
+    (pick (eqb k 0x0A) (4 ∷ 5 ∷ [])
+    (pick (eqb k 0x0C) (2 ∷ 3 ∷ [])
+    [])))
+
+abbrev pub isPosition : List ℕ → ℕ → Bool
+isPosition w i = holds 2 (signed 4 (getD w i 0))
+
+-- two words that are
+pub record Positions (w : List ℕ) (i j : ℕ) : Type 0 where
+  pub first : isPosition w i ≡ true
+  pub second : isPosition w j ≡ true
+
+-- the words are those of a record of type k: each is within its field, those after the last 0, and positions are sign-extended
+abbrev pub fitting : ℕ → List ℕ → Bool
+fitting k w = all (within w (limits k (getD w 1 0)) ∷ map (isPosition w) (positionWords k))
+
+-- the words stand for a record: the type and the setting are known, and they are those of a record of that type
 unfoldable pub stand : List ℕ → Bool
-stand w = both (known (getD w 0 0)) (within w (limits (getD w 0 0) (getD w 1 0)))
+stand w = both (known (getD w 0 0)) (fitting (getD w 0 0) w)
 
 pub record Stands (w : List ℕ) : Type 0 where
   pub holds : stand w ≡ true
@@ -124,19 +147,19 @@ abbrev pub notifyEventFrom : List ℕ → N06.NotifyEvent
 notifyEventFrom w = record { «window_id» = record { id = getD w 1 0 }; «notify_icon_id» = record { id = getD w 2 0 }; message = getD w 3 0 }
 
 abbrev pub windowMoveFrom : List ℕ → W08.WindowMove
-windowMoveFrom w = record { «window_id» = record { id = getD w 1 0 }; left = getD w 2 0; top = getD w 3 0; right = getD w 4 0; bottom = getD w 5 0 }
+windowMoveFrom w = record { «window_id» = record { id = getD w 1 0 }; left = signed 4 (getD w 2 0); top = signed 4 (getD w 3 0); right = signed 4 (getD w 4 0); bottom = signed 4 (getD w 5 0) }
 
 abbrev pub moveSizeFrom : List ℕ → M09.MoveSize
-moveSizeFrom w = record { «window_id» = record { id = getD w 1 0 }; «is_start» = isYes (getD w 2 0); «move_size_type» = getD w 3 0; «pos_x» = getD w 4 0; «pos_y» = getD w 5 0 }
+moveSizeFrom w = record { «window_id» = record { id = getD w 1 0 }; «is_start» = isYes (getD w 2 0); «move_size_type» = getD w 3 0; «pos_x» = signed 4 (getD w 4 0); «pos_y» = signed 4 (getD w 5 0) }
 
 abbrev pub minMaxInfoFrom : List ℕ → M0A.MinMaxInfo
-minMaxInfoFrom w = record { «window_id» = record { id = getD w 1 0 }; «max_width» = getD w 2 0; «max_height» = getD w 3 0; «max_pos_x» = getD w 4 0; «max_pos_y» = getD w 5 0; «min_track_width» = getD w 6 0; «min_track_height» = getD w 7 0; «max_track_width» = getD w 8 0; «max_track_height» = getD w 9 0 }
+minMaxInfoFrom w = record { «window_id» = record { id = getD w 1 0 }; «max_width» = getD w 2 0; «max_height» = getD w 3 0; «max_pos_x» = signed 4 (getD w 4 0); «max_pos_y» = signed 4 (getD w 5 0); «min_track_width» = getD w 6 0; «min_track_height» = getD w 7 0; «max_track_width» = getD w 8 0; «max_track_height» = getD w 9 0 }
 
 abbrev pub clientInformationFrom : List ℕ → C0B.ClientInformation
 clientInformationFrom w = record { flags = getD w 1 0 }
 
 abbrev pub systemMenuFrom : List ℕ → S0C.SystemMenu
-systemMenuFrom w = record { «window_id» = record { id = getD w 1 0 }; left = getD w 2 0; top = getD w 3 0 }
+systemMenuFrom w = record { «window_id» = record { id = getD w 1 0 }; left = signed 4 (getD w 2 0); top = signed 4 (getD w 3 0) }
 
 abbrev pub getApplicationIdFrom : List ℕ → G0E.GetApplicationId
 getApplicationIdFrom w = record { «window_id» = record { id = getD w 1 0 } }
@@ -190,4 +213,4 @@ pduOf w = recordFrom (getD w 0 0) w
 
 -- each field of a record is within its type, as those of every value in memory are
 unfoldable pub fits : Pdu → Bool
-fits p = stand (wordsOf p)
+fits p = both (stand (wordsOf p)) (allHold 2 (positionsOf p))

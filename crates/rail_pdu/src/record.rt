@@ -23,6 +23,7 @@ use pdu::WindowMove;
 use protocol::NotifyIconId;
 use protocol::WindowId;
 ghost use Prim.Native.Nat.{_<_};
+use signs::read_i16;
 use wire::read_u8;
 use wire::read_u16;
 use wire::read_u32;
@@ -139,10 +140,10 @@ fn notify_event(s: &[u8]) -> Pdu {
 fn window_move(s: &[u8]) -> Pdu {
     Pdu::WindowMove(WindowMove {
         window_id: window(s),
-        left: read_u16(s, 8),
-        top: read_u16(s, 10),
-        right: read_u16(s, 12),
-        bottom: read_u16(s, 14),
+        left: read_i16(s, 8),
+        top: read_i16(s, 10),
+        right: read_i16(s, 12),
+        bottom: read_i16(s, 14),
     })
 }
 
@@ -151,8 +152,8 @@ fn move_size(s: &[u8]) -> Pdu {
         window_id: window(s),
         is_start: read_u8(s, 8) != 0,
         move_size_type: read_u16(s, 9),
-        pos_x: read_u16(s, 11),
-        pos_y: read_u16(s, 13),
+        pos_x: read_i16(s, 11),
+        pos_y: read_i16(s, 13),
     })
 }
 
@@ -161,8 +162,8 @@ fn min_max_info(s: &[u8]) -> Pdu {
         window_id: window(s),
         max_width: read_u16(s, 8),
         max_height: read_u16(s, 10),
-        max_pos_x: read_u16(s, 12),
-        max_pos_y: read_u16(s, 14),
+        max_pos_x: read_i16(s, 12),
+        max_pos_y: read_i16(s, 14),
         min_track_width: read_u16(s, 16),
         min_track_height: read_u16(s, 18),
         max_track_width: read_u16(s, 20),
@@ -179,8 +180,8 @@ fn client_information(s: &[u8]) -> Pdu {
 fn system_menu(s: &[u8]) -> Pdu {
     Pdu::SystemMenu(SystemMenu {
         window_id: window(s),
-        left: read_u16(s, 8),
-        top: read_u16(s, 10),
+        left: read_i16(s, 8),
+        top: read_i16(s, 10),
     })
 }
 

@@ -1,5 +1,5 @@
-// A record as text: a template for each type, in which `#` stands for the next word of the record as a decimal, `%` for it as eight
-// hex digits, and `$` for the bytes in hex of the string whose place in s and length the next two words are.
+// A record as text: a template for each type, in which `#` stands for the next word of the record as a decimal, `~` for it as a signed
+// decimal, `%` for it as eight hex digits, and `$` for the bytes in hex of the string whose place in s and length the next two words are.
 use pdu::Pdu;
 
 // Word k, if there is one.
@@ -23,6 +23,7 @@ fn stand_for(out: &mut [u8], at: usize, s: &[u8], words: &[u32; 12], k: usize, b
     match b {
         b'#' => print::decimal(out, at, word(words, k) as u64),
         b'%' => eight_digits(out, at, word(words, k)),
+        b'~' => print::signed(out, at, signs::signed32(word(words, k))),
         b'$' => {
             let from = word(words, k) as usize;
             let len = word(words, after(k, b'#')) as usize;
@@ -39,6 +40,7 @@ fn after(k: usize, b: u8) -> usize {
     }
     match b {
         b'#' => k + 1,
+        b'~' => k + 1,
         b'%' => k + 1,
         b'$' => k + 2,
         _ => k,
@@ -69,23 +71,23 @@ fn of_a_window(out: &mut [u8], at: usize, s: &[u8], words: &[u32; 12]) -> usize 
             at,
             s,
             words,
-            b"0008 window=# left=# top=# right=# bottom=#",
+            b"0008 window=# left=~ top=~ right=~ bottom=~",
         ),
         0x09 => fill(
             out,
             at,
             s,
             words,
-            b"0009 window=# start=# move_type=# x=# y=#",
+            b"0009 window=# start=# move_type=# x=~ y=~",
         ),
         0x0A => fill(
             out,
             at,
             s,
             words,
-            b"000a window=# max_width=# max_height=# max_x=# max_y=# min_track_width=# min_track_height=# max_track_width=# max_track_height=#",
+            b"000a window=# max_width=# max_height=# max_x=~ max_y=~ min_track_width=# min_track_height=# max_track_width=# max_track_height=#",
         ),
-        _ => fill(out, at, s, words, b"000c window=# left=# top=#"),
+        _ => fill(out, at, s, words, b"000c window=# left=~ top=~"),
     }
 }
 

@@ -111,24 +111,24 @@ fn with_positions<'a>(record: &Record<'a>) -> Message<'a> {
     match record {
         Record::WindowMove(r) => Message::WindowMove {
             window_id: WindowId(r.window_id.0),
-            left: r.left as i16,
-            top: r.top as i16,
-            right: r.right as i16,
-            bottom: r.bottom as i16,
+            left: r.left,
+            top: r.top,
+            right: r.right,
+            bottom: r.bottom,
         },
         Record::MoveSize(r) => Message::MoveSize {
             window_id: WindowId(r.window_id.0),
             is_start: r.is_move_size_start,
             move_size_type: r.move_size_type,
-            pos_x: r.pos_x as i16,
-            pos_y: r.pos_y as i16,
+            pos_x: r.pos_x,
+            pos_y: r.pos_y,
         },
         Record::MinMaxInfo(r) => Message::MinMaxInfo {
             window_id: WindowId(r.window_id.0),
             max_width: r.max_width,
             max_height: r.max_height,
-            max_pos_x: r.max_pos_x as i16,
-            max_pos_y: r.max_pos_y as i16,
+            max_pos_x: r.max_pos_x,
+            max_pos_y: r.max_pos_y,
             min_track_width: r.min_track_width,
             min_track_height: r.min_track_height,
             max_track_width: r.max_track_width,
@@ -136,8 +136,8 @@ fn with_positions<'a>(record: &Record<'a>) -> Message<'a> {
         },
         Record::SystemMenu(r) => Message::SystemMenu {
             window_id: WindowId(r.window_id.0),
-            left: r.left as i16,
-            top: r.top as i16,
+            left: r.left,
+            top: r.top,
         },
         _ => unreachable!("a record with positions"),
     }

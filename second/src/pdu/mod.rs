@@ -145,10 +145,10 @@ pub struct NotifyEvent {
 #[allow(missing_docs)]
 pub struct WindowMove {
     pub window_id: WindowId,
-    pub left: u16,
-    pub top: u16,
-    pub right: u16,
-    pub bottom: u16,
+    pub left: i16,
+    pub top: i16,
+    pub right: i16,
+    pub bottom: i16,
 }
 
 /// Server Move/Size Start or End (0009).
@@ -158,8 +158,8 @@ pub struct MoveSize {
     pub window_id: WindowId,
     pub is_move_size_start: bool,
     pub move_size_type: u16,
-    pub pos_x: u16,
-    pub pos_y: u16,
+    pub pos_x: i16,
+    pub pos_y: i16,
 }
 
 /// Server Min Max Info (000A).
@@ -169,8 +169,8 @@ pub struct MinMaxInfo {
     pub window_id: WindowId,
     pub max_width: u16,
     pub max_height: u16,
-    pub max_pos_x: u16,
-    pub max_pos_y: u16,
+    pub max_pos_x: i16,
+    pub max_pos_y: i16,
     pub min_track_width: u16,
     pub min_track_height: u16,
     pub max_track_width: u16,
@@ -189,8 +189,8 @@ pub struct ClientInformation {
 #[allow(missing_docs)]
 pub struct SystemMenu {
     pub window_id: WindowId,
-    pub left: u16,
-    pub top: u16,
+    pub left: i16,
+    pub top: i16,
 }
 
 /// Client Get Application ID (000E).

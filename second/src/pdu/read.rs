@@ -97,10 +97,10 @@ fn window_move(body: &[u8]) -> Result<Record<'_>, u8> {
     let body = exact::<12>(body)?;
     Ok(Record::WindowMove(WindowMove {
         window_id: window_id(body),
-        left: u16_at(body, 4),
-        top: u16_at(body, 6),
-        right: u16_at(body, 8),
-        bottom: u16_at(body, 10),
+        left: i16_at(body, 4),
+        top: i16_at(body, 6),
+        right: i16_at(body, 8),
+        bottom: i16_at(body, 10),
     }))
 }
 
@@ -110,8 +110,8 @@ fn move_size(body: &[u8]) -> Result<Record<'_>, u8> {
         window_id: window_id(body),
         is_move_size_start: u16_at(body, 4) != 0,
         move_size_type: u16_at(body, 6),
-        pos_x: u16_at(body, 8),
-        pos_y: u16_at(body, 10),
+        pos_x: i16_at(body, 8),
+        pos_y: i16_at(body, 10),
     };
     granted(record.is_allowed(), Record::MoveSize(record))
 }
@@ -122,8 +122,8 @@ fn min_max_info(body: &[u8]) -> Result<Record<'_>, u8> {
         window_id: window_id(body),
         max_width: u16_at(body, 4),
         max_height: u16_at(body, 6),
-        max_pos_x: u16_at(body, 8),
-        max_pos_y: u16_at(body, 10),
+        max_pos_x: i16_at(body, 8),
+        max_pos_y: i16_at(body, 10),
         min_track_width: u16_at(body, 12),
         min_track_height: u16_at(body, 14),
         max_track_width: u16_at(body, 16),
@@ -142,8 +142,8 @@ fn system_menu(body: &[u8]) -> Result<Record<'_>, u8> {
     let body = exact::<8>(body)?;
     Ok(Record::SystemMenu(SystemMenu {
         window_id: window_id(body),
-        left: u16_at(body, 4),
-        top: u16_at(body, 6),
+        left: i16_at(body, 4),
+        top: i16_at(body, 6),
     }))
 }
 
@@ -256,6 +256,12 @@ fn window_id<const N: usize>(body: &[u8; N]) -> WindowId {
 #[inline(always)]
 fn u16_at<const N: usize>(bytes: &[u8; N], at: usize) -> u16 {
     u16::from_le_bytes([bytes[at], bytes[at + 1]])
+}
+
+/// A position: two's complement.
+#[inline(always)]
+fn i16_at<const N: usize>(bytes: &[u8; N], at: usize) -> i16 {
+    i16::from_le_bytes([bytes[at], bytes[at + 1]])
 }
 
 #[inline(always)]

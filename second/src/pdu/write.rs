@@ -86,10 +86,10 @@ fn notify_event(r: &NotifyEvent, out: &mut [u8]) -> Result<usize, u8> {
 fn window_move(r: &WindowMove, out: &mut [u8]) -> Result<usize, u8> {
     let message = fixed::<16>(order_type::WINDOW_MOVE, out)?;
     put_u32(message, 4, r.window_id.0);
-    put_u16(message, 8, r.left);
-    put_u16(message, 10, r.top);
-    put_u16(message, 12, r.right);
-    put_u16(message, 14, r.bottom);
+    put_i16(message, 8, r.left);
+    put_i16(message, 10, r.top);
+    put_i16(message, 12, r.right);
+    put_i16(message, 14, r.bottom);
     Ok(16)
 }
 
@@ -99,8 +99,8 @@ fn move_size(r: &MoveSize, out: &mut [u8]) -> Result<usize, u8> {
     put_u32(message, 4, r.window_id.0);
     put_u16(message, 8, u16::from(r.is_move_size_start));
     put_u16(message, 10, r.move_size_type);
-    put_u16(message, 12, r.pos_x);
-    put_u16(message, 14, r.pos_y);
+    put_i16(message, 12, r.pos_x);
+    put_i16(message, 14, r.pos_y);
     Ok(16)
 }
 
@@ -109,8 +109,8 @@ fn min_max_info(r: &MinMaxInfo, out: &mut [u8]) -> Result<usize, u8> {
     put_u32(message, 4, r.window_id.0);
     put_u16(message, 8, r.max_width);
     put_u16(message, 10, r.max_height);
-    put_u16(message, 12, r.max_pos_x);
-    put_u16(message, 14, r.max_pos_y);
+    put_i16(message, 12, r.max_pos_x);
+    put_i16(message, 14, r.max_pos_y);
     put_u16(message, 16, r.min_track_width);
     put_u16(message, 18, r.min_track_height);
     put_u16(message, 20, r.max_track_width);
@@ -121,8 +121,8 @@ fn min_max_info(r: &MinMaxInfo, out: &mut [u8]) -> Result<usize, u8> {
 fn system_menu(r: &SystemMenu, out: &mut [u8]) -> Result<usize, u8> {
     let message = fixed::<12>(order_type::SYSTEM_MENU, out)?;
     put_u32(message, 4, r.window_id.0);
-    put_u16(message, 8, r.left);
-    put_u16(message, 10, r.top);
+    put_i16(message, 8, r.left);
+    put_i16(message, 10, r.top);
     Ok(12)
 }
 
@@ -233,6 +233,11 @@ fn frame<const N: usize>(
 
 #[inline(always)]
 fn put_u16<const N: usize>(bytes: &mut [u8; N], at: usize, value: u16) {
+    bytes[at..at + 2].copy_from_slice(&value.to_le_bytes());
+}
+
+#[inline(always)]
+fn put_i16<const N: usize>(bytes: &mut [u8; N], at: usize, value: i16) {
     bytes[at..at + 2].copy_from_slice(&value.to_le_bytes());
 }
 

@@ -192,17 +192,17 @@ impl<'a> Fields<'a> {
             }),
             order_type::WINDOW_MOVE => Record::WindowMove(WindowMove {
                 window_id: self.window()?,
-                left: self.u16()?,
-                top: self.u16()?,
-                right: self.u16()?,
-                bottom: self.u16()?,
+                left: self.i16()?,
+                top: self.i16()?,
+                right: self.i16()?,
+                bottom: self.i16()?,
             }),
             order_type::MOVE_SIZE => Record::MoveSize(MoveSize {
                 window_id: self.window()?,
                 is_move_size_start: self.u8()? != 0,
                 move_size_type: self.u16()?,
-                pos_x: self.u16()?,
-                pos_y: self.u16()?,
+                pos_x: self.i16()?,
+                pos_y: self.i16()?,
             }),
             order_type::MIN_MAX_INFO => Record::MinMaxInfo(self.min_max_info()?),
             order_type::CLIENT_INFORMATION => {
@@ -210,8 +210,8 @@ impl<'a> Fields<'a> {
             }
             order_type::SYSTEM_MENU => Record::SystemMenu(SystemMenu {
                 window_id: self.window()?,
-                left: self.u16()?,
-                top: self.u16()?,
+                left: self.i16()?,
+                top: self.i16()?,
             }),
             order_type::GET_APPLICATION_ID => Record::GetApplicationId(GetApplicationId {
                 window_id: self.window()?,
@@ -247,8 +247,8 @@ impl<'a> Fields<'a> {
             window_id: self.window()?,
             max_width: self.u16()?,
             max_height: self.u16()?,
-            max_pos_x: self.u16()?,
-            max_pos_y: self.u16()?,
+            max_pos_x: self.i16()?,
+            max_pos_y: self.i16()?,
             min_track_width: self.u16()?,
             min_track_height: self.u16()?,
             max_track_width: self.u16()?,
@@ -310,6 +310,10 @@ impl<'a> Fields<'a> {
 
     fn u16(&mut self) -> Option<u16> {
         self.chunk().map(u16::from_le_bytes)
+    }
+
+    fn i16(&mut self) -> Option<i16> {
+        self.chunk().map(i16::from_le_bytes)
     }
 
     fn u32(&mut self) -> Option<u32> {

@@ -42,24 +42,24 @@ pub fn push_record(line: &mut Vec<u8>, record: &Record<'_>) {
         Record::WindowMove(r) => fields
             .kind(order_type::WINDOW_MOVE)
             .number("window", r.window_id.0)
-            .number("left", r.left)
-            .number("top", r.top)
-            .number("right", r.right)
-            .number("bottom", r.bottom),
+            .position("left", r.left)
+            .position("top", r.top)
+            .position("right", r.right)
+            .position("bottom", r.bottom),
         Record::MoveSize(r) => fields
             .kind(order_type::MOVE_SIZE)
             .number("window", r.window_id.0)
             .number("start", r.is_move_size_start)
             .number("move_type", r.move_size_type)
-            .number("x", r.pos_x)
-            .number("y", r.pos_y),
+            .position("x", r.pos_x)
+            .position("y", r.pos_y),
         Record::MinMaxInfo(r) => fields
             .kind(order_type::MIN_MAX_INFO)
             .number("window", r.window_id.0)
             .number("max_width", r.max_width)
             .number("max_height", r.max_height)
-            .number("max_x", r.max_pos_x)
-            .number("max_y", r.max_pos_y)
+            .position("max_x", r.max_pos_x)
+            .position("max_y", r.max_pos_y)
             .number("min_track_width", r.min_track_width)
             .number("min_track_height", r.min_track_height)
             .number("max_track_width", r.max_track_width)
@@ -70,8 +70,8 @@ pub fn push_record(line: &mut Vec<u8>, record: &Record<'_>) {
         Record::SystemMenu(r) => fields
             .kind(order_type::SYSTEM_MENU)
             .number("window", r.window_id.0)
-            .number("left", r.left)
-            .number("top", r.top),
+            .position("left", r.left)
+            .position("top", r.top),
         Record::GetApplicationId(r) => fields
             .kind(order_type::GET_APPLICATION_ID)
             .number("window", r.window_id.0),
@@ -123,6 +123,10 @@ impl Fields<'_> {
 
     pub(super) fn number(&mut self, name: &str, value: impl Into<u32>) -> &mut Self {
         self.text(name, &value.into().to_string())
+    }
+
+    fn position(&mut self, name: &str, value: i16) -> &mut Self {
+        self.text(name, &value.to_string())
     }
 
     pub(super) fn string(&mut self, name: &str, bytes: &[u8]) -> &mut Self {

@@ -76,7 +76,7 @@ fn every_kind_is_printed_by_name() {
         ),
         (
             "R 0C00 0C00 01020304 21FF 3132",
-            "R 0 type=000c window=67305985 left=65313 top=12849",
+            "R 0 type=000c window=67305985 left=-223 top=12849",
             "P 0C00 0C00 01020304 21FF 3132",
         ),
         (

@@ -11,7 +11,7 @@ use second::script::take_item;
 #[test]
 fn read_messages_write_the_same_bytes() {
     let mut granted = 0;
-    for seed in 0..40 {
+    for seed in 0..50 {
         let script = generate::pdu::script(seed, 200);
         let mut rest = &script[..];
         while let Some((item, tail)) = take_item(rest) {
@@ -95,24 +95,24 @@ fn allowed_record<'a>(random: &mut Random, bytes: &'a [u8]) -> Record<'a> {
         }),
         5 => Record::WindowMove(WindowMove {
             window_id,
-            left: numbers[0],
-            top: numbers[1],
-            right: numbers[2],
-            bottom: numbers[3],
+            left: numbers[0] as i16,
+            top: numbers[1] as i16,
+            right: numbers[2] as i16,
+            bottom: numbers[3] as i16,
         }),
         6 => Record::MoveSize(MoveSize {
             window_id,
             is_move_size_start: random.chance(50),
             move_size_type: 1 + random.below(11) as u16,
-            pos_x: numbers[0],
-            pos_y: numbers[1],
+            pos_x: numbers[0] as i16,
+            pos_y: numbers[1] as i16,
         }),
         7 => Record::MinMaxInfo(MinMaxInfo {
             window_id,
             max_width: numbers[0],
             max_height: numbers[1],
-            max_pos_x: numbers[2],
-            max_pos_y: numbers[3],
+            max_pos_x: numbers[2] as i16,
+            max_pos_y: numbers[3] as i16,
             min_track_width: numbers[4],
             min_track_height: numbers[5],
             max_track_width: numbers[6],
@@ -123,8 +123,8 @@ fn allowed_record<'a>(random: &mut Random, bytes: &'a [u8]) -> Record<'a> {
         }),
         9 => Record::SystemMenu(SystemMenu {
             window_id,
-            left: numbers[0],
-            top: numbers[1],
+            left: numbers[0] as i16,
+            top: numbers[1] as i16,
         }),
         10 => Record::GetApplicationId(GetApplicationId { window_id }),
         11 => Record::ApplicationIdResponse(ApplicationIdResponse {

@@ -162,8 +162,8 @@ fn move_size_type() {
             window_id: WindowId(0x10058),
             is_move_size_start: false,
             move_size_type,
-            pos_x: 0xFFFF,
-            pos_y: 0xFFFF,
+            pos_x: -1,
+            pos_y: -1,
         });
         assert_eq!(write_number(&record), number);
     }

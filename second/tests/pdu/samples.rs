@@ -84,7 +84,7 @@ pub const SAMPLES: [(Record<'static>, &str); 17] = [
     (
         Record::SystemMenu(SystemMenu {
             window_id: WindowId(0x0403_0201),
-            left: 0xFF21,
+            left: -223,
             top: 0x3231,
         }),
         "0C00 0C00 01020304 21FF 3132",

@@ -6,7 +6,7 @@
 #define MEMORY_MAX 17408
 
 /* A kind: its type, and with system parameters the setting; its fields by name, each with its width in a P item. s is a string, b a
- * byte that stands for no or yes, x a number of 4 that is printed in hex. */
+ * byte that stands for no or yes, x a number of 4 that is printed in hex, p a position of 2 bytes, signed. */
 struct field {
     const char *name;
     char width;
@@ -23,13 +23,13 @@ static const struct kind kinds[] = {
     {TS_RAIL_ORDER_SYSCOMMAND, 0, {{"window", 4}, {"command", 2}}},
     {TS_RAIL_ORDER_HANDSHAKE, 0, {{"build", 4}}},
     {TS_RAIL_ORDER_NOTIFY_EVENT, 0, {{"window", 4}, {"icon", 4}, {"message", 4}}},
-    {TS_RAIL_ORDER_WINDOWMOVE, 0, {{"window", 4}, {"left", 2}, {"top", 2}, {"right", 2}, {"bottom", 2}}},
-    {TS_RAIL_ORDER_LOCALMOVESIZE, 0, {{"window", 4}, {"start", 'b'}, {"move_type", 2}, {"x", 2}, {"y", 2}}},
+    {TS_RAIL_ORDER_WINDOWMOVE, 0, {{"window", 4}, {"left", 'p'}, {"top", 'p'}, {"right", 'p'}, {"bottom", 'p'}}},
+    {TS_RAIL_ORDER_LOCALMOVESIZE, 0, {{"window", 4}, {"start", 'b'}, {"move_type", 2}, {"x", 'p'}, {"y", 'p'}}},
     {TS_RAIL_ORDER_MINMAXINFO, 0,
-     {{"window", 4}, {"max_width", 2}, {"max_height", 2}, {"max_x", 2}, {"max_y", 2}, {"min_track_width", 2},
+     {{"window", 4}, {"max_width", 2}, {"max_height", 2}, {"max_x", 'p'}, {"max_y", 'p'}, {"min_track_width", 2},
       {"min_track_height", 2}, {"max_track_width", 2}, {"max_track_height", 2}}},
     {TS_RAIL_ORDER_CLIENTSTATUS, 0, {{"flags", 4}}},
-    {TS_RAIL_ORDER_SYSMENU, 0, {{"window", 4}, {"left", 2}, {"top", 2}}},
+    {TS_RAIL_ORDER_SYSMENU, 0, {{"window", 4}, {"left", 'p'}, {"top", 'p'}}},
     {TS_RAIL_ORDER_GET_APPID_REQ, 0, {{"window", 4}}},
     {TS_RAIL_ORDER_GET_APPID_RESP, 0, {{"window", 4}, {"string", 's'}}},
     {TS_RAIL_ORDER_EXEC_RESULT, 0, {{"flags", 2}, {"result", 2}, {"raw", 4}, {"string", 's'}}},
@@ -64,6 +64,8 @@ static void print_record(int item, const uint8_t *message, const uint32_t words[
         if (f->width == 's') {
             print_hex("", message + w[0], w[1]);
             w += 2;
+        } else if (f->width == 'p') {
+            printf("%d", (int)rail_word_coordinate(*w++));
         } else {
             printf(f->width == 'x' ? "%08x" : "%u", *w++);
         }
@@ -76,11 +78,13 @@ static size_t take_numbers(const struct kind *kind, const struct item *item, uin
     uint32_t *w = words + 1;
     size_t at = 4;
     for (f = kind->fields; f->name != NULL; f++) {
-        const size_t width = f->width == 's' ? 2 : f->width == 'b' ? 1 : f->width == 'x' ? 4 : (size_t)f->width;
+        const size_t width = f->width == 's' || f->width == 'p' ? 2 : f->width == 'b' ? 1 : f->width == 'x' ? 4 : (size_t)f->width;
         uint32_t number;
         if (item->size < at + width)
             return 0;
         number = width == 4 ? rail_get32(item->payload + at) : width == 2 ? rail_get16(item->payload + at) : item->payload[at];
+        if (f->width == 'p')
+            number = rail_coordinate_word(number < 0x8000 ? (int32_t)number : (int32_t)number - 0x10000);
         w += f->width == 's';
         *w++ = f->width == 'b' ? number != 0 : number;
         at += width;

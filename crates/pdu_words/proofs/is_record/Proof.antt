@@ -3,7 +3,7 @@ use mathlib.Core.Path.{refl}
 use borrow.Author.Needs.{needs}
 use denote.Ref.{now}
 use Rattle.pdu.specs.Layout.{known}
-use Rattle.pdu_words.proofs.FromWords.{no-type, standing, not-standing}
+use Rattle.pdu_words.proofs.FromWords.{no-type, standing, not-standing, joined-2, joined-4}
 use Rattle.pdu_words.proofs.is_record.Statement.{statement}
 use Rattle.pdu_words.proofs.is_record.Tie as tie
 
@@ -19,9 +19,29 @@ is-record-spec =
     (λ c κs. search needs)
     (λ c κs. search needs)
     (λ c κs. search needs)
+    (λ c. search needs)
+    (λ c κs. search needs)
+    (λ c. search needs)
+    (λ c κs. search needs)
+    (λ c. search needs)
+    (λ c κs. search needs)
+    (λ c. search needs)
+    (λ c κs. search needs)
+    (λ c κs. search needs)
+    (λ c. search needs)
+    (λ c κs. search needs)
+    (λ c. search needs)
+    (λ c κs. search needs)
+    (λ c κs. search needs)
+    (λ c. search needs)
+    (λ c κs. search needs)
+    (λ c. search needs)
     (λ c κs. search needs)
     (λ c κs. search needs)
     (λ c κs. search needs)
+    (λ c. search needs)
+    (λ c κs. search needs)
+    (λ c. search needs)
     (λ c κs. search needs)
     (λ c κs. search needs)
     (λ c κs. search needs)
@@ -33,11 +53,11 @@ is-record-spec =
     (λ c. standing (now (c .before .before .before .args .w)) (c .before .match .keys3) refl (c .is-within3 .ensures))
     (λ c. standing (now (c .before .before .before .args .w)) (c .before .match .keys4) refl (c .is-within4 .ensures))
     (λ c. standing (now (c .before .before .before .args .w)) (c .before .match .keys5) refl (c .is-within5 .ensures))
-    (λ c. standing (now (c .before .before .before .args .w)) (c .before .match .keys6) refl (c .is-within6 .ensures))
-    (λ c. standing (now (c .before .before .before .args .w)) (c .before .match .keys7) refl (c .is-within7 .ensures))
-    (λ c. standing (now (c .before .before .before .args .w)) (c .before .match .keys8) refl (c .is-within8 .ensures))
+    (λ c. let n3 = c .before .before in let n2 = n3 .before .before in let n1 = n2 .before .before in let n = n1 .before .before in let m = n .before in standing (now (m .before .before .args .w)) (m .match .keys6) refl (joined-4 (n .is-within6 .ensures) (n1 .is-short .ensures) (n2 .is-short2 .ensures) (n3 .is-short3 .ensures) (c .is-short4 .ensures)))
+    (λ c. let n = c .before .before .before .before in let m = n .before in standing (now (m .before .before .args .w)) (m .match .keys7) refl (joined-2 (n .is-within7 .ensures) (c .before .before .is-short5 .ensures) (c .is-short6 .ensures)))
+    (λ c. let n = c .before .before .before .before in let m = n .before in standing (now (m .before .before .args .w)) (m .match .keys8) refl (joined-2 (n .is-within8 .ensures) (c .before .before .is-short7 .ensures) (c .is-short8 .ensures)))
     (λ c. standing (now (c .before .before .before .args .w)) (c .before .match .keys9) refl (c .is-within9 .ensures))
-    (λ c. standing (now (c .before .before .before .args .w)) (c .before .match .keys10) refl (c .is-within10 .ensures))
+    (λ c. let n = c .before .before .before .before in let m = n .before in standing (now (m .before .before .args .w)) (m .match .keys10) refl (joined-2 (n .is-within10 .ensures) (c .before .before .is-short9 .ensures) (c .is-short10 .ensures)))
     (λ c. standing (now (c .before .before .before .args .w)) (c .before .match .keys11) refl (c .is-within11 .ensures))
     (λ c. standing (now (c .before .before .before .args .w)) (c .before .match .keys12) refl (c .is-within12 .ensures))
     (λ c. standing (now (c .before .before .before .args .w)) (c .before .match .keys13) refl (c .is-setting .ensures))

@@ -3,7 +3,7 @@ use mathlib.Core.Path.{sym, ap}
 use borrow.Author.Needs.{needs}
 use Rattle.pdu.specs.declared.Pdu.the-variants.{Execute, Activate, SystemCommand, Handshake, NotifyEvent, WindowMove, MoveSize, MinMaxInfo, ClientInformation, SystemMenu, GetApplicationId, ApplicationIdResponse, ExecuteResult, SystemParameters, HandshakeEx}
 use Rattle.pdu_words.specs.FromWords.{recordFrom}
-use Rattle.pdu_words.proofs.FromWords.{last-type, inside, is-type}
+use Rattle.pdu_words.proofs.FromWords.{last-type, inside, positions-08, positions-09, positions-0A, positions-0C, is-type}
 use Rattle.pdu_words.proofs.record_from.Statement.{statement}
 use Rattle.pdu_words.proofs.record_from.Tie as tie
 
@@ -18,11 +18,11 @@ record-from-spec =
     (λ c κs. inside 0x04 (c .before .before .pre) (c .match .keys3))
     (λ c κs. inside 0x05 (c .before .before .pre) (c .match .keys4))
     (λ c κs. inside 0x06 (c .before .before .pre) (c .match .keys5))
-    (λ c κs. inside 0x08 (c .before .before .pre) (c .match .keys6))
-    (λ c κs. inside 0x09 (c .before .before .pre) (c .match .keys7))
-    (λ c κs. inside 0x0A (c .before .before .pre) (c .match .keys8))
+    (λ c κs. let b = c .before .before in let q = c .match .keys6 in (inside 0x08 (b .pre) q, positions-08 (b .pre) q .0, positions-08 (b .pre) q .1))
+    (λ c κs. let b = c .before .before in let q = c .match .keys7 in (inside 0x09 (b .pre) q, positions-09 (b .pre) q))
+    (λ c κs. let b = c .before .before in let q = c .match .keys8 in (inside 0x0A (b .pre) q, positions-0A (b .pre) q))
     (λ c κs. inside 0x0B (c .before .before .pre) (c .match .keys9))
-    (λ c κs. inside 0x0C (c .before .before .pre) (c .match .keys10))
+    (λ c κs. let b = c .before .before in let q = c .match .keys10 in (inside 0x0C (b .pre) q, positions-0C (b .pre) q))
     (λ c κs. inside 0x0E (c .before .before .pre) (c .match .keys11))
     (λ c κs. inside 0x0F (c .before .before .pre) (c .match .keys12))
     (λ c κs. inside 0x03 (c .before .before .pre) (c .match .keys13))

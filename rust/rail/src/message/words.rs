@@ -150,6 +150,7 @@ impl<'a> Fields<'_, 'a> {
         self.u32() as u16
     }
 
+    /// A signed field of 2 bytes: the word is its sign-extended number, so the low half decides it.
     fn i16(&mut self) -> i16 {
         self.u16() as i16
     }
@@ -325,9 +326,9 @@ fn numbers_with_strings(message: &Message<'_>, places: [[u32; 2]; 3]) -> Words {
     }
 }
 
-/// A signed field of 2 bytes: its two's complement below 65,536.
+/// A signed field of 2 bytes, sign-extended to 4.
 fn word(field: i16) -> u32 {
-    (field as u16).into()
+    i32::from(field) as u32
 }
 
 /// The numbers given, then zeros.
@@ -349,7 +350,7 @@ mod tests {
             top: i16::MAX,
         };
         let (words, strings) = words_of(&message).unwrap();
-        assert_eq!(words[..5], [0x0C, 0x0001_0058, 0xFFA4, 0x7FFF, 0]);
+        assert_eq!(words[..5], [0x0C, 0x0001_0058, 0xFFFF_FFA4, 0x7FFF, 0]);
         assert!(strings.is_empty());
         assert_eq!(message_of(&words, &[]), message);
     }

@@ -29,7 +29,7 @@ const FLAGS: [u32; 36] = [
 ];
 
 /// All limited fields. In messages and items alike a header of 4 comes first.
-pub const LIMITS: [Limit; 13] = [
+pub const LIMITS: [Limit; 23] = [
     Limit {
         kind: HIGH_CONTRAST,
         name: "length",
@@ -134,7 +134,29 @@ pub const LIMITS: [Limit; 13] = [
         allows: |value| rules::result_length(value as usize),
         values: &[0, 1, 2, 519, 520, 521],
     },
+    position(0x0008, "left", 8, 8),
+    position(0x0008, "top", 10, 10),
+    position(0x0008, "right", 12, 12),
+    position(0x0008, "bottom", 14, 14),
+    position(0x0009, "x", 12, 11),
+    position(0x0009, "y", 14, 13),
+    position(0x000A, "max_x", 12, 12),
+    position(0x000A, "max_y", 14, 14),
+    position(0x000C, "left", 8, 8),
+    position(0x000C, "top", 10, 10),
 ];
+
+/// A position, signed: the least, the greatest, -1 and -100 are to be met.
+const fn position(kind: u16, name: &'static str, read: usize, write: usize) -> Limit {
+    Limit {
+        kind: Kind::Type(kind),
+        name,
+        read: Some((read, 2)),
+        write: Some((write, 2)),
+        allows: |_| true,
+        values: &[0x8000, 0x7FFF, 0xFFFF, 0xFF9C],
+    }
+}
 
 impl Limit {
     /// Where the field stands for this call.

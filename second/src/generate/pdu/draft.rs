@@ -7,6 +7,7 @@ use crate::generate::random::Random;
 enum Slot {
     Any4,
     Any2,
+    Position,
     Any1,
     // The number of a setting.
     Setting(u32),
@@ -37,14 +38,14 @@ const KINDS: [(u16, &[Slot]); 24] = [
     (0x0004, &[Any4, Command]),
     (0x0005, &[Any4]),
     (0x0006, &[Any4, Any4, Any4]),
-    (0x0008, &[Any4, Any2, Any2, Any2, Any2]),
-    (0x0009, &[Any4, Start, MoveType, Any2, Any2]),
+    (0x0008, &[Any4, Position, Position, Position, Position]),
+    (0x0009, &[Any4, Start, MoveType, Position, Position]),
     (
         0x000A,
-        &[Any4, Any2, Any2, Any2, Any2, Any2, Any2, Any2, Any2],
+        &[Any4, Any2, Any2, Position, Position, Any2, Any2, Any2, Any2],
     ),
     (0x000B, &[Any4]),
-    (0x000C, &[Any4, Any2, Any2]),
+    (0x000C, &[Any4, Position, Position]),
     (0x000E, &[Any4]),
     (APPLICATION_ID, &[Any4, Id]),
     (0x0080, &[Any2, ExecResult, Any4, Padding, Echo]),
@@ -97,6 +98,9 @@ impl Slot {
         match self {
             Any4 => random.number(0xFFFF_FFFF),
             Any2 => random.number(0xFFFF),
+            // The least, the greatest, -1, -100, else any.
+            Position if random.chance(40) => random.pick(&[0x8000, 0x7FFF, 0xFFFF, 0xFF9C]),
+            Position => random.number(0xFFFF),
             Any1 => random.number(0xFF),
             Setting(number) => number,
             // Set when its string is known.
@@ -122,7 +126,7 @@ impl Slot {
     /// The numbers at the limits of the field and beside them.
     fn edges(self) -> &'static [u32] {
         match self {
-            Any4 | Any2 | Setting(_) | Outer => &[],
+            Any4 | Any2 | Position | Setting(_) | Outer => &[],
             Any1 => &[0, 0xFF],
             Flags => &FLAG_EDGES,
             Enabled => &[0, 1, 2, 3, 0x80, 0xFF],
