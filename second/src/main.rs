@@ -67,6 +67,10 @@ usage:
       Tells what a session script asked and what was answered, in words: refusals by
       document 01's conditions, orders by their fields, titles as text. `output` is
       what rail_session or `second session` printed for it.
+  second diff FROM TO < script
+      Tells what changed in the table between two items of a session script, counted
+      from 1 as `explain` does (0: before the first): records that are new or gone, and
+      fields that became others.
   second --help
 
 A script that ends a run with `bad item` is told on standard error: which item, at
@@ -129,6 +133,10 @@ fn dispatch(arguments: &[&str]) -> Result<ExitCode, String> {
         ["list-record"] => list_record(&[]),
         ["list-record", "--after", script] => list_record(&file(script)?),
         ["explain", script] => explain(script),
+        ["diff", from, to] => {
+            let text = support::diff::diff(&input()?, count(from)?, count(to)?)?;
+            print(text.as_bytes())
+        }
         ["--help"] | ["-h"] => print(HELP.as_bytes()),
         _ => Err("unknown arguments, see --help".into()),
     }

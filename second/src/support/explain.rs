@@ -162,7 +162,8 @@ fn answered(call: &Call<'_>, line: &str) -> Option<String> {
     Some(fields.join(" "))
 }
 
-fn field(word: &str) -> Option<String> {
+/// A field `name=value` in words; none where it is no such field.
+pub(super) fn field(word: &str) -> Option<String> {
     let (name, value) = word.split_once('=')?;
     let value = if TEXTS.contains(&name) {
         quoted(&hex::bytes(value.as_bytes()).ok()?)

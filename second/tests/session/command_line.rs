@@ -24,6 +24,35 @@ fn a_fault_in_memory() {
 }
 
 #[test]
+fn what_changed_between_two_items() {
+    let text = b"D 2E0F00 04000011 58000100 0200 4100\nD 2E0B00 00000011 07000000\n\
+        D 2E0F00 04000001 58000100 0200 4200\nD 2E0B00 00000021 07000000\n\
+        D 2E0F00 00000012 07000000 03000000\nD 2E0700 02000004\nB 05000000\n";
+    let script = second(&["hex-session"], text).stdout;
+    let diff = |from: &str, to: &str| second(&["diff", from, to], &script);
+    let told = |from: &str, to: &str| String::from_utf8(diff(from, to).stdout).expect("a text");
+    assert_eq!(
+        told("2", "4"),
+        "window 65624: title=\"A\" became \"B\"\nwindow 7 is gone\n"
+    );
+    let later = told("4", "6");
+    assert!(later
+        .starts_with("desktop: hooked=0 became 1\nnotification icon 7/3 is new: window=7 icon=3 "));
+    assert_eq!(later.lines().count(), 2);
+    assert!(told("0", "1").starts_with("window 65624 is new: id=65624 owner=0 "));
+    assert_eq!(told("1", "7"), "");
+    assert_eq!(told("6", "6"), "");
+    assert!(told("6", "7").contains("window 65624: title=\"B\" became \"A\""));
+    for (from, to, fault) in [("0", "8", "has 7 items"), ("x", "1", "not a count")] {
+        let refused = diff(from, to);
+        assert_eq!((refused.status.code(), refused.stdout.len()), (Some(2), 0));
+        assert!(String::from_utf8_lossy(&refused.stderr).contains(fault));
+    }
+    let faulty = second(&["hex-session"], b"X 00 00000000 01\n").stdout;
+    assert_eq!(second(&["diff", "0", "1"], &faulty).status.code(), Some(2));
+}
+
+#[test]
 fn parts_are_an_option() {
     let script = second(&["hex-session"], b"T 04 0500\nM\n").stdout;
     let run = |arguments: &[&str]| second(arguments, &script).stdout;
