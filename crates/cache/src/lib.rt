@@ -40,7 +40,7 @@ fn numbers_ok(bits: u8, width: u16, height: u16, n: usize) -> bool
 }
 
 // Whether a cell holds an icon.
-fn picture_ok(cell: &[u8]) -> bool
+pub fn picture_ok(cell: &[u8]) -> bool
     ensures { λ r. ⌜ r ≡ cellOk (now (cell .entry)) ⌝ }
 {
     let bits = wire::read_u8(cell, 3);

@@ -1,0 +1,2 @@
+pub mod PicturesPut
+pub mod PicturesWays
