@@ -15,55 +15,22 @@
 
 static struct rail_state state;
 
-/* ---- The ids that may be listed. No call lists them: they are known from the orders that made them new. What is deleted stays known
- * until the next mark, since a step back may bring it back. At a mark at most 32 windows and 16 notification icons are listed, and at
- * most 128 orders stand after it. */
+/* ---- The ids that are listed */
 
-struct known {
-    int is_icon;
-    uint32_t window_id, notify_icon_id;
-    uint32_t since; /* as many orders stood after the mark once it was new; 0: it was listed at the mark */
-};
-
-static struct known known[RAIL_WINDOWS_MAX + RAIL_NOTIFICATIONS_MAX + RAIL_HISTORY_ORDERS_MAX];
-static size_t known_count;
-
-static int is_listed(struct known k) {
-    static uint8_t record[RAIL_NOTIFICATION_SIZE]; /* the greater of the two */
-    return rail_number(k.is_icon ? rail_state_notification(&state, k.window_id, k.notify_icon_id, record)
-                                 : rail_state_window(&state, k.window_id, record)) == RAIL_DONE;
+static struct rail_windows listed_windows(void) {
+    uint8_t list[RAIL_LIST_SIZE];
+    struct rail_windows windows = {0};
+    if (rail_number(rail_state_windows(&state, list)) == RAIL_DONE)
+        rail_windows_decode(&windows, list);
+    return windows;
 }
 
-/* Learns the id that a granted order made new; `standing` orders stand after the mark with it. */
-static void learn(struct rail_change change, uint32_t standing) {
-    const struct known k = {change.kind == RAIL_CHANGE_NOTIFICATION_NEW, change.window_id, change.notify_icon_id, standing};
-    size_t i;
-    if (change.kind != RAIL_CHANGE_WINDOW_NEW && change.kind != RAIL_CHANGE_NOTIFICATION_NEW)
-        return;
-    for (i = 0; i < known_count; i++)
-        if (known[i].is_icon == k.is_icon && known[i].window_id == k.window_id && known[i].notify_icon_id == k.notify_icon_id)
-            return;
-    known[known_count++] = k;
-}
-
-/* After a mark: what is not listed cannot come back. */
-static void forget_at_mark(void) {
-    size_t i, left = 0;
-    for (i = 0; i < known_count; i++)
-        if (is_listed(known[i])) {
-            known[left] = known[i];
-            known[left++].since = 0;
-        }
-    known_count = left;
-}
-
-/* After a step back: what was new after the `standing` orders that still stand is gone. */
-static void forget_undone(uint32_t standing) {
-    size_t i, left = 0;
-    for (i = 0; i < known_count; i++)
-        if (known[i].since <= standing)
-            known[left++] = known[i];
-    known_count = left;
+static struct rail_notifications listed_notifications(void) {
+    uint8_t list[RAIL_LIST_SIZE];
+    struct rail_notifications icons = {0};
+    if (rail_number(rail_state_notifications(&state, list)) == RAIL_DONE)
+        rail_notifications_decode(&icons, list);
+    return icons;
 }
 
 /* ---- Printing */
@@ -140,11 +107,11 @@ static void print_window(uint32_t id) {
     putchar('\n');
 }
 
-static void print_notification(struct known ids) {
+static void print_notification(struct rail_notification_ids ids) {
     static uint8_t record[RAIL_NOTIFICATION_SIZE];
     struct rail_notification n;
     if (rail_number(rail_state_notification(&state, ids.window_id, ids.notify_icon_id, record)) != RAIL_DONE)
-        return; /* removed, or its order was taken back */
+        return;
     rail_notification_decode(&n, record);
     printf("  notification icon %08X/%u: ", ids.window_id, ids.notify_icon_id);
     print_string(n.tool_tip.at, n.tool_tip.bytes);
@@ -168,8 +135,9 @@ static int names(const struct rail_desktop *d, uint32_t count, uint32_t window_i
 static void print_desktop(void) {
     static uint8_t record[RAIL_DESKTOP_SIZE];
     struct rail_desktop d;
+    const struct rail_windows windows = listed_windows();
+    const struct rail_notifications icons = listed_notifications();
     uint32_t i;
-    size_t k;
     if (rail_number(rail_state_desktop(&state, record)) != RAIL_DONE)
         return;
     rail_desktop_decode(&d, record);
@@ -177,42 +145,24 @@ static void print_desktop(void) {
     for (i = 0; i < d.num_window_ids; i++)
         if (!names(&d, i, d.window_ids[i]))
             print_window(d.window_ids[i]);
-    for (k = 0; k < known_count; k++)
-        if (!known[k].is_icon && !names(&d, d.num_window_ids, known[k].window_id) && is_listed(known[k]))
-            print_window(known[k].window_id);
-    for (k = 0; k < known_count; k++)
-        if (known[k].is_icon)
-            print_notification(known[k]);
+    for (i = 0; i < windows.count; i++)
+        if (!names(&d, d.num_window_ids, windows.window_ids[i]))
+            print_window(windows.window_ids[i]);
+    for (i = 0; i < icons.count; i++)
+        print_notification(icons.ids[i]);
 }
 
 /* ---- Updates */
-
-/* Nothing before a mark can be taken back, and all room for history is free. */
-static uint32_t mark(void) {
-    const uint32_t answer = rail_state_checkpoint(&state);
-    if (rail_number(answer) == RAIL_DONE)
-        forget_at_mark();
-    return answer;
-}
-
-static uint32_t step_back(uint64_t steps) {
-    const uint32_t answer = rail_state_undo(&state, steps);
-    if (rail_number(answer) == RAIL_DONE)
-        forget_undone(rail_count(answer));
-    return answer;
-}
 
 /* Delivers one order. A full history is no fault of the order: the mark moves on, and the order is delivered again. */
 static uint32_t deliver(const uint8_t *order, size_t size) {
     uint32_t answer = rail_state_deliver(&state, order, size);
     if (rail_number(answer) == RAIL_HISTORY_FULL) {
         printf("  history full: mark\n");
-        answer = mark();
+        answer = rail_state_checkpoint(&state);
         if (rail_number(answer) == RAIL_DONE)
             answer = rail_state_deliver(&state, order, size);
     }
-    if (rail_number(answer) == RAIL_DONE)
-        learn(rail_change_of(order, size), rail_count(answer));
     return answer;
 }
 
@@ -221,7 +171,7 @@ static uint32_t deliver(const uint8_t *order, size_t size) {
 static uint32_t begin_sync(const uint8_t *order, size_t size) {
     static const uint8_t none[] = RAIL_ORDER_DESKTOP_NONE, hooked[] = RAIL_ORDER_DESKTOP_HOOKED;
     static uint8_t record[RAIL_DESKTOP_SIZE];
-    uint32_t answer = step_back(1);
+    uint32_t answer = rail_state_undo(&state, 1);
     if (rail_number(answer) == RAIL_DONE)
         answer = rail_state_desktop(&state, record);
     if (rail_number(answer) == RAIL_DONE)
@@ -234,7 +184,8 @@ static uint32_t begin_sync(const uint8_t *order, size_t size) {
 /* Takes one order. */
 static uint32_t take(const uint8_t *order, size_t size) {
     const uint32_t answer = deliver(order, size);
-    if (rail_number(answer) != RAIL_DONE || !rail_begins_sync(order, size) || known_count == 0)
+    if (rail_number(answer) != RAIL_DONE || !rail_begins_sync(order, size) ||
+        listed_windows().count + listed_notifications().count == 0)
         return answer;
     puts("  the server tells all windows again: emptied");
     return begin_sync(order, size);
@@ -244,16 +195,6 @@ static uint32_t take(const uint8_t *order, size_t size) {
  * then tells all its windows. */
 static void start_afresh(void) {
     rail_state_reset(&state);
-    known_count = 0;
-}
-
-/* Learns what the granted orders of an update name; with the last of them `count` stand after the mark. */
-static void learn_all(const uint8_t *at, size_t granted, uint32_t orders, uint32_t count) {
-    size_t length;
-    for (count -= orders; granted != 0; granted -= length, at += length) {
-        length = rail_order_size(at, granted);
-        learn(rail_change_of(at, length), ++count);
-    }
 }
 
 /* Takes the orders of an update: as many in one call as come before a synchronization, then by itself the one at which that call stopped.
@@ -265,7 +206,6 @@ static void take_update(const uint8_t *update, size_t size) {
         const uint64_t report = rail_state_update(&state, rail_orders_before_sync(update + at, size - at), update + at, size - at);
         const uint32_t granted = rail_update_bytes(report);
         uint32_t number = rail_number(rail_update_answer(report));
-        learn_all(update + at, granted, rail_update_orders(report), rail_count(rail_update_answer(report)));
         at += granted;
         taken += rail_update_orders(report);
         if (number != RAIL_BAD_STATE && at < size) {
@@ -289,7 +229,7 @@ static void take_update(const uint8_t *update, size_t size) {
 }
 
 static void take_steps(uint64_t steps) {
-    const uint32_t answer = step_back(steps), number = rail_number(answer);
+    const uint32_t answer = rail_state_undo(&state, steps), number = rail_number(answer);
     if (number == RAIL_DONE)
         printf("  %u orders stand after the mark\n", rail_count(answer));
     else
@@ -406,7 +346,7 @@ static int take_item(int letter, const uint8_t *item, size_t size) {
     } else if (letter == 'B' && size == 4) {
         take_steps(rail_get32(item));
     } else if (letter == 'M' && size == 0) {
-        mark();
+        rail_state_checkpoint(&state);
     } else if (letter == 'E' && size == 0) {
         start_afresh();
     } else {

@@ -40,6 +40,7 @@
 #define RAIL_NOTIFICATION_SIZE 916
 #define RAIL_DESKTOP_SIZE 263
 #define RAIL_PICTURE_SIZE 4235
+#define RAIL_LIST_SIZE 132        /* lists of ids handed out: a count of 4 bytes, room for all ids, zeros past the last */
 
 /* What rail_size is asked for. */
 enum rail_measure {
@@ -52,7 +53,8 @@ enum rail_measure {
     RAIL_MEASURE_DESKTOP = 6,
     RAIL_MEASURE_PICTURE = 7,
     RAIL_MEASURE_CHUNK = 8,
-    RAIL_MEASURE_RECORD = 9 /* the longest session record */
+    RAIL_MEASURE_RECORD = 9, /* the longest session record */
+    RAIL_MEASURE_LIST = 10
 };
 
 /* ---- Limits of the table and of its history. */
@@ -193,6 +195,16 @@ uint32_t rail_desktop(const uint8_t *directory, size_t directory_size, const uin
                       const uint8_t *cells, size_t cells_size, const uint8_t *journal, size_t journal_size,
                       uint8_t *out, size_t out_size);
 
+/* Lists: the ids of all listed windows, or of all notification icons, each once and ascending (notification icons by window id and
+ * then by notify-icon id), in the first RAIL_LIST_SIZE bytes of `out`; no other byte is written. rail/records.h has the structs.
+ * Refuse with 1, and then with 14 where `out` is smaller than a list. */
+uint32_t rail_windows(const uint8_t *directory, size_t directory_size, const uint8_t *bodies, size_t bodies_size,
+                      const uint8_t *cells, size_t cells_size, const uint8_t *journal, size_t journal_size,
+                      uint8_t *out, size_t out_size);
+uint32_t rail_notifications(const uint8_t *directory, size_t directory_size, const uint8_t *bodies, size_t bodies_size,
+                            const uint8_t *cells, size_t cells_size, const uint8_t *journal, size_t journal_size,
+                            uint8_t *out, size_t out_size);
+
 /* ---- A list of calls in one. Empties the state memory and does the calls of `script` on it, in turn. A call is its kind (1 byte), the
  * size of what it carries (2 bytes) and so many bytes: an order, 8 bytes of steps, a limit of 4 bytes and an update, or the ids of a lookup as
  * its function takes them, in 4 bytes each (a cell: 1 and 2 bytes). What is missing of them counts 0. Each answer takes a block of `out`: the 4
@@ -212,7 +224,9 @@ enum rail_call {
     RAIL_CALL_CELL = 6,
     RAIL_CALL_DESKTOP = 7,
     RAIL_CALL_UPDATE = 8,
-    RAIL_CALL_RECORD = 9 /* carries nothing; its block has RAIL_RECORD_MAX bytes, zeros behind the record */
+    RAIL_CALL_RECORD = 9, /* carries nothing; its block has RAIL_RECORD_MAX bytes, zeros behind the record */
+    RAIL_CALL_WINDOWS = 10,
+    RAIL_CALL_NOTIFICATIONS = 11
 };
 uint64_t rail_run(uint8_t *directory, size_t directory_size, uint8_t *bodies, size_t bodies_size,
                   uint8_t *cells, size_t cells_size, uint8_t *journal, size_t journal_size,

@@ -66,9 +66,15 @@
 #define RAIL_PICTURE_AT_HEIGHT 3              /* 2 */
 #define RAIL_PICTURE_AT_LENGTHS 5
 
+/* ---- Places: a list of ids (RAIL_LIST_SIZE) */
+
+#define RAIL_LIST_AT_COUNT 0                  /* 4 */
+#define RAIL_LIST_AT_IDS 4                    /* windows: up to 32 ids of 4 bytes; notification icons: up to 16 times WindowId 4, NotifyIconId 4 */
+
 /* ---- Structs. A pointer in them points into the bytes that were decoded: keep those as long as the struct is used. The functions
  * take what a granted lookup wrote. They read no byte past the record, whatever it holds, and cut a length that is over its limit.
- * In C++ say `struct rail_window` too: the calls rail_window, rail_notification and rail_desktop have the same names. */
+ * In C++ say `struct rail_window` too: the calls rail_window, rail_notification, rail_desktop, rail_windows and rail_notifications
+ * have the same names. */
 
 struct rail_string {
     const uint8_t *at; /* UTF-16LE, no zero at the end */
@@ -118,6 +124,20 @@ struct rail_desktop {
     uint32_t active_window_id;
     uint32_t num_window_ids;
     uint32_t window_ids[RAIL_WINDOW_IDS_MAX];
+};
+
+struct rail_windows {
+    uint32_t count;
+    uint32_t window_ids[RAIL_WINDOWS_MAX];
+};
+
+struct rail_notification_ids {
+    uint32_t window_id, notify_icon_id;
+};
+
+struct rail_notifications {
+    uint32_t count;
+    struct rail_notification_ids ids[RAIL_NOTIFICATIONS_MAX];
 };
 
 struct rail_picture {
@@ -224,6 +244,22 @@ static inline void rail_desktop_decode(struct rail_desktop *d, const uint8_t rec
     d->num_window_ids = rail_at_most(record[RAIL_DESKTOP_AT_NUM_WINDOW_IDS], RAIL_WINDOW_IDS_MAX);
     for (i = 0; i < RAIL_WINDOW_IDS_MAX; i++)
         d->window_ids[i] = rail_get32(record + RAIL_DESKTOP_AT_WINDOW_IDS + 4 * i);
+}
+
+static inline void rail_windows_decode(struct rail_windows *w, const uint8_t list[RAIL_LIST_SIZE]) {
+    uint32_t i;
+    w->count = rail_at_most(rail_get32(list + RAIL_LIST_AT_COUNT), RAIL_WINDOWS_MAX);
+    for (i = 0; i < RAIL_WINDOWS_MAX; i++)
+        w->window_ids[i] = rail_get32(list + RAIL_LIST_AT_IDS + 4 * i);
+}
+
+static inline void rail_notifications_decode(struct rail_notifications *n, const uint8_t list[RAIL_LIST_SIZE]) {
+    uint32_t i;
+    n->count = rail_at_most(rail_get32(list + RAIL_LIST_AT_COUNT), RAIL_NOTIFICATIONS_MAX);
+    for (i = 0; i < RAIL_NOTIFICATIONS_MAX; i++) {
+        n->ids[i].window_id = rail_get32(list + RAIL_LIST_AT_IDS + 8 * i);
+        n->ids[i].notify_icon_id = rail_get32(list + RAIL_LIST_AT_IDS + 8 * i + 4);
+    }
 }
 
 static inline void rail_picture_decode(struct rail_picture *p, const uint8_t record[RAIL_PICTURE_SIZE]) {

@@ -78,6 +78,14 @@ static inline uint32_t rail_state_desktop(const struct rail_state *s, uint8_t ou
     return rail_desktop(RAIL_STATE_PARTS(s), out, RAIL_DESKTOP_SIZE);
 }
 
+static inline uint32_t rail_state_windows(const struct rail_state *s, uint8_t out[RAIL_LIST_SIZE]) {
+    return rail_windows(RAIL_STATE_PARTS(s), out, RAIL_LIST_SIZE);
+}
+
+static inline uint32_t rail_state_notifications(const struct rail_state *s, uint8_t out[RAIL_LIST_SIZE]) {
+    return rail_notifications(RAIL_STATE_PARTS(s), out, RAIL_LIST_SIZE);
+}
+
 static inline uint32_t rail_state_record(const struct rail_state *s, uint8_t *out, size_t out_size) {
     return rail_record_write(RAIL_STATE_PARTS(s), out, out_size);
 }

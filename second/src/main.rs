@@ -53,8 +53,8 @@ usage:
   second update-to-script [--hex] < update > script
       Makes a script of a raw update (orders back to back, as a server sends them;
       with --hex a text of hex with comments): each order is delivered, and after each
-      that changes the table all windows, notification icons and the desktop state are
-      looked up.
+      that changes the table all windows, notification icons, the desktop state and the
+      lists of ids are looked up.
   second record < script > record
       Runs a script of state calls and writes the session record of the orders that
       then stand after the mark.

@@ -70,6 +70,7 @@ void test_reading(void);
 void test_writing(void);
 void test_chunks(void);
 void test_session_record(void);
+void test_lists(void);
 void test_script(void);
 void test_updates(void);
 void test_stack(void);

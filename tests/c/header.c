@@ -186,6 +186,7 @@ int main(void) {
     test_writing();
     test_chunks();
     test_session_record();
+    test_lists();
     test_script();
     test_updates();
     test_stack();

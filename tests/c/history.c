@@ -129,6 +129,10 @@ static void compare(const struct rail_state *s) {
     CHECK(memcmp(one, other, RAIL_PICTURE_SIZE) == 0);
     CHECK(rail_state_desktop(s, one) == rail_desktop(NOW, other, RAIL_DESKTOP_SIZE));
     CHECK(memcmp(one, other, RAIL_DESKTOP_SIZE) == 0);
+    CHECK(rail_state_windows(s, one) == rail_windows(NOW, other, RAIL_LIST_SIZE));
+    CHECK(memcmp(one, other, RAIL_LIST_SIZE) == 0);
+    CHECK(rail_state_notifications(s, one) == rail_notifications(NOW, other, RAIL_LIST_SIZE));
+    CHECK(memcmp(one, other, RAIL_LIST_SIZE) == 0);
     CHECK(rail_state_cell(s, 0, 5, one) == RAIL_UNKNOWN_ID);
 }
 
@@ -167,6 +171,8 @@ static void decode_any(uint8_t *w, uint8_t *n, uint8_t *d, uint8_t *p) {
     struct rail_notification notification;
     struct rail_desktop desktop;
     struct rail_picture picture;
+    struct rail_windows windows;
+    struct rail_notifications icons;
     rail_window_decode(&window, w);
     CHECK(window.title.bytes <= RAIL_TITLE_MAX);
     CHECK(window.num_window_rects <= RAIL_RECTANGLES_MAX && window.num_visibility_rects <= RAIL_RECTANGLES_MAX);
@@ -176,6 +182,10 @@ static void decode_any(uint8_t *w, uint8_t *n, uint8_t *d, uint8_t *p) {
     CHECK(notification.title.bytes <= RAIL_INFO_TIP_TITLE_MAX);
     rail_desktop_decode(&desktop, d);
     CHECK(desktop.num_window_ids <= RAIL_WINDOW_IDS_MAX);
+    rail_windows_decode(&windows, w + RAIL_WINDOW_SIZE - RAIL_LIST_SIZE);
+    CHECK(windows.count == RAIL_WINDOWS_MAX);
+    rail_notifications_decode(&icons, w + RAIL_WINDOW_SIZE - RAIL_LIST_SIZE);
+    CHECK(icons.count == RAIL_NOTIFICATIONS_MAX);
     rail_picture_decode(&picture, p);
     CHECK(picture.bits_mask + picture.cb_bits_mask == picture.color_table);
     CHECK(picture.color_table + picture.cb_color_table == picture.bits_color);

@@ -99,12 +99,15 @@ static uint32_t look(int which, uint8_t *out, size_t size) {
     case 0: return rail_window(NOW, 7, out, size);
     case 1: return rail_notification(NOW, 7, 9, out, size);
     case 2: return rail_cell(NOW, 1, 5, out, size);
+    case 3: return rail_windows(NOW, out, size);
+    case 4: return rail_notifications(NOW, out, size);
     default: return rail_desktop(NOW, out, size);
     }
 }
 
 void test_lookups(void) {
-    static const size_t sizes[] = {RAIL_WINDOW_SIZE, RAIL_NOTIFICATION_SIZE, RAIL_PICTURE_SIZE, RAIL_DESKTOP_SIZE};
+    static const size_t sizes[] = {RAIL_WINDOW_SIZE, RAIL_NOTIFICATION_SIZE, RAIL_PICTURE_SIZE,
+                                   RAIL_LIST_SIZE, RAIL_LIST_SIZE, RAIL_DESKTOP_SIZE};
     int which;
     uint32_t history;
     empty_state();
@@ -114,7 +117,7 @@ void test_lookups(void) {
     begin_notification(WINDOW_ORDER_STATE_NEW, 7, 9);
     history = deliver();
     CHECK(rail_number(history) == RAIL_DONE && rail_count(history) == 3 && rail_bytes(history) == 11 + 11 + 20 + 15);
-    for (which = 0; which < 4; which++) {
+    for (which = 0; which < 6; which++) {
         const size_t size = sizes[which];
         uint8_t *less = fenced(size - 1), *more = fenced(size + 999);
         memset(less, 0xEE, size - 1);

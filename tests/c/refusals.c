@@ -1,7 +1,7 @@
 /* Every number that a state call can answer, and that a refusal changes no byte. */
 #include "check.h"
 
-/* Call `which` of the eight state calls on memory whose parts have these sizes. */
+/* Call `which` of the ten state calls on memory whose parts have these sizes. */
 static uint32_t call(int which, const size_t size[4], uint8_t *out) {
 #define SIZED now.directory, size[0], now.bodies, size[1], now.cells, size[2], now.journal, size[3]
     switch (which) {
@@ -12,6 +12,8 @@ static uint32_t call(int which, const size_t size[4], uint8_t *out) {
     case 4: return rail_window(SIZED, 7, out, RAIL_PICTURE_SIZE);
     case 5: return rail_notification(SIZED, 7, 9, out, RAIL_PICTURE_SIZE);
     case 6: return rail_cell(SIZED, 0, 0, out, RAIL_PICTURE_SIZE);
+    case 7: return rail_windows(SIZED, out, RAIL_PICTURE_SIZE);
+    case 8: return rail_notifications(SIZED, out, RAIL_PICTURE_SIZE);
     default: return rail_desktop(SIZED, out, RAIL_PICTURE_SIZE);
     }
 }
@@ -21,7 +23,7 @@ static void all_meet_1(int first, const size_t size[4], uint8_t *out) {
     int which;
     remember();
     memset(out, 0xEE, RAIL_PICTURE_SIZE);
-    for (which = first; which < 8; which++)
+    for (which = first; which < 10; which++)
         CHECK(call(which, size, out) == RAIL_BAD_STATE);
     CHECK(unchanged() && filled(out, RAIL_PICTURE_SIZE, 0xEE));
 }
@@ -68,7 +70,7 @@ void test_longer_parts(void) {
     order.at[1] = (uint8_t)order.size;
     CHECK(call(0, longer, out) == RAIL_DONE);
     CHECK(call(1, longer, out) == 65536 * 11 + 256);
-    for (which = 3; which < 8; which++)
+    for (which = 3; which < 10; which++)
         CHECK(call(which, longer, out) == (which == 5 || which == 6 ? RAIL_UNKNOWN_ID : 65536 * 11 + 256));
     CHECK(call(2, longer, out) == RAIL_DONE);
     CHECK(call(4, longer, out) == RAIL_DONE);

@@ -89,6 +89,15 @@ static void add_record(void) {
     add(RAIL_CALL_RECORD, script, 0);
 }
 
+static void add_lists(void) {
+    uint8_t *list = block(0, RAIL_LIST_SIZE);
+    answered(list, rail_windows(NOW, list, RAIL_LIST_SIZE));
+    add(RAIL_CALL_WINDOWS, script, 0);
+    list = block(0, RAIL_LIST_SIZE);
+    answered(list, rail_notifications(NOW, list, RAIL_LIST_SIZE));
+    add(RAIL_CALL_NOTIFICATIONS, script, 0);
+}
+
 static void add_calls(void) {
     begin_window(WINDOW_ORDER_STATE_NEW | WINDOW_ORDER_FIELD_TITLE, 7);
     put_string(40, 0x41);
@@ -107,6 +116,7 @@ static void add_calls(void) {
     put_string(20, 0x61);
     add_order();
     add_notification(7, 3);
+    add_lists();
     begin_desktop(WINDOW_ORDER_FIELD_DESKTOP_ACTIVEWND);
     put32(7);
     add_order();
@@ -158,7 +168,7 @@ void test_script(void) {
     /* an emptying, and then an item that is no call: less than its head, cut, of an unknown kind, and in this order */
     add(RAIL_CALL_RESET, script, 0);
     add(RAIL_CALL_WINDOW, script, 0);
-    script[script_size] = RAIL_CALL_RECORD + 1;
+    script[script_size] = RAIL_CALL_NOTIFICATIONS + 1;
     script[script_size + 1] = script[script_size + 2] = 0;
     CHECK(ends(rail_run(OTHER, RAIL_JOURNAL_SIZE, script, script_size + 2, out, sizeof out), RAIL_TOO_SHORT, calls));
     CHECK(ends(rail_run(OTHER, RAIL_JOURNAL_SIZE, script, script_size + 3, out, sizeof out), RAIL_UNKNOWN_TYPE, calls));

@@ -20,6 +20,8 @@ pub enum Call {
     Notification(u32, u32),
     Cell(u8, u16),
     Desktop,
+    Windows,
+    Notifications,
 }
 
 impl Call {
@@ -33,6 +35,8 @@ impl Call {
             Call::Notification(..) => "notification",
             Call::Cell(..) => "cell",
             Call::Desktop => "desktop",
+            Call::Windows => "windows",
+            Call::Notifications => "notifications",
         }
     }
 }
@@ -138,6 +142,8 @@ pub fn all(listing: &Listing) -> Vec<Job> {
         ),
         ("Lookup: cell", Call::Cell(0, 0)),
         ("Lookup: desktop", Call::Desktop),
+        ("List of windows", Call::Windows),
+        ("List of notification icons", Call::Notifications),
     ];
     jobs.extend(others.map(|(label, call)| Job {
         name: call.entry().into(),

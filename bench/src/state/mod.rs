@@ -330,7 +330,7 @@ mod tests {
     #[test]
     fn names_are_found_again() {
         let jobs = every_job();
-        assert_eq!(jobs.len(), 4 * (14 + 8) + 2 * 4);
+        assert_eq!(jobs.len(), 4 * (16 + 8) + 2 * 4);
         for (listing, job) in jobs {
             let found = jobs::named(&listing, &job.name).expect("a name");
             assert_eq!(found.label, job.label);

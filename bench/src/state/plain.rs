@@ -52,6 +52,8 @@ impl State for Plain {
             Call::Notification(window, icon) => plain_notification(book, window, icon, out),
             Call::Cell(cache, entry) => plain_cell(book, cache, entry, out),
             Call::Desktop => plain_desktop(book, out),
+            Call::Windows => plain_windows(book, out),
+            Call::Notifications => plain_notifications(book, out),
         }
     }
 
@@ -134,6 +136,29 @@ pub fn plain_desktop(book: &Book, out: &mut [u8]) -> Answer {
     to.u8(desktop.stack.len() as u8);
     for id in &desktop.stack {
         to.u32(id.0);
+    }
+    answer(book, Ok(()))
+}
+
+#[no_mangle]
+#[inline(never)]
+pub fn plain_windows(book: &Book, out: &mut [u8]) -> Answer {
+    let mut to = Writer::new(&mut out[..132]);
+    to.u32(book.table().window_ids().count() as u32);
+    for id in book.table().window_ids() {
+        to.u32(id.0);
+    }
+    answer(book, Ok(()))
+}
+
+#[no_mangle]
+#[inline(never)]
+pub fn plain_notifications(book: &Book, out: &mut [u8]) -> Answer {
+    let mut to = Writer::new(&mut out[..132]);
+    to.u32(book.table().icon_ids().count() as u32);
+    for (window, icon) in book.table().icon_ids() {
+        to.u32(window.0);
+        to.u32(icon.0);
     }
     answer(book, Ok(()))
 }

@@ -53,6 +53,8 @@ impl State for Proved {
                 view.picture_bytes(cell, out)
             }
             Call::Desktop => view.desktop_bytes(out),
+            Call::Windows => view.window_ids_bytes(out),
+            Call::Notifications => view.notification_icon_ids_bytes(out),
         };
         let standing = standing.map_err(Refusal::number)?;
         Ok((standing.orders, standing.bytes))

@@ -9,13 +9,14 @@ use lib.ListN.{length}
 use borrow.Author.Tests.{leb-true, leb-false, lt-ltb, le-ltb}
 use Rattle.wire.specs.Tests.{pick, both, either}
 use Rattle.directory.specs.Directory.{windows, notifications}
+use Rattle.ids.specs.Ids.{idsIn}
 use Rattle.body.specs.Bodies.{Body}
-use Rattle.table.specs.Table.{Table, emptied, number, after, recordAt, pictureAt}
+use Rattle.table.specs.Table.{Table, emptied, number, after, directory, recordAt, pictureAt}
 use Rattle.journal.specs.Limits.{mostOrders, mostBytes}
 use Rattle.journal.specs.State.{State, run, present, bytesIn}
 use Rattle.session.specs.declared.LookupTarget.{LookupTarget}
-use Rattle.session.specs.declared.LookupTarget.the-variants.{Window, Notification, Cell, Desktop}
-use Rattle.session.specs.Calls.{Call, reset, deliver, checkpoint, undo, look, writeRecord, Payload, nothing, body, picture, orders, Answer, refuse, grant, overFull, without, aBody, aPicture, payloadIn, found, answer, next}
+use Rattle.session.specs.declared.LookupTarget.the-variants.{Window, Notification, Cell, Desktop, Windows, Notifications}
+use Rattle.session.specs.Calls.{Call, reset, deliver, checkpoint, undo, look, writeRecord, Payload, nothing, body, picture, ids, orders, Answer, refuse, grant, overFull, without, aBody, aPicture, payloadIn, found, answer, next}
 use Rattle.model.specs.Book.{Book, newBook, makes, tableOf, bytesOf, hasRoom, joined, markMoved, lastGone, says, refuses, givesBody, givesPicture, bookNext, bookAnswer}
 
 -- ---- the book's words and the state's
@@ -87,6 +88,8 @@ module _ (b : Book) where
   look-says (Notification w n) = body-same (recordAt (tableOf b) notifications (w .id) (n .id))
   look-says (Cell cache entry) = picture-same (both (leb cache 1) (leb entry 5)) (pictureAt (tableOf b) (6 * cache + entry))
   look-says Desktop = grants (body (tableOf b .desktop))
+  look-says Windows = grants (ids windows (idsIn (directory (tableOf b)) windows))
+  look-says Notifications = grants (ids notifications (idsIn (directory (tableOf b)) notifications))
 
 -- ---- each call's answer
 

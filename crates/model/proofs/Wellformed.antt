@@ -15,7 +15,7 @@ use Rattle.journal.specs.State.{State, present, run, bytesIn}
 use Rattle.journal.specs.View.{Memory, tooShort, wellFormed, stateOf, View, short, unformed, formed, viewOf}
 use Rattle.journal.proofs.Runs.{bytes-append}
 use Rattle.journal.proofs.Fits.{fits}
-use Rattle.session.specs.Calls.{Call, reset, deliver, checkpoint, undo, look, writeRecord, Payload, nothing, body, picture, orders, refuse, grant, overFull, without, payloadIn, found, isReset, answer, answerView, nextView, next}
+use Rattle.session.specs.Calls.{Call, reset, deliver, checkpoint, undo, look, writeRecord, Payload, nothing, body, picture, ids, orders, refuse, grant, overFull, without, payloadIn, found, isReset, answer, answerView, nextView, next}
 use Rattle.session.specs.Outcome.{Response, plain, replied, responseOf, answerWithin, outAfter}
 use Rattle.model.specs.Wellformed.{Meets, emptiedState, EmptyingGranted, EmptiedMeets, CallsKeep, OneState, OnlyMeets, Fits, RepliesFit}
 use Rattle.model.proofs.Demand3.{moved, emptied-view}
@@ -135,6 +135,7 @@ module _ (s : State) (few : length (s .log) ≤ mostOrders) (bytes : bytesIn (s 
   found-fits nothing = refused-fits 9
   found-fits (body b) = (few, bytes)
   found-fits (picture p) = (few, bytes)
+  found-fits (ids f ks) = (few, bytes)
   found-fits (orders os) = (few, bytes)
 
   answer-fits : (c : Call) → Fits (answer c s)

@@ -8,11 +8,12 @@ use lib.Dec.{eqb, leb, ltb}
 use lib.ListN.{length, take}
 use Rattle.wire.specs.Tests.{pick, both}
 use Rattle.directory.specs.Directory.{windows, notifications}
+use Rattle.ids.specs.Ids.{idsIn}
 use Rattle.body.specs.Bodies.{Body}
-use Rattle.table.specs.Table.{Table, emptied, number, after, recordAt, pictureAt}
+use Rattle.table.specs.Table.{Table, emptied, number, after, directory, recordAt, pictureAt}
 use Rattle.journal.specs.Limits.{mostOrders, mostBytes}
-use Rattle.session.specs.declared.LookupTarget.the-variants.{Window, Notification, Cell, Desktop}
-use Rattle.session.specs.Calls.{Call, reset, deliver, checkpoint, undo, look, writeRecord, Payload, nothing, body, picture, orders, Answer}
+use Rattle.session.specs.declared.LookupTarget.the-variants.{Window, Notification, Cell, Desktop, Windows, Notifications}
+use Rattle.session.specs.Calls.{Call, reset, deliver, checkpoint, undo, look, writeRecord, Payload, nothing, body, picture, ids, orders, Answer}
 
 -- a list of standing orders with a mark in it: those up to the mark, and those after it
 pub record Book : Type 0 where
@@ -84,6 +85,8 @@ bookAnswer (look (Notification w n)) b = givesBody b (recordAt (tableOf b) notif
 bookAnswer (look (Cell cache entry)) b =
     givesPicture b (pick (both (leb cache 1) (leb entry 5)) (pictureAt (tableOf b) (6 * cache + entry)) none)
 bookAnswer (look Desktop) b = says 0 b (body (tableOf b .desktop))
+bookAnswer (look Windows) b = says 0 b (ids windows (idsIn (directory (tableOf b)) windows))
+bookAnswer (look Notifications) b = says 0 b (ids notifications (idsIn (directory (tableOf b)) notifications))
 bookAnswer writeRecord b = says 0 b (orders (b .new))
 
 -- over a list of calls

@@ -5,6 +5,7 @@ use mathlib.Core.List.{List, [], _∷_}
 use lib.ListN.{getD}
 use Rattle.layout.specs.Layouts.{windowSize, notificationSize, desktopSize, pictureSize}
 use Rattle.chunk.specs.Memory.{memorySize}
+use Rattle.ids.specs.Ids.{listSize}
 use Rattle.journal.specs.Limits.{indexLength, bodiesLength, cellsLength, journalLength}
 use Rattle.journal.specs.View.{Memory, viewOf, Past}
 use Rattle.record.specs.Layout.{mostRecord}
@@ -12,11 +13,11 @@ use Rattle.session.specs.Calls.{answerView, nextView}
 use Rattle.session.specs.Outcome.{Request, Response, responseOf}
 use Rattle.session.specs.Packed.{packedOf}
 
--- the bytes of the four parts, of the three records, of a picture, of the chunk memory, and of the longest session record
+-- the bytes of the four parts, of the three records, of a picture, of the chunk memory, of the longest session record, and of a list
 abbrev pub sizes : List ℕ
 sizes =
     indexLength ∷ bodiesLength ∷ cellsLength ∷ journalLength ∷ windowSize ∷ notificationSize ∷ desktopSize ∷ pictureSize ∷ memorySize
-    ∷ mostRecord ∷ []
+    ∷ mostRecord ∷ listSize ∷ []
 
 unfoldable pub sizeOf : ℕ → ℕ
 sizeOf what = getD sizes what 0

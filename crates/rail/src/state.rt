@@ -4,7 +4,7 @@ ghost use mathlib.Core.Path.{_≡_};
 ghost use Rattle.journal.specs.View.{memory};
 ghost use Rattle.session.specs.Calls.{reset, deliver, checkpoint, undo};
 ghost use Rattle.session.specs.Outcome.{plain, lookup};
-ghost use Rattle.session.specs.declared.LookupTarget.the-variants.{Window, Notification, Cell, Desktop};
+ghost use Rattle.session.specs.declared.LookupTarget.the-variants.{Window, Notification, Cell, Desktop, Windows, Notifications};
 ghost use Rattle.rail.specs.States.{sizeOf, Exported};
 use protocol::NotifyIconId;
 use protocol::WindowId;
@@ -13,7 +13,7 @@ use session::calls;
 use session::lookups::look;
 use session::packed::packed;
 
-// The bytes of a part of the state memory, of a record, of the chunk memory, or of the longest session record.
+// The bytes of a part of the state memory, of a record, of the chunk memory, of the longest session record, or of a list.
 #[no_mangle]
 pub extern "C" fn rail_size(what: u32) -> u32
     ensures { λ r. ⌜ r ≡ sizeOf what ⌝ }
@@ -29,6 +29,7 @@ pub extern "C" fn rail_size(what: u32) -> u32
         7 => layout::PICTURE as u32,
         8 => chunk::MEMORY as u32,
         9 => record::MOST as u32,
+        10 => ids::LENGTH as u32,
         _ => 0,
     }
 }
@@ -148,5 +149,40 @@ pub extern "C" fn rail_desktop(
     ensures { λ r. ⌜ Exported (lookup Desktop (now (out .entry))) (memory (now (dir .entry)) (now (bodies .entry)) (now (cells .entry)) (now (journal .entry))) r (now (out .exit)) (memory (now (dir .entry)) (now (bodies .entry)) (now (cells .entry)) (now (journal .entry))) ⌝ }
 {
     let r = look(dir, bodies, cells, journal, LookupTarget::Desktop, out);
+    packed(r)
+}
+
+#[no_mangle]
+pub extern "C" fn rail_windows(
+    dir: &[u8],
+    bodies: &[u8],
+    cells: &[u8],
+    journal: &[u8],
+    out: &mut [u8],
+) -> u32
+    ensures { λ r. ⌜ Exported (lookup Windows (now (out .entry))) (memory (now (dir .entry)) (now (bodies .entry)) (now (cells .entry)) (now (journal .entry))) r (now (out .exit)) (memory (now (dir .entry)) (now (bodies .entry)) (now (cells .entry)) (now (journal .entry))) ⌝ }
+{
+    let r = look(dir, bodies, cells, journal, LookupTarget::Windows, out);
+    packed(r)
+}
+
+#[no_mangle]
+pub extern "C" fn rail_notifications(
+    dir: &[u8],
+    bodies: &[u8],
+    cells: &[u8],
+    journal: &[u8],
+    out: &mut [u8],
+) -> u32
+    ensures { λ r. ⌜ Exported (lookup Notifications (now (out .entry))) (memory (now (dir .entry)) (now (bodies .entry)) (now (cells .entry)) (now (journal .entry))) r (now (out .exit)) (memory (now (dir .entry)) (now (bodies .entry)) (now (cells .entry)) (now (journal .entry))) ⌝ }
+{
+    let r = look(
+        dir,
+        bodies,
+        cells,
+        journal,
+        LookupTarget::Notifications,
+        out,
+    );
     packed(r)
 }

@@ -2,6 +2,7 @@
 use crate::batch;
 use crate::faults;
 use crate::faults::Lack;
+use crate::lists;
 use crate::records;
 use crate::show;
 ghost use Prim.Native.Nat.{_≤_};
@@ -57,7 +58,7 @@ fn cut_item() -> Item
 // Whether an item of a kind can have a payload of len bytes.
 fn is_listed(kind: u8, len: usize) -> bool {
     match kind {
-        b'E' | b'M' | b'S' => len == 0,
+        b'E' | b'M' | b'S' | b'I' => len == 0,
         b'B' | b'W' => len == 4,
         b'N' => len == 8,
         b'C' | b'T' => len == 3,
@@ -149,6 +150,36 @@ fn look_call(
     show::found(out, kind, r, target, &found)
 }
 
+// I: the two lists of ids.
+fn list_call(
+    dir: &[u8],
+    bodies: &[u8],
+    cells: &[u8],
+    journal: &[u8],
+    kind: u8,
+    out: &mut [u8],
+) -> usize {
+    let mut windows = [0u8; ids::LENGTH];
+    let mut icons = [0u8; ids::LENGTH];
+    let r = session::lookups::look(
+        dir,
+        bodies,
+        cells,
+        journal,
+        LookupTarget::Windows,
+        &mut windows,
+    );
+    session::lookups::look(
+        dir,
+        bodies,
+        cells,
+        journal,
+        LookupTarget::Notifications,
+        &mut icons,
+    );
+    lists::found(out, kind, r, &windows, &icons)
+}
+
 // Makes a call and lays its line, whose length it answers.
 fn call(
     dir: &mut [u8],
@@ -164,6 +195,9 @@ fn call(
     }
     if kind == b'U' {
         return batch::call(dir, bodies, cells, journal, s, out);
+    }
+    if kind == b'I' {
+        return list_call(dir, bodies, cells, journal, kind, out);
     }
     let r = change_call(dir, bodies, cells, journal, kind, s);
     show::reply(out, kind, r)

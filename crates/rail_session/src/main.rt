@@ -2,6 +2,7 @@
 mod batch;
 mod faults;
 mod item;
+mod lists;
 mod records;
 mod show;
 

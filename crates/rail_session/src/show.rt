@@ -211,6 +211,7 @@ fn record(out: &mut [u8], at: usize, target: LookupTarget, bytes: &[u8]) -> usiz
         }
         LookupTarget::Cell(_, _) => picture_record(out, at, view::picture(bytes)),
         LookupTarget::Desktop => desktop_record(out, at, view::desktop(bytes)),
+        LookupTarget::Windows | LookupTarget::Notifications => at,
     }
 }
 

@@ -15,11 +15,12 @@ use Rattle.wire.specs.Numbers.{numAt, bytesOf}
 use Rattle.wire.proofs.Parts.{splice-start, splice-after}
 use Rattle.wire.proofs.Numbers.{length-bytes}
 use Rattle.layout.specs.Layouts.{windowSize, notificationSize, desktopSize, pictureSize}
+use Rattle.ids.specs.Ids.{listSize}
 use Rattle.journal.specs.View.{Memory}
 use Rattle.record.specs.Layout.{mostRecord}
 use Rattle.session.specs.declared.Reply.{Reply}
 use Rattle.session.specs.declared.LookupTarget.{LookupTarget}
-use Rattle.session.specs.declared.LookupTarget.the-variants.{Window, Notification, Cell, Desktop}
+use Rattle.session.specs.declared.LookupTarget.the-variants.{Window, Notification, Cell, Desktop, Windows, Notifications}
 use Rattle.session.specs.Calls.{Call, reset, deliver, checkpoint, undo, look, writeRecord}
 use Rattle.session.specs.Outcome.{Response, replied, handed, neededFor, CallOutcome}
 use Rattle.session.specs.Packed.{packedOf}
@@ -68,9 +69,17 @@ module _ (kind : ℕ) (arg : List ℕ) where
   unfolding targetOf
   is-cell e x y v w = rw (e, v, w)
 
-  pub is-desktop : (kind ≡ 4 → ⊥) → (kind ≡ 5 → ⊥) → (kind ≡ 6 → ⊥) → Desktop ≡ targetOf kind arg
+  pub is-windows : kind ≡ 10 → Windows ≡ targetOf kind arg
   unfolding targetOf
-  is-desktop a b c = rw (ne-eqb kind 4 a, ne-eqb kind 5 b, ne-eqb kind 6 c)
+  is-windows e = rw e
+
+  pub is-notifications : kind ≡ 11 → Notifications ≡ targetOf kind arg
+  unfolding targetOf
+  is-notifications e = rw e
+
+  pub is-desktop : (kind ≡ 4 → ⊥) → (kind ≡ 5 → ⊥) → (kind ≡ 6 → ⊥) → (kind ≡ 10 → ⊥) → (kind ≡ 11 → ⊥) → Desktop ≡ targetOf kind arg
+  unfolding targetOf
+  is-desktop a b c d e = rw (ne-eqb kind 4 a, ne-eqb kind 5 b, ne-eqb kind 6 c, ne-eqb kind 10 d, ne-eqb kind 11 e)
 
   pub is-change : kind < 4 → callOf kind arg ≡ changeOf kind arg
   unfolding callOf
@@ -148,9 +157,19 @@ module _ (kind : ℕ) where
   unfolding targetOf
   length-cell e = length-look (omega (arith, e)) (λ x. omega (arith, e, x)) (λ arg. rw e)
 
-  pub length-desktop : 4 ≤ kind → (kind ≡ 4 → ⊥) → (kind ≡ 5 → ⊥) → (kind ≡ 6 → ⊥) → (kind ≡ recordKind → ⊥) → TakesOne kind (4 + desktopSize)
+  pub length-windows : kind ≡ 10 → TakesOne kind (4 + listSize)
   unfolding targetOf
-  length-desktop l a b c r = length-look l r (λ arg. rw (ne-eqb kind 4 a, ne-eqb kind 5 b, ne-eqb kind 6 c))
+  length-windows e = length-look (omega (arith, e)) (λ x. omega (arith, e, x)) (λ arg. rw e)
+
+  pub length-notifications : kind ≡ 11 → TakesOne kind (4 + listSize)
+  unfolding targetOf
+  length-notifications e = length-look (omega (arith, e)) (λ x. omega (arith, e, x)) (λ arg. rw e)
+
+  pub length-desktop : 4 ≤ kind → (kind ≡ 4 → ⊥) → (kind ≡ 5 → ⊥) → (kind ≡ 6 → ⊥) → (kind ≡ recordKind → ⊥) → (kind ≡ 10 → ⊥) → (kind ≡ 11 → ⊥)
+      → TakesOne kind (4 + desktopSize)
+  unfolding targetOf
+  length-desktop l a b c r d e =
+      length-look l r (λ arg. rw (ne-eqb kind 4 a, ne-eqb kind 5 b, ne-eqb kind 6 c, ne-eqb kind 10 d, ne-eqb kind 11 e))
 
 -- ---- the block of a call that hands nothing out
 

@@ -12,7 +12,7 @@ use Rattle.wire.specs.Parts.{slice, splice}
 use Rattle.wire.specs.Numbers.{numAt, bytesOf}
 use Rattle.journal.specs.View.{Memory, Past, tooShort}
 use Rattle.session.specs.declared.LookupTarget.{LookupTarget}
-use Rattle.session.specs.declared.LookupTarget.the-variants.{Window, Notification, Cell, Desktop}
+use Rattle.session.specs.declared.LookupTarget.the-variants.{Window, Notification, Cell, Desktop, Windows, Notifications}
 use Rattle.session.specs.Calls.{Call, reset, deliver, checkpoint, undo, look, writeRecord}
 use Rattle.session.specs.Outcome.{Request, neededFor}
 use Rattle.session.specs.Packed.{packedOf}
@@ -24,12 +24,14 @@ use Rattle.model.specs.Claim.{DescribesBook}
 -- ---- a script: items, each its kind (1 byte), the size of what it carries (2) and so many bytes; what is missing of a call's
 -- numbers counts 0
 
--- 4: a window; 5: a notification icon; 6: a cell, by cache and entry; 7: the desktop
+-- 4: a window; 5: a notification icon; 6: a cell, by cache and entry; 7: the desktop; 10: the list of windows; 11: that of
+-- notification icons
 unfoldable pub targetOf : ℕ → List ℕ → LookupTarget
 targetOf kind arg =
     pick (eqb kind 4) (Window (record { id = numAt 4 arg 0 }))
     (pick (eqb kind 5) (Notification (record { id = numAt 4 arg 0 }) (record { id = numAt 4 arg 4 }))
-    (pick (eqb kind 6) (Cell (numAt 1 arg 0) (numAt 2 arg 1)) Desktop))
+    (pick (eqb kind 6) (Cell (numAt 1 arg 0) (numAt 2 arg 1))
+    (pick (eqb kind 10) Windows (pick (eqb kind 11) Notifications Desktop))))
 
 -- 0: an emptying; 1: a delivery; 2: a mark; 3: a step back
 unfoldable pub changeOf : ℕ → List ℕ → Call
@@ -60,7 +62,7 @@ unfoldable pub stepOf : ℕ → List ℕ → Step
 stepOf kind arg = pick (eqb kind 8) (update (numAt 4 arg 0) (drop limitSize arg)) (oneCall (callOf kind arg))
 
 abbrev pub lastKind : ℕ
-lastKind = 9
+lastKind = 11
 
 -- the first item of a script: its kind, its bytes in all, and its call
 abbrev pub kindOf : List ℕ → ℕ

@@ -20,10 +20,11 @@ const UPDATE: u8 = 8;
 
 const LIMIT: usize = 4;
 
-// The session record written, and the last kind.
+// The session record written.
 const RECORD: u8 = 9;
 
-const LAST: u8 = 9;
+// The last kind.
+const LAST: u8 = 11;
 
 // The number of 8 bytes at the start; a byte past the end counts 0.
 fn read_u64(s: &[u8]) -> u64
@@ -58,7 +59,7 @@ fn change(
     session::calls::undo(dir, bodies, cells, journal, k)
 }
 
-// What a lookup of kinds 4 to 7 looks for.
+// What a lookup of kinds 4 to 7, 10 and 11 looks for.
 fn target_of(kind: u8, arg: &[u8]) -> LookupTarget
     ensures { λ r. ⌜ r ≡ targetOf kind (now (arg .entry)) ⌝ }
 {
@@ -74,6 +75,12 @@ fn target_of(kind: u8, arg: &[u8]) -> LookupTarget
         let cache = wire::read_u8(arg, 0);
         let entry = wire::read_u16(arg, 1);
         return LookupTarget::Cell(cache, entry);
+    }
+    if kind == 10 {
+        return LookupTarget::Windows;
+    }
+    if kind == 11 {
+        return LookupTarget::Notifications;
     }
     LookupTarget::Desktop
 }
@@ -96,6 +103,12 @@ fn single_length(kind: u8) -> usize
     }
     if kind == RECORD {
         return 4 + record::MOST;
+    }
+    if kind == 10 {
+        return 4 + ids::LENGTH;
+    }
+    if kind == 11 {
+        return 4 + ids::LENGTH;
     }
     4 + layout::DESKTOP
 }

@@ -18,6 +18,7 @@ use Rattle.directory.specs.declared.Searched.{Searched}
 use Rattle.directory.specs.Slots.{isAt, firstFrom, searchFrom, filledAt}
 use Rattle.directory.proofs.Search.{search-found}
 use Rattle.directory.specs.Directory.{directoryOf}
+use Rattle.ids.specs.Ids.{listSize}
 use Rattle.body.specs.Bodies.{windowFields, notificationFields, desktopFields, bodyOk, fieldsOk}
 use Rattle.body.specs.Stores.{roomAll}
 use Rattle.cache.specs.Cells.{cellOk}
@@ -25,7 +26,7 @@ use Rattle.table.specs.declared.Want.{Want}
 use Rattle.table.specs.declared.Want.the-variants as want
 use Rattle.table.specs.Follow.{roomFor}
 use Rattle.session.specs.declared.LookupTarget.{LookupTarget}
-use Rattle.session.specs.declared.LookupTarget.the-variants.{Window, Notification, Cell, Desktop}
+use Rattle.session.specs.declared.LookupTarget.the-variants.{Window, Notification, Cell, Desktop, Windows, Notifications}
 use Rattle.session.specs.Outcome.{layoutSize, payloadBytes}
 use Rattle.session.specs.Targets.{inCaches, cellNumber, isFound, wantOf, listedIn, payloadHeld, validHeld}
 
@@ -81,6 +82,14 @@ pub desktop-listed : (d : List ℕ) → true ≡ listedIn Desktop (directoryOf d
 unfolding listedIn
 desktop-listed d = refl
 
+pub windows-listed : (d : List ℕ) → true ≡ listedIn Windows (directoryOf d)
+unfolding listedIn
+windows-listed d = refl
+
+pub notifications-listed : (d : List ℕ) → true ≡ listedIn Notifications (directoryOf d)
+unfolding listedIn
+notifications-listed d = refl
+
 -- ---- handing it out
 
 module _ (out m : List ℕ) where
@@ -117,6 +126,12 @@ module _ (out m : List ℕ) where
   unfolding roomAll wantOf validHeld
   desktop-asks h = ((omega arith, omega arith, omega (arith, h .room), omega (arith, h .size)), fields-of desktopFields 1 1 (h .valid))
 
-  pub handed-as : {target v : LookupTarget} {out' : List ℕ} → target ≡ v → out' ≡ splice out 0 (payloadBytes v (payloadHeld v m))
-      → out' ≡ splice out 0 (payloadBytes target (payloadHeld target m))
-  handed-as e f = f ∙ ap (λ (t : LookupTarget). splice out 0 (payloadBytes t (payloadHeld t m))) (sym e)
+  pub windows-asks : Hands Windows → listSize ≤ length out
+  windows-asks h = h .room
+
+  pub notifications-asks : Hands Notifications → listSize ≤ length out
+  notifications-asks h = h .room
+
+  pub handed-as : {target v : LookupTarget} (d : List ℕ) {out' : List ℕ} → target ≡ v → out' ≡ splice out 0 (payloadBytes v (payloadHeld v d m))
+      → out' ≡ splice out 0 (payloadBytes target (payloadHeld target d m))
+  handed-as d e f = f ∙ ap (λ (t : LookupTarget). splice out 0 (payloadBytes t (payloadHeld t d m))) (sym e)

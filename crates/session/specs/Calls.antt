@@ -6,14 +6,15 @@ use mathlib.Core.Option.{Option, none, some}
 use lib.Dec.{eqb, leb, ltb}
 use lib.ListN.{length, take}
 use Rattle.wire.specs.Tests.{pick, both, either}
-use Rattle.directory.specs.Directory.{windows, notifications}
+use Rattle.directory.specs.Directory.{Family, windows, notifications}
+use Rattle.ids.specs.Ids.{idsIn}
 use Rattle.body.specs.Bodies.{Body}
-use Rattle.table.specs.Table.{Table, emptied, number, recordAt, pictureAt}
+use Rattle.table.specs.Table.{Table, emptied, number, directory, recordAt, pictureAt}
 use Rattle.journal.specs.Limits.{mostOrders, mostBytes}
 use Rattle.journal.specs.State.{State, present, bytesIn}
 use Rattle.journal.specs.View.{View, short, unformed, formed}
 use Rattle.session.specs.declared.LookupTarget.{LookupTarget}
-use Rattle.session.specs.declared.LookupTarget.the-variants.{Window, Notification, Cell, Desktop}
+use Rattle.session.specs.declared.LookupTarget.the-variants.{Window, Notification, Cell, Desktop, Windows, Notifications}
 
 -- document 01's emptying, delivery, mark, step back and looking up; writing the session record
 pub data Call : Type 0 where
@@ -24,11 +25,12 @@ pub data Call : Type 0 where
   look : LookupTarget → Call
   writeRecord : Call
 
--- what a call hands out, raw
+-- what a call hands out, raw; of a list the keys of its ids
 pub data Payload : Type 0 where
   nothing : Payload
   body : Body → Payload
   picture : List ℕ → Payload
+  ids : Family → List ℕ → Payload
   orders : List (List ℕ) → Payload
 
 -- a granted call reports how many orders stand after the mark and their bytes
@@ -68,12 +70,15 @@ payloadIn (Window w) t = aBody (recordAt t windows (w .id) 0)
 payloadIn (Notification w n) t = aBody (recordAt t notifications (w .id) (n .id))
 payloadIn (Cell cache entry) t = pick (both (leb cache 1) (leb entry 5)) (aPicture (pictureAt t (6 * cache + entry))) nothing
 payloadIn Desktop t = body (t .desktop)
+payloadIn Windows t = ids windows (idsIn (directory t) windows)
+payloadIn Notifications t = ids notifications (idsIn (directory t) notifications)
 
 -- 9 for nothing
 abbrev pub found : List (List ℕ) → Payload → Answer
 found log nothing = refuse 9
 found log (body b) = grant log (body b)
 found log (picture p) = grant log (picture p)
+found log (ids f ks) = grant log (ids f ks)
 found log (orders os) = grant log (orders os)
 
 -- ---- on a state

@@ -6,14 +6,15 @@ use lib.Dec.{eqb, ltb}
 use lib.ListN.{length}
 use Rattle.wire.specs.Tests.{pick, both}
 use Rattle.wire.specs.Parts.{splice}
+use Rattle.ids.specs.Ids.{listSize, listBytes}
 use Rattle.body.specs.Bodies.{Body, windowFields, notificationFields, desktopFields}
 use Rattle.layout.specs.Layouts.{recordBytes, pictureBytes}
 use Rattle.journal.specs.View.{Memory, Past, viewOf}
 use Rattle.record.specs.Layout.{recordOf, mostRecord}
 use Rattle.session.specs.declared.Reply.{Reply}
 use Rattle.session.specs.declared.LookupTarget.{LookupTarget}
-use Rattle.session.specs.declared.LookupTarget.the-variants.{Window, Notification, Cell, Desktop}
-use Rattle.session.specs.Calls.{Call, reset, deliver, checkpoint, undo, look, writeRecord, Payload, nothing, body, picture, orders, Answer, refuse, answerView, nextView}
+use Rattle.session.specs.declared.LookupTarget.the-variants.{Window, Notification, Cell, Desktop, Windows, Notifications}
+use Rattle.session.specs.Calls.{Call, reset, deliver, checkpoint, undo, look, writeRecord, Payload, nothing, body, picture, ids, orders, Answer, refuse, answerView, nextView}
 
 -- a call and the output memory lent with it: none for a call that hands nothing out
 pub record Request : Type 0 where
@@ -48,17 +49,22 @@ layoutSize (Window w) = 850
 layoutSize (Notification w n) = 916
 layoutSize (Cell cache entry) = 4235
 layoutSize Desktop = 263
+layoutSize Windows = listSize
+layoutSize Notifications = listSize
 
 abbrev pub layoutOf : LookupTarget → Body → List ℕ
 layoutOf (Window w) b = recordBytes windowFields b
 layoutOf (Notification w n) b = recordBytes notificationFields b
 layoutOf (Cell cache entry) b = []
 layoutOf Desktop b = recordBytes desktopFields b
+layoutOf Windows b = []
+layoutOf Notifications b = []
 
 unfoldable pub payloadBytes : LookupTarget → Payload → List ℕ
 payloadBytes target nothing = []
 payloadBytes target (body b) = layoutOf target b
 payloadBytes target (picture p) = pictureBytes p
+payloadBytes target (ids f ks) = listBytes f ks
 payloadBytes target (orders os) = []
 
 -- the session record of the orders handed out
@@ -66,6 +72,7 @@ unfoldable pub sessionRecord : Payload → List ℕ
 sessionRecord nothing = []
 sessionRecord (body b) = []
 sessionRecord (picture p) = []
+sessionRecord (ids f ks) = []
 sessionRecord (orders os) = recordOf os
 
 -- of any call: so many bytes are enough whatever it hands out

@@ -26,12 +26,15 @@ pub struct Reply {
     pub bytes: u32,
 }
 
-// What a lookup finds: a window by its id, a notification icon by its two ids, a cell by cache id and entry, or the desktop state.
+// What a lookup finds: a window by its id, a notification icon by its two ids, a cell by cache id and entry, the desktop state, or
+// the ids of the listed windows or notification icons.
 pub enum LookupTarget {
     Window(WindowId),
     Notification(WindowId, NotifyIconId),
     Cell(u8, u16),
     Desktop,
+    Windows,
+    Notifications,
 }
 
 // The number of an order that is delivered, and the extent of the journal after it.

@@ -39,6 +39,8 @@ fn want_of(target: LookupTarget) -> Want
         LookupTarget::Notification(w, n) => Want::Notification(w, n),
         LookupTarget::Cell(cache, entry) => Want::Cell(cell_number(cache, entry)),
         LookupTarget::Desktop => Want::Desktop,
+        LookupTarget::Windows => Want::Nothing,
+        LookupTarget::Notifications => Want::Nothing,
     }
 }
 
@@ -63,6 +65,8 @@ fn listed(d: &[u8], target: LookupTarget) -> bool
         LookupTarget::Notification(w, n) => found(d, 32, 16, w, n),
         LookupTarget::Cell(cache, entry) => slots::is_filled(d, cell_number(cache, entry)),
         LookupTarget::Desktop => true,
+        LookupTarget::Windows => true,
+        LookupTarget::Notifications => true,
     }
 }
 
@@ -75,19 +79,23 @@ fn size_of(target: LookupTarget) -> usize
         LookupTarget::Notification(_, _) => layout::NOTIFICATION,
         LookupTarget::Cell(_, _) => layout::PICTURE,
         LookupTarget::Desktop => layout::DESKTOP,
+        LookupTarget::Windows => ids::LENGTH,
+        LookupTarget::Notifications => ids::LENGTH,
     }
 }
 
-// Hands out what the memory m holds of the target.
-fn hand_out(out: &mut [u8], m: &[u8], target: LookupTarget)
+// Hands out what the index d and the memory m hold of the target.
+fn hand_out(out: &mut [u8], d: &[u8], m: &[u8], target: LookupTarget)
     requires { ⌜ (layoutSize target ≤ length (now out)) × (length (now m) ≡ roomFor (wantOf target)) × (validHeld target (now m) ≡ true) ⌝ }
-    ensures { λ _. ⌜ now (out .exit) ≡ splice (now (out .entry)) 0 (payloadBytes target (payloadHeld target (now (m .entry)))) ⌝ }
+    ensures { λ _. ⌜ now (out .exit) ≡ splice (now (out .entry)) 0 (payloadBytes target (payloadHeld target (now (d .entry)) (now (m .entry)))) ⌝ }
 {
     match target {
         LookupTarget::Window(_) => layout::record(out, m, 1, 15),
         LookupTarget::Notification(_, _) => layout::record(out, m, 16, 22),
         LookupTarget::Cell(_, _) => layout::picture(out, m),
         LookupTarget::Desktop => layout::record(out, m, 22, 24),
+        LookupTarget::Windows => ids::list(out, d, false),
+        LookupTarget::Notifications => ids::list(out, d, true),
     }
 }
 
@@ -117,7 +125,7 @@ fn look_in(
     if out.len() < size {
         return refused(14);
     }
-    hand_out(out, m, target);
+    hand_out(out, &d, m, target);
     granted(w)
 }
 
@@ -146,6 +154,14 @@ pub fn look(
         }
         LookupTarget::Desktop => {
             let mut m = [0u8; body::SLOT];
+            look_in(dir, bodies, cells, journal, target, &mut m, out)
+        }
+        LookupTarget::Windows => {
+            let mut m = [0u8; 0];
+            look_in(dir, bodies, cells, journal, target, &mut m, out)
+        }
+        LookupTarget::Notifications => {
+            let mut m = [0u8; 0];
             look_in(dir, bodies, cells, journal, target, &mut m, out)
         }
     }

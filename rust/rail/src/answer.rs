@@ -195,6 +195,7 @@ impl Standing {
 
 /// What a lookup found, and how much stands.
 #[derive(Clone, Copy, Debug, PartialEq, Eq)]
+#[non_exhaustive]
 pub struct Found<T> {
     /// The whole record.
     pub record: T,

@@ -122,6 +122,30 @@ extern "C" {
         out: *mut u8,
         out_length: usize,
     ) -> u32;
+    fn rail_windows(
+        directory: *const u8,
+        directory_length: usize,
+        bodies: *const u8,
+        bodies_length: usize,
+        cells: *const u8,
+        cells_length: usize,
+        journal: *const u8,
+        journal_length: usize,
+        out: *mut u8,
+        out_length: usize,
+    ) -> u32;
+    fn rail_notifications(
+        directory: *const u8,
+        directory_length: usize,
+        bodies: *const u8,
+        bodies_length: usize,
+        cells: *const u8,
+        cells_length: usize,
+        journal: *const u8,
+        journal_length: usize,
+        out: *mut u8,
+        out_length: usize,
+    ) -> u32;
     fn rail_record_write(
         directory: *const u8,
         directory_length: usize,
@@ -136,6 +160,20 @@ extern "C" {
     ) -> u32;
     fn rail_record_check(record: *const u8, record_length: usize) -> u32;
     fn rail_record_body(record: *const u8, record_length: usize, index: u32) -> u32;
+    fn rail_run(
+        directory: *mut u8,
+        directory_length: usize,
+        bodies: *mut u8,
+        bodies_length: usize,
+        cells: *mut u8,
+        cells_length: usize,
+        journal: *mut u8,
+        journal_length: usize,
+        script: *const u8,
+        script_length: usize,
+        out: *mut u8,
+        out_length: usize,
+    ) -> u64;
     fn rail_chunk_reset(memory: *mut u8, memory_length: usize) -> u32;
     fn rail_chunk(
         memory: *mut u8,
@@ -333,6 +371,44 @@ pub(crate) fn desktop(view: View<'_>, out: &mut [u8]) -> u32 {
     }
 }
 
+pub(crate) fn windows(view: View<'_>, out: &mut [u8]) -> u32 {
+    // SAFETY: only `out` is written, which is borrowed mutably and so apart from the
+    // parts; each has its own length.
+    unsafe {
+        rail_windows(
+            view.directory.as_ptr(),
+            view.directory.len(),
+            view.bodies.as_ptr(),
+            view.bodies.len(),
+            view.cells.as_ptr(),
+            view.cells.len(),
+            view.journal.as_ptr(),
+            view.journal.len(),
+            out.as_mut_ptr(),
+            out.len(),
+        )
+    }
+}
+
+pub(crate) fn notifications(view: View<'_>, out: &mut [u8]) -> u32 {
+    // SAFETY: only `out` is written, which is borrowed mutably and so apart from the
+    // parts; each has its own length.
+    unsafe {
+        rail_notifications(
+            view.directory.as_ptr(),
+            view.directory.len(),
+            view.bodies.as_ptr(),
+            view.bodies.len(),
+            view.cells.as_ptr(),
+            view.cells.len(),
+            view.journal.as_ptr(),
+            view.journal.len(),
+            out.as_mut_ptr(),
+            out.len(),
+        )
+    }
+}
+
 pub(crate) fn record_write(view: View<'_>, out: &mut [u8]) -> u32 {
     // SAFETY: only `out` is written, which is borrowed mutably and so apart from the
     // parts; each has its own length.
@@ -360,6 +436,27 @@ pub(crate) fn record_check(record: &[u8]) -> u32 {
 pub(crate) fn record_body(record: &[u8], index: u32) -> u32 {
     // SAFETY: the record is read with its length.
     unsafe { rail_record_body(record.as_ptr(), record.len(), index) }
+}
+
+pub(crate) fn run(lent: &mut LentSession<'_>, script: &[u8], out: &mut [u8]) -> u64 {
+    // SAFETY: the four parts and `out` are borrowed mutably and so apart from each other
+    // and from the script, each with its own length.
+    unsafe {
+        rail_run(
+            lent.directory.as_mut_ptr(),
+            lent.directory.len(),
+            lent.bodies.as_mut_ptr(),
+            lent.bodies.len(),
+            lent.cells.as_mut_ptr(),
+            lent.cells.len(),
+            lent.journal.as_mut_ptr(),
+            lent.journal.len(),
+            script.as_ptr(),
+            script.len(),
+            out.as_mut_ptr(),
+            out.len(),
+        )
+    }
 }
 
 pub(crate) fn chunk_reset(memory: &mut [u8]) -> u32 {
@@ -401,7 +498,7 @@ pub(crate) fn pdu_write(words: &Words, strings: &[u8], out: &mut [u8]) -> u32 {
     }
 }
 
-/// A size by its number: the four parts, then the records handed out.
+/// A size by its number: the four parts, then what is handed out.
 #[cfg(test)]
 pub(crate) fn size(what: u32) -> u32 {
     // SAFETY: a number goes in and a number comes out.
@@ -420,7 +517,7 @@ mod tests {
             assert_eq!(size(what), expected as u32);
         }
         assert_eq!(size(9), crate::RECORD_LIMIT as u32);
-        for what in [10, 255, 256, u32::MAX] {
+        for what in [11, 12, 255, 256, u32::MAX] {
             assert_eq!(size(what), 0);
         }
     }

@@ -51,10 +51,10 @@ mod ffi;
 mod ids;
 mod memory;
 mod message;
-mod names;
 mod order;
 pub mod protocol;
 mod record;
+mod run;
 mod session;
 mod session_record;
 mod text;
@@ -64,13 +64,14 @@ pub use answer::{Found, Refusal, Standing, UnknownNumber};
 pub use channel::{Channel, CHUNK_SIZE};
 pub use ids::{NotifyIconId, WindowId};
 pub use memory::{
-    LentSession, Memory, View, BODIES_SIZE, CELLS_SIZE, DIRECTORY_SIZE, JOURNAL_SIZE,
+    LentSession, Memory, View, BODIES_SIZE, CELLS_SIZE, DIRECTORY_SIZE, JOURNAL_SIZE, LIST_SIZE,
 };
 pub use message::{Message, Setting, MESSAGE_LIMIT};
 pub use order::{orders, Change, Changed, Orders};
 pub use record::{
     CacheCell, Desktop, NotificationIcon, Picture, Point, Rectangle, ShowState, Size, Window,
 };
+pub use run::{answers, run, script, Call, HandedOut, Run};
 pub use session::{NotificationIcons, Session, Windows};
 pub use session_record::{Bodies, Record, RECORD_LIMIT};
 pub use text::{text_lossy, utf16_bytes};

@@ -2,11 +2,14 @@
 
 use alloc::boxed::Box;
 use alloc::vec;
+use alloc::vec::Vec;
 use core::fmt;
 
 use crate::answer::{state_answer, Found, Refusal, Standing};
 use crate::ffi;
 use crate::ids::{NotifyIconId, WindowId};
+use crate::record::lists;
+pub use crate::record::lists::LIST_SIZE;
 use crate::record::{CacheCell, Desktop, NotificationIcon, Picture, Window};
 use crate::update::Report;
 
@@ -304,6 +307,48 @@ impl<'a> View<'a> {
     /// As [`desktop`](Self::desktop), then [`Refusal::OutputTooSmall`].
     pub fn desktop_bytes(self, out: &mut [u8]) -> Result<Standing, Refusal> {
         state_answer(ffi::desktop(self, out))
+    }
+
+    /// The ids of all windows, each once and ascending.
+    ///
+    /// # Errors
+    /// [`Refusal::UnfitMemory`].
+    pub fn window_ids(self) -> Result<Found<Vec<WindowId>>, Refusal> {
+        let mut out = [0; LIST_SIZE];
+        let standing = self.window_ids_bytes(&mut out)?;
+        let record = lists::window_ids(&out);
+        Ok(Found { record, standing })
+    }
+
+    /// Writes the list of windows, [`LIST_SIZE`] bytes, as
+    /// [`window_bytes`](Self::window_bytes) does.
+    ///
+    /// # Errors
+    /// As [`window_ids`](Self::window_ids), then [`Refusal::OutputTooSmall`].
+    pub fn window_ids_bytes(self, out: &mut [u8]) -> Result<Standing, Refusal> {
+        state_answer(ffi::windows(self, out))
+    }
+
+    /// The ids of all notification icons, each once and ascending: by window id, then by
+    /// notify-icon id.
+    ///
+    /// # Errors
+    /// [`Refusal::UnfitMemory`].
+    pub fn notification_icon_ids(self) -> Result<Found<Vec<(WindowId, NotifyIconId)>>, Refusal> {
+        let mut out = [0; LIST_SIZE];
+        let standing = self.notification_icon_ids_bytes(&mut out)?;
+        let record = lists::notification_icon_ids(&out);
+        Ok(Found { record, standing })
+    }
+
+    /// Writes the list of notification icons, [`LIST_SIZE`] bytes, as
+    /// [`window_bytes`](Self::window_bytes) does.
+    ///
+    /// # Errors
+    /// As [`notification_icon_ids`](Self::notification_icon_ids), then
+    /// [`Refusal::OutputTooSmall`].
+    pub fn notification_icon_ids_bytes(self, out: &mut [u8]) -> Result<Standing, Refusal> {
+        state_answer(ffi::notifications(self, out))
     }
 }
 

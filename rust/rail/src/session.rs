@@ -1,15 +1,15 @@
 //! A session that owns its memory.
 
-use alloc::collections::{btree_map, BTreeSet};
+use alloc::collections::BTreeSet;
 use alloc::vec;
 use alloc::vec::Vec;
 
 use crate::answer::{Refusal, Standing};
 use crate::ids::{NotifyIconId, WindowId};
 use crate::memory::Memory;
-use crate::names::Names;
 use crate::order::{orders, Change, Changed};
 use crate::record::{CacheCell, Desktop, NotificationIcon, Picture, Window};
+use crate::session_record;
 use crate::update::{Report, Taken};
 
 /// What the orders of a server make of the terminal's table: windows, notification
@@ -40,7 +40,6 @@ use crate::update::{Report, Taken};
 pub struct Session {
     memory: Memory,
     standing: Standing,
-    names: Names,
 }
 
 /// Orders of our own: desktop none, and desktop hooked.
@@ -60,11 +59,7 @@ impl Session {
     pub fn new() -> Self {
         let mut memory = Memory::new();
         let standing = granted(memory.lend().reset());
-        Self {
-            memory,
-            standing,
-            names: Names::default(),
-        }
+        Self { memory, standing }
     }
 
     /// Empties the table and its history, also the icon cache. It erases nothing: the
@@ -72,7 +67,6 @@ impl Session {
     /// [`wipe`](Self::wipe).
     pub fn reset(&mut self) {
         self.standing = granted(self.memory.lend().reset());
-        self.names = Names::default();
     }
 
     /// Empties the table as [`reset`](Self::reset) does, with every byte of the memory
@@ -93,7 +87,6 @@ impl Session {
     /// to 11 that applies.
     pub fn deliver(&mut self, order: &[u8]) -> Result<Standing, Refusal> {
         self.standing = self.memory.lend().deliver(order)?;
-        self.names.learn(order, self.standing);
         Ok(self.standing)
     }
 
@@ -115,11 +108,6 @@ impl Session {
     /// ```
     pub fn update(&mut self, limit: u32, update: &[u8]) -> Report {
         let report = granted(self.memory.lend().update(limit, update));
-        let mut standing = self.standing;
-        for order in orders(&update[..report.bytes]) {
-            standing.orders += 1;
-            self.names.learn(order, standing);
-        }
         self.standing = report.standing;
         report
     }
@@ -170,7 +158,7 @@ impl Session {
     /// changed.
     ///
     /// Where the history is full, a [`checkpoint`](Self::checkpoint) comes first. Where
-    /// the order begins a synchronization and something may be listed, all windows and
+    /// the order begins a synchronization and something is listed, all windows and
     /// notification icons go first (the server tells them as new again), by an order of
     /// our own that also stands: the answer is then [`Change::AllGone`].
     ///
@@ -192,7 +180,7 @@ impl Session {
     pub fn take(&mut self, order: &[u8]) -> Result<Changed, Refusal> {
         self.deliver_with_room(order)?;
         let mut changed = Changed::of(order).expect("a granted order has its header");
-        if changed.begins_sync() && !self.names.is_empty() {
+        if changed.begins_sync() && self.lists_something() {
             self.undo(1)?;
             let hooked = self.desktop().hooked;
             self.deliver_with_room(&DESKTOP_NONE)?;
@@ -203,6 +191,10 @@ impl Session {
             changed.what = Change::AllGone;
         }
         Ok(changed)
+    }
+
+    fn lists_something(&self) -> bool {
+        !self.window_ids().is_empty() || !self.notification_icon_ids().is_empty()
     }
 
     fn deliver_with_room(&mut self, order: &[u8]) -> Result<Standing, Refusal> {
@@ -219,7 +211,6 @@ impl Session {
     /// orders is free again.
     pub fn checkpoint(&mut self) {
         self.standing = granted(self.memory.lend().checkpoint());
-        self.names.forget_at_checkpoint(self.memory.view());
     }
 
     /// Takes the last `steps` orders back.
@@ -228,7 +219,6 @@ impl Session {
     /// [`Refusal::TooManySteps`] where fewer stand after the checkpoint.
     pub fn undo(&mut self, steps: u64) -> Result<Standing, Refusal> {
         self.standing = self.memory.lend().undo(steps)?;
-        self.names.forget_undone(self.standing);
         Ok(self.standing)
     }
 
@@ -241,8 +231,7 @@ impl Session {
     /// [`Record`](crate::Record). Delivering its orders in turn to the session as it stood
     /// at the checkpoint gives this one.
     pub fn record(&self) -> Vec<u8> {
-        let size = 2 + 8 * self.standing.orders + self.standing.bytes;
-        let mut bytes = vec![0; size];
+        let mut bytes = vec![0; session_record::size(self.standing)];
         granted(self.memory.view().record_bytes(&mut bytes));
         bytes
     }
@@ -281,12 +270,22 @@ impl Session {
         granted(self.memory.view().desktop()).record
     }
 
+    /// The ids of all windows, each once and ascending.
+    pub fn window_ids(&self) -> Vec<WindowId> {
+        granted(self.memory.view().window_ids()).record
+    }
+
+    /// The ids of all notification icons, each once and ascending: by window id, then by
+    /// notify-icon id.
+    pub fn notification_icon_ids(&self) -> Vec<(WindowId, NotifyIconId)> {
+        granted(self.memory.view().notification_icon_ids()).record
+    }
+
     /// All windows, by their ids.
     pub fn windows(&self) -> Windows<'_> {
-        let ids: Vec<WindowId> = self.names.windows.keys().copied().collect();
         Windows {
             session: self,
-            ids: ids.into_iter(),
+            ids: self.window_ids().into_iter(),
         }
     }
 
@@ -294,7 +293,7 @@ impl Session {
     /// topmost down, and below them those that it does not name, by their ids.
     pub fn windows_in_z_order(&self) -> Windows<'_> {
         let mut ids = self.desktop().z_order;
-        ids.extend(self.names.windows.keys());
+        ids.extend(self.window_ids());
         let mut seen = BTreeSet::new();
         ids.retain(|&id| seen.insert(id));
         Windows {
@@ -307,7 +306,7 @@ impl Session {
     pub fn notification_icons(&self) -> NotificationIcons<'_> {
         NotificationIcons {
             session: self,
-            ids: self.names.icons.keys(),
+            ids: self.notification_icon_ids().into_iter(),
         }
     }
 }
@@ -340,7 +339,7 @@ impl Iterator for Windows<'_> {
 #[derive(Debug)]
 pub struct NotificationIcons<'a> {
     session: &'a Session,
-    ids: btree_map::Keys<'a, (WindowId, NotifyIconId), usize>,
+    ids: vec::IntoIter<(WindowId, NotifyIconId)>,
 }
 
 impl Iterator for NotificationIcons<'_> {
@@ -348,7 +347,7 @@ impl Iterator for NotificationIcons<'_> {
 
     fn next(&mut self) -> Option<Self::Item> {
         let session = self.session;
-        let listed = |&(window, icon): &(WindowId, NotifyIconId)| {
+        let listed = |(window, icon)| {
             let record = session.notification_icon(window, icon).ok()?;
             Some(((window, icon), record))
         };
@@ -359,6 +358,7 @@ impl Iterator for NotificationIcons<'_> {
 #[cfg(test)]
 mod tests {
     use super::*;
+    use crate::memory::LIST_SIZE;
     use crate::protocol::{
         WINDOW_ORDER_STATE_DELETED as DELETED, WINDOW_ORDER_STATE_NEW as NEW,
         WINDOW_ORDER_TYPE_DESKTOP as DESKTOP_TYPE, WINDOW_ORDER_TYPE_NOTIFY as NOTIFICATION_TYPE,
@@ -397,45 +397,44 @@ mod tests {
         session.undo(1).unwrap();
         assert_eq!(ids(&session), [2]);
         session.reset();
-        assert!(ids(&session).is_empty() && session.names.is_empty());
+        assert!(ids(&session).is_empty());
         assert_eq!(session.standing(), Standing::default());
     }
 
-    /// Names of windows long gone do not pile up.
+    /// The lists are those of the table, with all 32 windows and 16 notification icons.
     #[test]
-    fn names_stay_few() {
+    fn full_lists() {
         let mut session = Session::new();
-        for id in 0..1_000 {
-            session.deliver(&new_window(id)).unwrap();
-            if id >= 10 {
-                session.deliver(&delete_window(id - 10)).unwrap();
-            }
-            if id % 50 == 49 {
-                session.checkpoint();
-            }
+        for id in (0..32).rev() {
+            session.deliver(&new_window(id << 27)).unwrap();
         }
-        assert_eq!(ids(&session), (990..1_000).collect::<Vec<u32>>());
-        assert_eq!(session.names.windows.len(), 10);
-    }
-
-    /// Nor do names of windows whose orders were taken back, with no checkpoint at all.
-    #[test]
-    fn names_stay_few_with_undo() {
-        let mut session = Session::new();
-        for id in 0..1_000 {
-            session.deliver(&new_window(id)).unwrap();
-            session
-                .deliver(&order(NEW | NOTIFICATION_TYPE, &[id, 1]))
-                .unwrap();
-            session.undo(2).unwrap();
+        for (window, icon) in (0..16).rev().map(|i| (i / 4, u32::MAX - i % 4)) {
+            let new = order(NEW | NOTIFICATION_TYPE, &[window, icon]);
+            session.deliver(&new).unwrap();
         }
-        assert!(session.names.is_empty());
+        let windows: Vec<WindowId> = (0..32).map(|id| WindowId(id << 27)).collect();
+        assert_eq!(session.window_ids(), windows);
+        let icons: Vec<_> = (0..16)
+            .map(|i| (WindowId(i / 4), NotifyIconId(u32::MAX - 3 + i % 4)))
+            .collect();
+        assert_eq!(session.notification_icon_ids(), icons);
+        let mut short = [0xEE; LIST_SIZE - 1];
+        let view = session.memory.view();
+        assert_eq!(
+            view.window_ids_bytes(&mut short),
+            Err(Refusal::OutputTooSmall)
+        );
+        assert_eq!(
+            view.notification_icon_ids_bytes(&mut short),
+            Err(Refusal::OutputTooSmall)
+        );
+        assert_eq!(short, [0xEE; LIST_SIZE - 1]);
     }
 
     /// What is deleted after a checkpoint, also by desktop none, can be brought back;
     /// what is new after it goes.
     #[test]
-    fn names_after_undo() {
+    fn lists_after_undo() {
         let mut session = Session::new();
         for icon in 1..=16 {
             let new = order(NEW | NOTIFICATION_TYPE, &[7, icon]);
@@ -511,7 +510,7 @@ mod tests {
         assert!(holds(&session.memory.bodies) && holds(&session.memory.journal));
         session.wipe();
         assert!(session.memory == Memory::new());
-        assert!(ids(&session).is_empty() && session.names.is_empty());
+        assert!(ids(&session).is_empty());
     }
 
     #[test]

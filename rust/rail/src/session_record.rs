@@ -8,6 +8,11 @@ use crate::ffi;
 /// The most bytes that a record has.
 pub const RECORD_LIMIT: usize = 33_794;
 
+/// The bytes of the record of so many orders.
+pub(crate) fn size(standing: Standing) -> usize {
+    2 + 8 * standing.orders + standing.bytes
+}
+
 /// A session record: how many orders (2 bytes), for each its offset and size (4 bytes
 /// each), then the orders as they were delivered. [`Session::record`](crate::Session::record)
 /// writes one.

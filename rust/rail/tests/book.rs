@@ -26,8 +26,8 @@ fn lists() -> u64 {
 #[derive(Default)]
 struct Tally {
     numbers: [u64; 15],
-    /// Granted lookups of windows, notification icons, pictures and the desktop.
-    found: [u64; 4],
+    /// Granted lookups of windows, notification icons, pictures, the desktop and the lists.
+    found: [u64; 5],
 }
 
 impl Tally {
@@ -39,6 +39,7 @@ impl Tally {
             Ok((_, Record::NotificationIcon(_))) => self.found[1] += 1,
             Ok((_, Record::Picture(_))) => self.found[2] += 1,
             Ok((_, Record::Desktop(_))) => self.found[3] += 1,
+            Ok((_, Record::Lists(..))) => self.found[4] += 1,
             _ => {}
         }
     }

@@ -68,6 +68,7 @@ fn shorter_memory() {
             Call::Mark,
             Call::StepBack(0),
             Call::Desktop,
+            Call::Lists,
         ] {
             let answer = make(&mut memory.lend(), &call);
             assert_eq!(answer, Err(Refusal::UnfitMemory), "part {part}, {call:?}");

@@ -113,7 +113,7 @@ fn may_answer(call: &Call<'_>, number: u8, is_short: bool) -> bool {
     match call {
         Call::Empty => number == 0,
         Call::Deliver(_) | Call::Update(..) => number <= ROOM_PASSED,
-        Call::Mark | Call::Desktop => [0, STATE_UNFIT].contains(&number),
+        Call::Mark | Call::Desktop | Call::Lists => [0, STATE_UNFIT].contains(&number),
         Call::StepBack(_) => [0, STATE_UNFIT, TOO_MANY_STEPS].contains(&number),
         Call::Window(_) | Call::Icon(..) | Call::Cell(_) => {
             [0, STATE_UNFIT, WRONG_ID].contains(&number)

@@ -27,8 +27,21 @@ pub fn push_found(line: &mut Vec<u8>, table: &Table, call: &Call<'_>) {
             }
         }
         Call::Desktop => push_desktop(line, table.desktop()),
+        Call::Lists => push_lists(line, table),
         _ => {}
     }
+}
+
+/// Adds the ids of all windows and of all notification icons.
+fn push_lists(line: &mut Vec<u8>, table: &Table) {
+    let windows: Vec<String> = table.window_ids().map(|id| id.0.to_string()).collect();
+    let icons: Vec<String> = table
+        .icon_ids()
+        .map(|(window, icon)| format!("{}/{}", window.0, icon.0))
+        .collect();
+    Fields { line }
+        .text("windows", &windows.join(","))
+        .text("icons", &icons.join(","));
 }
 
 /// Adds the fields of a window.

@@ -15,7 +15,7 @@ use crate::record;
 use crate::update::{self, Report};
 
 /// The kinds of items.
-pub const KINDS: &[u8] = b"EDUMBWNCSOVTX";
+pub const KINDS: &[u8] = b"EDUMBWNCSIOVTX";
 
 /// The kinds of items that print nothing.
 pub const SILENT: &[u8] = b"TX";
@@ -41,6 +41,8 @@ pub enum Call<'a> {
     Cell(CellPlace),
     /// The desktop state is looked up.
     Desktop,
+    /// The ids of the windows and of the notification icons are looked up.
+    Lists,
     /// The session record is written to so many bytes of output memory.
     WriteRecord(u16),
     /// A session record is read.
@@ -72,6 +74,7 @@ pub fn call<'a>(item: Item<'a>, parts: &Parts) -> Option<Call<'a>> {
             entry: u16::from_le_bytes([low, high]),
         }),
         (b'S', []) => Call::Desktop,
+        (b'I', []) => Call::Lists,
         (b'O', &[low, high]) => Call::WriteRecord(u16::from_le_bytes([low, high])),
         (b'V', record) => Call::ReadRecord(record),
         (b'T', &[part, low, high]) if parts.can_lack(part, u16::from_le_bytes([low, high])) => {
@@ -132,7 +135,7 @@ impl Session {
                     return Err(OUTPUT_TOO_SMALL);
                 }
             }
-            Call::Desktop | Call::ReadRecord(_) | Call::Shorten | Call::Fault => {}
+            Call::Desktop | Call::Lists | Call::ReadRecord(_) | Call::Shorten | Call::Fault => {}
         }
         Ok(())
     }

@@ -93,6 +93,7 @@ fn asked(call: &Call<'_>) -> String {
         Call::Icon(window, icon) => format!("look up notification icon {}/{}", window.0, icon.0),
         Call::Cell(place) => format!("look up cell {}/{}", place.cache, place.entry),
         Call::Desktop => "look up the desktop".into(),
+        Call::Lists => "list windows and notification icons".into(),
         Call::WriteRecord(room) => format!("write the session record to {room} bytes"),
         Call::ReadRecord(record) => format!("read a session record of {} bytes", record.len()),
         Call::Shorten => "lend the next call too little".into(),

@@ -33,6 +33,7 @@ pub fn script(update: &[u8]) -> Vec<u8> {
 
 fn push_lookups(script: &mut Vec<u8>, book: &Book) {
     push_item(script, b'S', &[]);
+    push_item(script, b'I', &[]);
     for WindowId(id) in book.table().window_ids() {
         push_item(script, b'W', &id.to_le_bytes());
     }

@@ -1,5 +1,6 @@
 //! For those who look at a case: a raw update made a script, answers told in words, a
-//! session record made and listed, and what is wrong with an input that is no script.
+//! session record made and listed, what changed between two items, and what is wrong
+//! with an input that is no script.
 
 pub mod diff;
 pub mod explain;

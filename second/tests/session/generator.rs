@@ -88,7 +88,7 @@ fn bad_ends_differ() {
         sorts.insert(match take_item(&script) {
             None if script.len() < 3 => "cut header",
             None => "cut payload",
-            Some((item, _)) if !b"EDMBWNCSTX".contains(&item.kind) => "unknown kind",
+            Some((item, _)) if !b"EDUMBWNCSIOVTX".contains(&item.kind) => "unknown kind",
             Some((item, _)) => match (item.kind, item.payload) {
                 (b'T', [0, 0, 0]) => "nothing missing",
                 (b'T', [4, 1, 0]) => "part of T",

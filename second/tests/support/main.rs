@@ -41,14 +41,14 @@ fn letters(script: &[u8]) -> String {
 fn an_update_is_cut_and_looked_at() {
     let script = second(&["update-to-script"], &update());
     assert!(script.status.success());
-    assert_eq!(letters(&script.stdout), "DSWDDSWD");
+    assert_eq!(letters(&script.stdout), "DSIWDDSIWD");
     let orders: Vec<u8> = items(&script.stdout)
         .into_iter()
         .filter(|(kind, _)| *kind == 'D')
         .flat_map(|(_, order)| order)
         .collect();
     assert_eq!(orders, update());
-    let ids = items(&script.stdout)[2].1.clone();
+    let ids = items(&script.stdout)[3].1.clone();
     assert_eq!(ids, hex("58000100"));
 }
 
@@ -56,7 +56,7 @@ fn an_update_is_cut_and_looked_at() {
 fn an_update_as_hex() {
     let text = b"2E0F0004000011 58000100 # a window\n\n  0200 4100\n";
     let script = second(&["update-to-script", "--hex"], text);
-    assert_eq!(letters(&script.stdout), "DSW");
+    assert_eq!(letters(&script.stdout), "DSIW");
     let fault = second(&["update-to-script", "--hex"], b"2E\n2\n");
     assert_eq!(fault.status.code(), Some(2));
     assert_eq!(
@@ -70,7 +70,7 @@ fn an_update_as_hex() {
 fn long_updates() {
     let order = hex("2E070002000004");
     let script = import::script(&order.repeat(ORDERS_ROOM + 1));
-    assert_eq!(letters(&script), "DS".repeat(ORDERS_ROOM) + "MDS");
+    assert_eq!(letters(&script), "DSI".repeat(ORDERS_ROOM) + "MDSI");
     let script = import::script(&[0x2E; 70_000]);
     assert_eq!(items(&script)[0].1.len(), 0x2E2E);
     let mut long = vec![0x2E, 1, 0];
@@ -83,7 +83,7 @@ fn long_updates() {
 #[test]
 fn notification_icons_are_looked_at() {
     let script = import::script(&hex("2E0F0000000012 07000000 09000000"));
-    assert_eq!(items(&script)[2], ('N', hex("07000000 09000000")));
+    assert_eq!(items(&script)[3], ('N', hex("07000000 09000000")));
 }
 
 fn explained(script: &[u8]) -> Result<String, String> {
@@ -100,19 +100,21 @@ fn answers_in_words() {
         "1: deliver 15 bytes: window 65624 new title=\"A\""
     );
     assert_eq!(lines[1], "    done; 1 orders, 15 bytes after the mark");
-    assert_eq!(lines[4], "3: look up window 65624");
-    assert!(lines[5].starts_with("    id=65624 owner=0 "));
-    assert!(lines[5].contains(" title=\"A\" "));
-    assert_eq!(lines[6], "4: deliver 12 bytes: window 65624 show=4");
+    assert_eq!(lines[4], "3: list windows and notification icons");
+    assert_eq!(lines[5], "    windows=65624 icons=");
+    assert_eq!(lines[6], "4: look up window 65624");
+    assert!(lines[7].starts_with("    id=65624 owner=0 "));
+    assert!(lines[7].contains(" title=\"A\" "));
+    assert_eq!(lines[8], "5: deliver 12 bytes: window 65624 show=4");
     let refused =
         "    refused, 8: a field's number is outside its allowed set (show=4, not 0, 2, 3 or 5)";
-    assert_eq!(lines[7], refused);
-    assert_eq!(lines[8], "5: deliver 7 bytes: desktop hooked=1");
-    let cut = "8: deliver 9 bytes: first byte 2E, OrderSize 11, FieldsPresentFlags 11000000";
-    assert_eq!(lines[14], cut);
+    assert_eq!(lines[9], refused);
+    assert_eq!(lines[10], "6: deliver 7 bytes: desktop hooked=1");
+    let cut = "10: deliver 9 bytes: first byte 2E, OrderSize 11, FieldsPresentFlags 11000000";
+    assert_eq!(lines[18], cut);
     let refused = "    refused, 3: declared length differs from the bytes given";
-    assert_eq!(lines[15], refused);
-    assert_eq!(lines.len(), 16);
+    assert_eq!(lines[19], refused);
+    assert_eq!(lines.len(), 20);
 }
 
 /// Every kind of item and order, offsets below zero, texts that are none, pictures.
@@ -209,10 +211,10 @@ fn script_and_output_that_part() {
     );
     let other = output.replacen('W', "N", 1);
     let fault = explain(&script, &other).expect_err("a fault");
-    assert!(fault.starts_with("line 3 is not the answer to item 3 of the script: \"N 0 1 15"));
+    assert!(fault.starts_with("line 4 is not the answer to item 4 of the script: \"N 0 1 15"));
     let more = output + "M 0 0 0\n";
     let fault = explain(&script, &more).expect_err("a fault");
-    assert!(fault.starts_with("line 9 is not the answer to item 9"));
+    assert!(fault.starts_with("line 11 is not the answer to item 11"));
     let spoiled = "D 15\n";
     assert!(explain(&script, spoiled).is_err());
 }
@@ -238,7 +240,7 @@ fn explaining_by_command_line() {
 fn unfit_input_is_named() {
     let usage = "usage: second session < script (second --help)\n";
     for (input, fault) in [
-        (&update()[..], "item 1, at byte 0: 2E is no kind of item (E D U M B W N C S O V T X). It may be a raw update: second update-to-script makes a script of it"),
+        (&update()[..], "item 1, at byte 0: 2E is no kind of item (E D U M B W N C S I O V T X). It may be a raw update: second update-to-script makes a script of it"),
         (b"M\0\0M\x01", "item 2, at byte 3: item M is cut"),
         (b"M\0\0B\x02\0\x01\0", "item 2, at byte 3: item B cannot carry these 2 bytes"),
     ] {

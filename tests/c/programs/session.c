@@ -9,7 +9,7 @@ static struct rail_state state, before;
 static uint8_t *const part[4] = {state.directory, state.bodies, state.cells, state.journal};
 static const size_t whole[4] = {RAIL_DIRECTORY_SIZE, RAIL_BODIES_SIZE, RAIL_CELLS_SIZE, RAIL_JOURNAL_SIZE};
 static size_t lent[4];
-static uint8_t out[RAIL_PICTURE_SIZE + 64];
+static uint8_t out[RAIL_PICTURE_SIZE + 64]; /* what a lookup hands out; the two lists one after the other */
 
 #define LENT part[0], lent[0], part[1], lent[1], part[2], lent[2], part[3], lent[3]
 
@@ -83,6 +83,20 @@ static void print_desktop(void) {
         printf("%s%u", i == 0 ? "" : ",", d.window_ids[i]);
 }
 
+static void print_lists(void) {
+    struct rail_windows windows;
+    struct rail_notifications icons;
+    uint32_t i;
+    rail_windows_decode(&windows, out);
+    rail_notifications_decode(&icons, out + RAIL_LIST_SIZE);
+    printf(" windows=");
+    for (i = 0; i < windows.count; i++)
+        printf("%s%u", i == 0 ? "" : ",", windows.window_ids[i]);
+    printf(" icons=");
+    for (i = 0; i < icons.count; i++)
+        printf("%s%u/%u", i == 0 ? "" : ",", icons.ids[i].window_id, icons.ids[i].notify_icon_id);
+}
+
 /* Which of the parts from 0 on differ from those before the call. */
 static int changed(int parts) {
     return memcmp(state.directory, before.directory, sizeof state.directory) != 0 ||
@@ -102,9 +116,16 @@ static int untouched(size_t from) {
 static int is_wrong(int kind, uint32_t number, size_t record) {
     if (!untouched(number == RAIL_DONE ? record : 0))
         return 1;
-    if (number != RAIL_DONE || strchr("WNCS", kind) != NULL)
+    if (number != RAIL_DONE || strchr("WNCSI", kind) != NULL)
         return changed(4);
     return strchr("DB", kind) != NULL && changed(3);
+}
+
+/* Both lists; they answer alike. */
+static uint32_t lists(size_t *record) {
+    const uint32_t answer = rail_windows(LENT, out, RAIL_LIST_SIZE);
+    *record = 2 * RAIL_LIST_SIZE;
+    return rail_notifications(LENT, out + RAIL_LIST_SIZE, RAIL_LIST_SIZE) == answer ? answer : UINT32_MAX;
 }
 
 /* Makes the call of an item; `record` is the size of what a lookup hands out. */
@@ -119,6 +140,7 @@ static uint32_t call(const struct item *item, size_t *record) {
     case 'W': return rail_window(LENT, rail_get32(p), out, *record = RAIL_WINDOW_SIZE);
     case 'N': return rail_notification(LENT, rail_get32(p), rail_get32(p + 4), out, *record = RAIL_NOTIFICATION_SIZE);
     case 'C': return rail_cell(LENT, p[2], (uint16_t)rail_get16(p), out, *record = RAIL_PICTURE_SIZE);
+    case 'I': return lists(record);
     default: return rail_desktop(LENT, out, *record = RAIL_DESKTOP_SIZE);
     }
 }
@@ -188,6 +210,7 @@ static void print_found(const struct item *item) {
     case 'N': print_notification(rail_get32(p), rail_get32(p + 4)); break;
     case 'C': print_cell(); break;
     case 'S': print_desktop(); break;
+    case 'I': print_lists(); break;
     default: break;
     }
 }
@@ -239,8 +262,8 @@ static int run(const struct item *item) {
 
 /* The item's kind and length are listed. */
 static int listed(const struct item *item) {
-    static const char kinds[] = "EMBWNCSTXO";
-    static const size_t sizes[] = {0, 0, 4, 4, 8, 3, 0, 3, 6, 2};
+    static const char kinds[] = "EMBWNCSITXO";
+    static const size_t sizes[] = {0, 0, 4, 4, 8, 3, 0, 0, 3, 6, 2};
     const char *kind = item->kind == '\0' ? NULL : strchr(kinds, item->kind);
     return item->kind == 'D' || item->kind == 'V' || (item->kind == 'U' && item->size >= 4) || (kind != NULL && sizes[kind - kinds] == item->size);
 }

@@ -1,5 +1,5 @@
 -- By the kind: four bytes for the reply, and those of what a call of the kind hands out at most.
-use Rattle.run.proofs.Calls.{length-change, length-window, length-notification, length-cell, length-record, length-desktop}
+use Rattle.run.proofs.Calls.{length-change, length-window, length-notification, length-cell, length-record, length-windows, length-notifications, length-desktop}
 use borrow.Author.Needs.{needs}
 use Rattle.run.proofs.single_length.Statement.{statement}
 use Rattle.run.proofs.single_length.Tie as tie
@@ -18,4 +18,10 @@ single-length-spec =
     (λ c. search needs)
     (λ c. length-record _ (c .if5 .taken))  -- returns-5
     (λ c. search needs)
-    (λ c. length-desktop _ (c .before .before .before .before .if1 .left) (c .before .before .before .if2 .left) (c .before .before .if3 .left) (c .before .if4 .left) (c .if5 .left)))  -- returns-6
+    (λ c. length-windows _ (c .if6 .taken))  -- returns-6
+    (λ c. search needs)
+    (λ c. length-notifications _ (c .if7 .taken))  -- returns-7
+    (λ c. search needs)
+    (λ c.  -- returns-8
+    let t = c .before .before .before in
+    length-desktop _ (t .before .before .before .if1 .left) (t .before .before .if2 .left) (t .before .if3 .left) (t .if4 .left) (c .before .before .if5 .left) (c .before .if6 .left) (c .if7 .left)))

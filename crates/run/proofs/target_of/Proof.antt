@@ -1,5 +1,5 @@
 -- Each kind's numbers are read where targetOf reads them.
-use Rattle.run.proofs.Calls.{is-window, is-notification, is-cell, is-desktop}
+use Rattle.run.proofs.Calls.{is-window, is-notification, is-cell, is-windows, is-notifications, is-desktop}
 use borrow.Author.Needs.{needs}
 use Rattle.run.proofs.target_of.Statement.{statement}
 use Rattle.run.proofs.target_of.Tie as tie
@@ -15,4 +15,8 @@ target-of-spec =
     (λ c κs. search needs)
     (λ c κs. search needs)
     (λ c. is-cell _ _ (c .before .before .if3 .taken) _ _ (c .before .read-u8 .ensures) (c .read-u16 .ensures))  -- returns-3
-    (λ c. is-desktop _ _ (c .before .before .if1 .left) (c .before .if2 .left) (c .if3 .left)))  -- returns-4
+    (λ c. is-windows _ _ (c .if4 .taken))  -- returns-4
+    (λ c. is-notifications _ _ (c .if5 .taken))  -- returns-5
+    (λ c.  -- returns-6
+    let t = c .before .before in
+    is-desktop _ _ (t .before .before .if1 .left) (t .before .if2 .left) (t .if3 .left) (c .before .if4 .left) (c .if5 .left)))

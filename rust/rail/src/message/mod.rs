@@ -50,6 +50,7 @@ pub const MESSAGE_LIMIT: usize = 12 + 520 + 520 + 16_000;
 /// # Ok::<(), Refusal>(())
 /// ```
 #[derive(Clone, Copy, Debug, PartialEq, Eq)]
+#[non_exhaustive]
 pub enum Message<'a> {
     /// 0001, to the server: a program is to be launched.
     Execute {

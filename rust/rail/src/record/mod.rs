@@ -1,6 +1,7 @@
 //! Records that lookups hand out, from bytes with each field at its place.
 
 mod desktop;
+pub(crate) mod lists;
 mod notification;
 mod picture;
 mod reader;

@@ -18,6 +18,13 @@ pub fn found(table: &Table, call: &Call<'_>, record: &Record) -> Result<(), Stri
             same(table.icon(*window, *id), icon(found))
         }
         (Call::Cell(place), Record::Picture(found)) => same(table.cell(*place), cell(found)),
+        (Call::Lists, Record::Lists(windows, icons)) => same(
+            Some(&lists(table)),
+            (
+                windows.iter().map(|id| id.0).collect(),
+                icons.iter().map(|(w, i)| (w.0, i.0)).collect(),
+            ),
+        ),
         (Call::Desktop, Record::Desktop(found)) => same(Some(table.desktop()), desktop(found)),
         (_, Record::Nothing) => Ok(()),
         _ => Err(format!("the record is of another kind: {record:?}")),
@@ -29,6 +36,13 @@ fn same<T: PartialEq + Debug>(expected: Option<&T>, found: T) -> Result<(), Stri
         Some(expected) if *expected == found => Ok(()),
         _ => Err(format!("found {found:?}, the book has {expected:?}")),
     }
+}
+
+type Lists = (Vec<u32>, Vec<(u32, u32)>);
+
+fn lists(table: &Table) -> Lists {
+    let icons = table.icon_ids().map(|(w, i)| (w.0, i.0));
+    (table.window_ids().map(|id| id.0).collect(), icons.collect())
 }
 
 fn window(found: &Window) -> table::Window {

@@ -13,6 +13,7 @@ pub fn bytes(table: &Table, call: &Call<'_>) -> Option<Vec<u8>> {
         Call::Icon(window, icon) => to.icon(table.icon(window, icon)?),
         Call::Cell(place) => to.cell(table.cell(place)?),
         Call::Desktop => to.desktop(table.desktop()),
+        Call::Lists => to.lists(table),
         _ => return None,
     };
     to.0.resize(size, 0);
@@ -22,6 +23,17 @@ pub fn bytes(table: &Table, call: &Call<'_>) -> Option<Vec<u8>> {
 struct Writer(Vec<u8>);
 
 impl Writer {
+    fn lists(&mut self, table: &Table) -> usize {
+        let windows: Vec<u32> = table.window_ids().map(|id| id.0).collect();
+        self.numbers(&[windows.len() as u32]);
+        self.numbers(&windows);
+        self.0.resize(132, 0);
+        let icons: Vec<[u32; 2]> = table.icon_ids().map(|(w, i)| [w.0, i.0]).collect();
+        self.numbers(&[icons.len() as u32]);
+        self.numbers(icons.as_flattened());
+        264
+    }
+
     fn window(&mut self, window: &Window) -> usize {
         self.place(window.small_icon);
         self.place(window.big_icon);

@@ -6,7 +6,7 @@ pub mod layout;
 
 use rail::{
     CacheCell, Desktop, LentSession, Memory, NotificationIcon, NotifyIconId, Picture, Refusal,
-    Report, Standing, View, Window, WindowId,
+    Report, Standing, View, Window, WindowId, LIST_SIZE,
 };
 use second::order::CellPlace;
 use second::script::parts::Parts;
@@ -80,6 +80,7 @@ pub enum Record {
     Picture(Picture),
     Desktop(Desktop),
     Report(Report),
+    Lists(Vec<WindowId>, Vec<(WindowId, NotifyIconId)>),
     Session(Vec<u8>),
 }
 
@@ -118,6 +119,13 @@ pub fn make(lent: &mut LentSession<'_>, call: &Call<'_>) -> Answer {
             let found = lent.view().desktop()?;
             Ok((found.standing, Record::Desktop(found.record)))
         }
+        Call::Lists => {
+            let windows = lent.view().window_ids()?;
+            let icons = lent.view().notification_icon_ids()?;
+            assert_eq!(windows.standing, icons.standing);
+            let record = Record::Lists(windows.record, icons.record);
+            Ok((windows.standing, record))
+        }
         Call::WriteRecord(room) => {
             let mut out = vec![0xEE; room.into()];
             let standing = lent.view().record_bytes(&mut out)?;
@@ -149,6 +157,11 @@ pub fn look_up(
         }
         Call::Cell(place) => view.picture_bytes(cache_cell(place), out),
         Call::Desktop => view.desktop_bytes(out),
+        Call::Lists => {
+            let (windows, icons) = out.split_at_mut(LIST_SIZE);
+            let answer = view.window_ids_bytes(windows);
+            answer.and_then(|_| view.notification_icon_ids_bytes(icons))
+        }
         _ => return None,
     })
 }

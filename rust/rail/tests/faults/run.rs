@@ -225,7 +225,7 @@ fn may_answer(call: &Call<'_>, answer: &Answer, lacks: bool) -> bool {
         Call::Empty => number == 0,
         Call::Deliver(_) | Call::Update(..) => number <= 12,
         Call::WriteRecord(_) => [0, 1, 14].contains(&number),
-        Call::Mark | Call::Desktop => number <= 1,
+        Call::Mark | Call::Desktop | Call::Lists => number <= 1,
         Call::StepBack(_) => [0, 1, 13].contains(&number),
         _ => [0, 1, 9].contains(&number),
     }

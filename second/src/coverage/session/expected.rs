@@ -3,7 +3,7 @@
 use crate::coverage::order::expected as order;
 
 /// The calls with the numbers that each can meet.
-const CALLS: [(char, &[u8]); 11] = [
+const CALLS: [(char, &[u8]); 12] = [
     ('E', &[0, 1]),
     ('D', &[0, 1, 2, 3, 4, 5, 6, 7, 8, 9, 10, 11, 12]),
     ('U', &[0, 1, 2, 3, 4, 5, 6, 7, 8, 9, 10, 11, 12]),
@@ -15,6 +15,7 @@ const CALLS: [(char, &[u8]); 11] = [
     ('S', &[0, 1]),
     ('O', &[0, 1, 14]),
     ('V', &[0, 18, 19]),
+    ('I', &[0, 1]),
 ];
 
 /// The sorts of orders that pass the room of the history.
@@ -34,7 +35,7 @@ const PASSING: [&str; 12] = [
 ];
 
 /// Facts of their own.
-const SINGLE: [&str; 25] = [
+const SINGLE: [&str; 31] = [
     "D orders=128 0",
     "D orders=129 12",
     "D bytes=32768 0",
@@ -60,6 +61,12 @@ const SINGLE: [&str; 25] = [
     "U size under 7",
     "U size past the end",
     "U orders granted, and 12",
+    "I no windows",
+    "I some windows",
+    "I 32 windows",
+    "I no icons",
+    "I some icons",
+    "I 16 icons",
 ];
 
 /// The offsets of a window, and the numbers that each has to be looked up with.

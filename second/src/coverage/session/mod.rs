@@ -12,7 +12,7 @@ use crate::record;
 use crate::script::parts::Parts;
 use crate::script::session::{call, Call, Session};
 use crate::script::take_item;
-use crate::table::{Table, Window};
+use crate::table::{Table, Window, NOTIFICATION_ICONS, WINDOWS};
 use crate::update::Report;
 
 /// Runs the generated scripts of the seeds `from` to `to`. A fact is a text such
@@ -77,6 +77,7 @@ impl Coverage {
                 self.facts.add_written(usize::from(*room), needed, number);
             }
             (Call::ReadRecord(bytes), _) => self.facts.add_read(bytes, number),
+            (Call::Lists, _) => self.add_lists(session.book().table()),
             _ => {}
         }
     }
@@ -166,6 +167,21 @@ impl Coverage {
             _ => "too many",
         };
         self.add(format!("B {what} {number}"));
+    }
+
+    /// How long the lists of ids are.
+    fn add_lists(&mut self, table: &Table) {
+        let counts = [
+            ("windows", WINDOWS, table.window_ids().count()),
+            ("icons", NOTIFICATION_ICONS, table.icon_ids().count()),
+        ];
+        for (name, most, count) in counts {
+            self.add(match count {
+                0 => format!("I no {name}"),
+                _ if count == most => format!("I {most} {name}"),
+                _ => format!("I some {name}"),
+            });
+        }
     }
 
     /// What a step back changed.

@@ -135,6 +135,7 @@ impl Writer<'_> {
         let cells = table.filled_cells().map(cell_lookup);
         self.pending.extend(cells);
         self.pending.push((b'S', Vec::new()));
+        self.pending.push((b'I', Vec::new()));
     }
 
     /// Each call as often as the others.
@@ -162,6 +163,7 @@ impl Writer<'_> {
             94..=96 => (b'M', Vec::new()),
             97 if self.random.chance(40) => (b'E', Vec::new()),
             97 | 98 => self.shorten(),
+            _ if self.random.chance(50) => (b'I', Vec::new()),
             _ => (b'S', Vec::new()),
         }
     }
@@ -291,6 +293,7 @@ impl Writer<'_> {
                 let cache = self.random.pick(&[0, 0, 1, 1, 2, 255]);
                 cell_lookup(CellPlace { cache, entry })
             }
+            _ if self.random.chance(50) => (b'I', Vec::new()),
             _ => (b'S', Vec::new()),
         }
     }
@@ -355,7 +358,7 @@ impl Writer<'_> {
                 script.truncate(script.len() - 1 - random.below(7));
             }
             2 => push_item(script, random.pick(b"ARPdmZ\0\xff"), &[]),
-            3 => push_item(script, random.pick(b"EMSBWNCTXO"), &[0; 9]),
+            3 => push_item(script, random.pick(b"EMSIBWNCTXO"), &[0; 9]),
             4 => push_item(script, random.pick(b"BWNCTXU"), &[1, 0]),
             5 if parts < 256 => push_item(script, b'T', &[part, 1, 0]),
             6 if parts < 256 => push_item(script, b'X', &[part, 0, 0, 0, 0, 1]),

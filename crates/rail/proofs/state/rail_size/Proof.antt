@@ -19,6 +19,7 @@ rail-size-spec =
     (λ c. search needs)
     (λ c. search needs)
     (λ c. search needs)
+    (λ c. search needs)
     (λ c. size-at 0 (c .match .keys1) refl)  -- returns
     (λ c. size-at 1 (c .match .keys2) refl)  -- returns-2
     (λ c. size-at 2 (c .match .keys3) refl)  -- returns-3
@@ -29,4 +30,5 @@ rail-size-spec =
     (λ c. size-at 7 (c .match .keys8) refl)  -- returns-8
     (λ c. size-at 8 (c .match .keys9) refl)  -- returns-9
     (λ c. size-at 9 (c .match .keys10) refl)  -- returns-10
-    (λ c. size-past (c .before .args .what) (c .match .rest)))  -- returns-11
+    (λ c. size-at 10 (c .match .keys11) refl)  -- returns-11
+    (λ c. size-past (c .before .args .what) (c .match .rest)))  -- returns-12

@@ -24,10 +24,20 @@ look-spec =
     (λ c. search needs)
     (λ c κs. room-as (c .before .before .enum-told4 .given .1) refl)  -- look-in-requires-4
     (λ c. search needs)
+    (λ c. search needs)
+    (λ c κs. room-as (c .before .before .enum-told5 .given .1) refl)  -- look-in-requires-5
+    (λ c. search needs)
+    (λ c. search needs)
+    (λ c κs. room-as (c .before .before .enum-told6 .given .1) refl)  -- look-in-requires-6
+    (λ c. search needs)
     (λ c. c .before .before .before .look-in .ensures)  -- returns
     (λ c. search needs)
     (λ c. c .before .before .before .look-in2 .ensures)  -- returns-2
     (λ c. search needs)
     (λ c. c .before .before .before .look-in3 .ensures)  -- returns-3
     (λ c. search needs)
-    (λ c. c .before .before .before .look-in4 .ensures))  -- returns-4
+    (λ c. c .before .before .before .look-in4 .ensures)  -- returns-4
+    (λ c. search needs)
+    (λ c. c .before .before .before .look-in5 .ensures)  -- returns-5
+    (λ c. search needs)
+    (λ c. c .before .before .before .look-in6 .ensures))  -- returns-6

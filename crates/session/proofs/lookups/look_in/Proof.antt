@@ -62,25 +62,26 @@ look-in-spec =
     look-small (indexed (validation x) (f .if1 .left)) (start x .args .target) (l .listed .ensures) (now (start x .args .out))
     (not-false (l .listed .result) (c .before .before .before .if2 .left)) (followed (validation x) (f .if1 .left))
     (c .before .before .size-of .ensures) (c .before .if3 .taken) (c .refused3 .ensures))
+    (λ c. search needs)
     (λ c κs.  -- hand-out-requires
-    let l = c .before .before .before .before .before in
+    let l = c .before .before .before .before .before .before in
     let f = l .before .before in
     let x = f .before .before .before .before .before in (
-      omega (arith, c .before .before .if3 .left, c .before .before .before .size-of .ensures),
+      omega (arith, c .before .before .before .if3 .left, c .before .before .before .before .size-of .ensures),
       x .validate .kept .1 .1 .1 .1 .1 .1 .0 ∙ start x .pre,
       look-valid (indexed (validation x) (f .if1 .left)) (start x .args .target) (l .listed .ensures) (now (start x .args .out))
-          (not-false (l .listed .result) (c .before .before .before .before .if2 .left)) (followed (validation x) (f .if1 .left)),
+          (not-false (l .listed .result) (c .before .before .before .before .before .if2 .left)) (followed (validation x) (f .if1 .left)),
     ))
     (λ c κs.  -- granted-requires
-    let f = c .before .before .before .before .before .before .before .before .before .before in
+    let f = c .before .before .before .before .before .before .before .before .before .before .before in
     let g = indexed (validation (f .before .before .before .before .before)) (f .if1 .left) .logged in
     (g .few, logged-low g, logged-high g))
     (λ c. search needs)
     (λ c. search needs)
     (λ c.  -- returns-4
-    let l = c .before .before .before .before .before .before .before .before .before in
+    let l = c .before .before .before .before .before .before .before .before .before .before in
     let f = l .before .before in
     let x = f .before .before .before .before .before in
     look-found (indexed (validation x) (f .if1 .left)) (start x .args .target) (l .listed .ensures) (now (start x .args .out))
-    (not-false (l .listed .result) (c .before .before .before .before .before .before .before .before .if2 .left)) (followed (validation x) (f .if1 .left))
-    (c .before .before .before .before .before .before .before .size-of .ensures) (c .before .before .before .before .before .before .if3 .left) (c .before .before .before .hand-out .ensures) (c .granted .ensures)))
+    (not-false (l .listed .result) (c .before .before .before .before .before .before .before .before .before .if2 .left)) (followed (validation x) (f .if1 .left))
+    (c .before .before .before .before .before .before .before .before .size-of .ensures) (c .before .before .before .before .before .before .before .if3 .left) (c .before .before .before .hand-out .ensures) (c .granted .ensures)))
