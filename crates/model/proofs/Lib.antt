@@ -4,3 +4,4 @@ pub mod Demand3
 pub mod Wellformed
 pub mod Lossless
 pub mod Records
+pub mod Zeros

@@ -1,14 +1,14 @@
 -- Document 01 on "well formed": an emptied state meets the rule, every call keeps it, and memory that meets it describes one
 -- state, within the history room. Assumes nothing.
-use Prim.Native.Nat.{_≤_}
+use Prim.Native.Nat.{ℕ, _≤_}
 use mathlib.Core.Path.{_≡_}
 use mathlib.Core.Bool.{true, false}
 use mathlib.Core.List.{[]}
-use lib.ListN.{length}
+use lib.ListN.{length, replicate}
 use Rattle.table.specs.Table.{emptied}
 use Rattle.journal.specs.Limits.{mostOrders, mostBytes}
 use Rattle.journal.specs.State.{State, bytesIn, allAccepted}
-use Rattle.journal.specs.View.{Memory, tooShort, wellFormed, formed, viewOf}
+use Rattle.journal.specs.View.{Memory, memory, tooShort, wellFormed, formed, viewOf}
 use Rattle.session.specs.Calls.{Call, reset, Answer, next, answerView}
 use Rattle.session.specs.Outcome.{Request, plain, Response, replied, CallOutcome}
 
@@ -28,6 +28,13 @@ EmptyingGranted =
 -- and where it is granted, what it leaves meets the rule
 unfoldable pub EmptiedMeets : Type 0
 EmptiedMeets = (m n : Memory) (r : Response) → CallOutcome (plain reset) m r n → r .reply .number ≡ 0 → Meets n × (viewOf n ≡ formed emptiedState)
+
+-- memory of zeros, long enough, counts as emptied
+abbrev pub zeroMemory : ℕ → ℕ → ℕ → ℕ → Memory
+zeroMemory a b c d = memory (replicate a 0) (replicate b 0) (replicate c 0) (replicate d 0)
+
+unfoldable pub ZerosEmptied : Type 0
+ZerosEmptied = (a b c d : ℕ) → tooShort (zeroMemory a b c d) ≡ false → viewOf (zeroMemory a b c d) ≡ formed emptiedState
 
 -- each call, refused or not
 unfoldable pub CallsKeep : Type 0
