@@ -1,0 +1,89 @@
+-- What a validation establishes for the calls that go on from it: the log of the memory, and an index of its present table.
+-- Assumes nothing.
+use mathlib.Core.Path.{_≡_, refl, sym, ap, subst, _∙_}
+use mathlib.Core.Bool.{Bool, true, false}
+use mathlib.Core.List.{List, [], _∷_, _++_}
+use Prim.Native.Nat.{ℕ, _+_, _≤_}
+use native.Mathlib.Omega.{arith}
+use lib.ListN.{length}
+use Rattle.wire.specs.Numbers.{bytesOf}
+use Rattle.wire.specs.Parts.{splice}
+use Rattle.wire.proofs.Numbers.{Bytes}
+use Rattle.directory.specs.Plans.{planOf, numberOf}
+use Rattle.directory.specs.Directory.{directoryOf}
+use Rattle.directory.specs.Sound.{soundDirectory}
+use Rattle.directory.proofs.Kept.{marked-sound}
+use Rattle.table.specs.declared.Want.{Want}
+use Rattle.table.specs.Table.{directory}
+use Rattle.table.specs.Follow.{Holds}
+use Rattle.journal.specs.declared.JournalExtent.{JournalExtent}
+use Rattle.journal.specs.Limits.{journalLength}
+use Rattle.journal.specs.State.{present, run}
+use Rattle.journal.specs.Journal.{logOf}
+use Rattle.journal.specs.View.{Memory, meetsRule, stateOf}
+use Rattle.journal.specs.Replay.{indexAfter, extentOf, Validation}
+use Rattle.journal.proofs.Runs.{run-append}
+use Rattle.journal.proofs.Logged.{Logged, markedIn, withJournal, extent-formed, logged-more, logged-low}
+use Rattle.journal.proofs.Replays.{number-on, index-on}
+
+pub record Indexed (m : Memory) (w : JournalExtent) (d : List ℕ) (os : List (List ℕ)) : Type 0 where
+  pub logged : Logged m w os
+  pub sound : soundDirectory d ≡ true
+  pub directory : directoryOf d ≡ directory (run (markedIn m) os)
+
+-- f holds what the present table has of the target
+pub record Followed (want : Want) (m : Memory) (os : List (List ℕ)) (f : List ℕ) : Type 0 where
+  pub holds : Holds want (run (markedIn m) os) f
+
+-- with the target as the code made it
+pub validated-as : {want want' : Want} {m : Memory} {d f : List ℕ} {w : JournalExtent} {d' f' : List ℕ} → want ≡ want' → Validation want m d f w d' f'
+    → Validation want' m d f w d' f'
+validated-as {m = m} {d = d} {f = f} {w = w} {d' = d'} {f' = f'} e v = subst (λ (want : Want). Validation want m d f w d' f') e v
+
+module _ {want : Want} {m : Memory} {d f : List ℕ} {w : JournalExtent} {d' f' : List ℕ} (v : Validation want m d f w d' f') where
+  -- 1
+  pub unmet : w .end ≡ 0 → meetsRule m ≡ false
+  unfolding extentOf
+  unmet z = go (meetsRule m) refl
+    where
+      go : (b : Bool) → meetsRule m ≡ b → meetsRule m ≡ false
+      go false e = e
+      go true e =
+          let low = logged-low (extent-formed m e) in
+          let x : w .end ≡ extentOf m .end = ap (λ (x : JournalExtent). x .end) (v .extent) in
+          absurd (omega (arith, low, x, z))
+
+  module _ (some : w .end ≡ 0 → ⊥) where
+    met : meetsRule m ≡ true
+    unfolding extentOf
+    met = go (meetsRule m) refl
+      where
+        go : (b : Bool) → meetsRule m ≡ b → meetsRule m ≡ true
+        go true e = e
+        go false e = absurd (some (ap (λ (x : JournalExtent). x .end) (v .extent) ∙ rw e))
+
+    pub indexed : Indexed m w d' (logOf (m .journal))
+    unfolding stateOf
+    indexed =
+        let i = v .means met in
+        record { logged = rw (v .extent) (extent-formed m met); sound = i .sound; directory = i .directory }
+
+    pub followed : Followed want m (logOf (m .journal)) f'
+    unfolding stateOf
+    followed = record { holds = v .means met .holds }
+
+-- ---- the next order
+
+module _ {m : Memory} {w : JournalExtent} {d : List ℕ} {os : List (List ℕ)} (i : Indexed m w d os) (s : List ℕ) where
+  -- one more that is accepted: what is established stands again
+  pub indexed-more : Bytes s → numberOf (planOf d s) ≡ 0 → w .count ≤ 127 → w .end + length s ≤ journalLength
+      → Indexed (withJournal m (splice (splice (m .journal) (w .end) s) 0 (bytesOf 2 (w .count + 1)))) (record { count = w .count + 1; end = w .end + length s })
+      (indexAfter d s) (os ++ (s ∷ []))
+  unfolding run
+  indexed-more bytes z few room =
+      record {
+        logged = logged-more (i .logged) s (sym (number-on (run (markedIn m) os) d s (i .directory)) ∙ z) few room;
+        sound = marked-sound d s bytes (i .sound);
+        directory =
+            index-on (run (markedIn m) os) d s (i .directory) bytes (i .sound) ∙ ap directory (sym (run-append (markedIn m) os (s ∷ [])));
+      }

@@ -1,0 +1,188 @@
+-- What the loops over the orders of a journal keep, and what they end with. Assumes nothing.
+use mathlib.Core.Path.{_≡_, refl, sym, ap, _∙_}
+use mathlib.Core.Bool.{true, false}
+use mathlib.Core.List.{List}
+use Prim.Native.Nat.{ℕ, suc, _+_, _-_, _≤_, _<_}
+use native.Mathlib.Omega.{arith}
+use lib.Dec.{eqb, ltb}
+use lib.ListN.{length, take, drop}
+use borrow.Author.Tests.{ne-eqb, lt-ltb, le-ltb, ltb-false}
+use Rattle.wire.specs.Parts.{slice}
+use Rattle.wire.proofs.Numbers.{Bytes}
+use Rattle.directory.specs.declared.Plan.{Plan}
+use Rattle.directory.specs.Plans.{planOf, numberOf}
+use Rattle.directory.specs.Marks.{markedBy}
+use Rattle.directory.specs.Sound.{soundDirectory}
+use Rattle.directory.proofs.Kept.{marked-sound, length-marked}
+use Rattle.table.specs.declared.Want.{Want}
+use Rattle.table.specs.Table.{after}
+use Rattle.table.specs.Memory.{decode, soundTable}
+use Rattle.table.specs.Outcome.{PastKept, Delivered}
+use Rattle.table.specs.Follow.{roomFor, followedOf, Follows}
+use Rattle.table.proofs.Past.{same-past, past-past}
+use Rattle.table.proofs.Following.{plan-follows, follow-length}
+use Rattle.journal.specs.Limits.{journalLength, logStart}
+use Rattle.journal.specs.State.{run}
+use Rattle.journal.specs.Journal.{sizeAt, orderAt, ordersFrom, endFrom, withinFrom}
+use Rattle.journal.specs.Replay.{indexAfter, followedAfter, replayFrom, stopped, Replayed, Applied}
+use Rattle.journal.proofs.Runs.{bytes-slice}
+use Rattle.journal.proofs.Stored.{fails}
+
+-- ---- orders left
+
+left-all : (count : ℕ) → count - 0 ≡ count
+left-all count = omega arith
+
+left-more : (count i : ℕ) → i < count → count - i ≡ suc (count - (i + 1))
+left-more count i h = omega arith
+
+left-none : (count i : ℕ) → count ≤ i → count - i ≡ 0
+left-none count i h = omega arith
+
+-- the part of a journal that is lent is its order
+part-is : (j : List ℕ) (p : ℕ) {size : ℕ} → size ≡ sizeAt j p → take (p + size - p) (drop p j) ≡ orderAt j p
+unfolding slice
+part-is j p {size = size} is = let e : p + size - p ≡ size = omega arith in rw (e, is)
+
+-- ---- one order replayed
+
+module _ (want : Want) (d m s : List ℕ) {p : Plan} (judged : p ≡ planOf d s) where
+  pub order-asks : Bytes s → soundDirectory d ≡ true → length m ≡ roomFor want → (length m ≡ roomFor want) × Follows s p
+  order-asks bytes h l = (l, rw judged (plan-follows d s bytes h))
+
+  pub order-gives : {r : ℕ} {d' m' : List ℕ} → r ≡ numberOf p → d' ≡ markedBy d s p → m' ≡ followedOf want s p m
+      → (r ≡ numberOf (planOf d s)) × ((d' ≡ indexAfter d s) × (m' ≡ followedAfter want d s m))
+  order-gives says makes follows =
+      (says ∙ ap numberOf judged, (makes ∙ ap (markedBy d s) judged, follows ∙ ap (λ (q : Plan). followedOf want s q m) judged))
+
+-- ---- the replay
+
+pub record ReplayInv (want : Want) (d₀ m₀ j : List ℕ) (count : ℕ) (d m : List ℕ) (p i : ℕ) : Type 0 where
+  pub turn : i ≤ count
+  pub high : p ≤ journalLength
+  pub sound : soundDirectory d ≡ true
+  pub long : length d ≡ length d₀
+  pub room : length m ≡ roomFor want
+  pub same : length m ≡ length m₀
+  pub leads : replayFrom want count logStart j d₀ m₀ ≡ replayFrom want (count - i) p j d m
+
+pub replay-start : (want : Want) (d m j : List ℕ) (count : ℕ) → soundDirectory d ≡ true → length m ≡ roomFor want → ReplayInv want d m j count d m logStart 0
+replay-start want d m j count h l =
+    record { turn = omega arith; high = omega arith; sound = h; long = refl; room = l; same = refl; leads = rw (left-all count) }
+
+module _ (want : Want) (d₀ m₀ j : List ℕ) (bytes : Bytes j) {count : ℕ} {d m : List ℕ} {p i : ℕ} (g : ReplayInv want d₀ m₀ j count d m p i) where
+  module _ (more : i < count) {size : ℕ} (is : size ≡ sizeAt j p) where
+    -- an order runs past the room
+    pub replay-cut : journalLength - p < size → Replayed (replayFrom want count logStart j d₀ m₀) 0 d m
+    unfolding replayFrom
+    replay-cut h =
+        let t : ltb (journalLength - p) (sizeAt j p) ≡ true = lt-ltb (journalLength - p) (sizeAt j p) (omega (arith, is)) in
+        let e : replayFrom want count logStart j d₀ m₀ ≡ stopped d m = g .leads ∙ rw (left-more count i more, t) in
+        record { end = rw e; index = rw e; followed = rw e }
+
+    abbrev o : List ℕ
+    o = take (p + size - p) (drop p j)
+
+    module _ (fits : size ≤ journalLength - p) {r : ℕ} {d' m' : List ℕ} (says : r ≡ numberOf (planOf d o)) (makes : d' ≡ indexAfter d o)
+        (follows : m' ≡ followedAfter want d o m) where
+      inside : ltb (journalLength - p) (sizeAt j p) ≡ false
+      inside = le-ltb (journalLength - p) (sizeAt j p) (omega (arith, is))
+
+      -- one is refused
+      pub replay-refused : (r ≡ 0 → ⊥) → Replayed (replayFrom want count logStart j d₀ m₀) 0 d' m'
+      unfolding replayFrom
+      replay-refused n =
+          let x : eqb (numberOf (planOf d (orderAt j p))) 0 ≡ false = rw (← (part-is j p is), ← says) (ne-eqb r 0 n) in
+          let e : replayFrom want count logStart j d₀ m₀ ≡ stopped d' m' =
+          g .leads ∙ rw (left-more count i more, inside, x, makes, follows, part-is j p is) in
+          record { end = rw e; index = rw e; followed = rw e }
+
+      -- it is accepted
+      pub replay-next : r ≡ 0 → ReplayInv want d₀ m₀ j count d' m' (p + size) (i + 1)
+      unfolding replayFrom
+      replay-next z =
+          let x : numberOf (planOf d (orderAt j p)) ≡ 0 = rw (← (part-is j p is), ← says) z in
+          let b : Bytes o = rw (part-is j p is) (bytes-slice j p (sizeAt j p) bytes) in
+          let l : length m' ≡ roomFor want = ap length follows ∙ follow-length want d o m b (g .sound) (g .room) in
+          record {
+            turn = omega arith;
+            high = omega (arith, g .high);
+            sound = rw makes (marked-sound d o b (g .sound));
+            long = ap length makes ∙ length-marked d o b (g .sound) ∙ g .long;
+            room = l;
+            same = l ∙ sym (g .room) ∙ g .same;
+            leads = g .leads ∙ rw (left-more count i more, inside, x, makes, follows, part-is j p is, is);
+          }
+
+  -- all are
+  pub replay-end : count ≤ i → Replayed (replayFrom want count logStart j d₀ m₀) p d m
+  unfolding replayFrom
+  replay-end h =
+      let e : replayFrom want count logStart j d₀ m₀ ≡ record { end = p; index = d; followed = m } = g .leads ∙ rw (left-none count i h) in
+      record { end = rw e; index = rw e; followed = rw e }
+
+-- ---- the search for the end
+
+pub record EndInv (j : List ℕ) (count p i : ℕ) : Type 0 where
+  pub turn : i ≤ count
+  pub high : p ≤ journalLength
+  pub within : withinFrom (count - i) p j ≡ true
+  pub end : endFrom count logStart j ≡ endFrom (count - i) p j
+
+pub end-start : (j : List ℕ) (count : ℕ) → withinFrom count logStart j ≡ true → EndInv j count logStart 0
+end-start j count w = record { turn = omega arith; high = omega arith; within = rw (left-all count) w; end = rw (left-all count) }
+
+module _ (j : List ℕ) {count p i : ℕ} (g : EndInv j count p i) where
+  module _ (more : i < count) {size : ℕ} (is : size ≡ sizeAt j p) where
+    left : (ltb (journalLength - p) (sizeAt j p) ≡ false) × (withinFrom (count - (i + 1)) (p + sizeAt j p) j ≡ true)
+    unfolding withinFrom
+    left =
+        fails (ltb (journalLength - p) (sizeAt j p)) (withinFrom (count - (i + 1)) (p + sizeAt j p) j)
+        (ap (λ (n : ℕ). withinFrom n p j) (sym (left-more count i more)) ∙ g .within)
+
+    pub end-room : p + size ≤ journalLength
+    end-room = omega (arith, g .high, ltb-false (journalLength - p) (sizeAt j p) (left .0), is)
+
+    pub end-next : EndInv j count (p + size) (i + 1)
+    unfolding endFrom
+    end-next =
+        record { turn = omega arith; high = end-room; within = rw is (left .1); end = g .end ∙ rw (left-more count i more, is) }
+
+  pub end-end : count ≤ i → (p ≡ endFrom count logStart j) × (p ≤ journalLength)
+  unfolding endFrom
+  end-end h = (sym (g .end ∙ rw (left-none count i h)), g .high)
+
+-- ---- the orders applied to a table
+
+pub record ApplyInv (d₀ b₀ c₀ j : List ℕ) (count : ℕ) (d b c : List ℕ) (p i : ℕ) : Type 0 where
+  pub ending : EndInv j count p i
+  pub sound : soundTable d b c ≡ true
+  pub long : length d ≡ length d₀
+  pub big : length b ≡ length b₀
+  pub wide : length c ≡ length c₀
+  pub leads : run (decode d₀ b₀ c₀) (ordersFrom count logStart j) ≡ run (decode d b c) (ordersFrom (count - i) p j)
+  pub past : PastKept d₀ b₀ c₀ d b c
+
+pub apply-start : (d b c j : List ℕ) (count : ℕ) → soundTable d b c ≡ true → withinFrom count logStart j ≡ true → ApplyInv d b c j count d b c logStart 0
+apply-start d b c j count h w =
+    record { ending = end-start j count w; sound = h; long = refl; big = refl; wide = refl; leads = rw (left-all count); past = same-past d b c }
+
+module _ (d₀ b₀ c₀ j : List ℕ) {count : ℕ} {d b c : List ℕ} {p i : ℕ} (g : ApplyInv d₀ b₀ c₀ j count d b c p i) where
+  pub apply-next : i < count → {size : ℕ} → size ≡ sizeAt j p → {r : ℕ} {d' b' c' : List ℕ} → Delivered d b c (take (p + size - p) (drop p j)) r d' b' c'
+      → length d' ≡ length d → length b' ≡ length b → length c' ≡ length c → ApplyInv d₀ b₀ c₀ j count d' b' c' (p + size) (i + 1)
+  unfolding run ordersFrom
+  apply-next more is {d' = d'} {b' = b'} {c' = c'} done ld lb lc =
+      let t : decode d' b' c' ≡ after (decode d b c) (orderAt j p) = done .table ∙ ap (after (decode d b c)) (part-is j p is) in
+      record {
+        ending = end-next j (g .ending) more is;
+        sound = done .sound;
+        long = ld ∙ g .long;
+        big = lb ∙ g .big;
+        wide = lc ∙ g .wide;
+        leads = g .leads ∙ rw (left-more count i more, t, is);
+        past = past-past (g .past) (done .past);
+      }
+
+  pub apply-end : count ≤ i → Applied d₀ b₀ c₀ j count d b c
+  unfolding run ordersFrom
+  apply-end h = record { table = sym (g .leads ∙ rw (left-none count i h)); sound = g .sound; past = g .past }

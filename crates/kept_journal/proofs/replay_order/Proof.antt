@@ -1,0 +1,35 @@
+use native.Mathlib.Omega.{arith}
+use denote.Ref.{now}
+use Rattle.wire.proofs.Numbers.{Bytes}
+use Rattle.journal.proofs.LoopInvariants.{order-asks, order-gives}
+use borrow.Author.Needs.{needs}
+use Rattle.journal.proofs.replay_order.Statement.{statement}
+use Rattle.journal.proofs.replay_order.Tie as tie
+
+-- All three equations are the callees', with the plan that was judged.
+abbrev start : tie.After-shared-slice-known → tie.Start
+start v = v .before .before .before
+
+bytes : (v : tie.After-shared-slice-known) → Bytes (now (start v .args .s))
+bytes v = record { small = λ i. omega (arith, v .shared-slice-known .given i) }
+
+pub replay-order-spec : {M : Type 1} → statement M
+replay-order-spec =
+    tie.close
+    (tie.spec
+    (λ c κs. search needs)
+    (λ c κs.  -- follow-requires
+    let v = c .before .before .before in
+    let u = start v in
+    order-asks (u .args .want) (now (u .args .d)) (now (u .args .m)) (now (u .args .s)) (c .before .judge .ensures) (bytes v) (u .pre .0) (u .pre .1))
+    (λ c κs. search needs)
+    (λ c κs. search needs)
+    (λ c. search needs)
+    (λ c. search needs)
+    (λ c.  -- returns
+    let n = c .before .before .before in
+    let f = n .before .before .before .before in
+    let j = f .before .before in
+    let u = start (j .before .before) in
+    order-gives (u .args .want) (now (u .args .d)) (now (u .args .m)) (now (u .args .s)) (j .judge .ensures) (c .number .ensures) (n .note .ensures)
+    (f .follow .ensures)))

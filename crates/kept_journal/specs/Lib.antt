@@ -1,0 +1,5 @@
+pub mod Limits
+pub mod State
+pub mod Journal
+pub mod View
+pub mod Replay

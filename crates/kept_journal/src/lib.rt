@@ -1,0 +1,186 @@
+// The journal: the orders since the last checkpoint (document 01's history since the mark). They are replayed on an index to
+// validate the memory that is lent to a call, or applied to the table at a checkpoint.
+ghost use mathlib.Core.Path.{_≡_};
+ghost use mathlib.Core.Bool.{true, false};
+ghost use mathlib.Core.List.{List, []};
+ghost use Prim.Native.Nat.{_≤_, _<_};
+ghost use lib.ListN.{length};
+ghost use Rattle.index.specs.Families.{indexLength};
+ghost use Rattle.index.specs.Plans.{planOf, planNumber};
+ghost use Rattle.index.specs.Sound.{soundIndex};
+ghost use Rattle.store.specs.Store.{placesIn, five};
+ghost use Rattle.kept_follow.specs.declared.Want.the-variants.{Nothing};
+ghost use Rattle.kept_table.specs.Memory.{soundTable};
+ghost use Rattle.kept_follow.specs.Follow.{roomFor};
+ghost use Rattle.kept_journal.specs.Limits.{journalLength, logStart, mostOrders};
+ghost use Rattle.kept_journal.specs.Journal.{endFrom, withinFrom};
+ghost use Rattle.kept_journal.specs.View.{Memory, memory, shortOf, meetsRule};
+ghost use Rattle.kept_journal.specs.Replay.{indexAfter, followedAfter, replayFrom, Replayed, replayable, Validation, Applied};
+use kept_follow::Want;
+
+// The history room: the most orders after a checkpoint, and the most bytes of theirs.
+pub const MOST_ORDERS: usize = 128;
+
+pub const MOST_BYTES: usize = 32768;
+
+// The bytes of a journal: the count, 2, and from index START on the orders' bytes.
+pub const START: usize = 2;
+
+pub const LENGTH: usize = 32770;
+
+// How many orders stand and where they end; 0 and 0 where the memory does not meet the rule.
+pub struct JournalExtent {
+    pub count: usize,
+    pub end: usize,
+}
+
+// A part is shorter than needed, or fewer than 12 places are lent.
+pub fn too_short(index: &[u8], bodies: &[u8], lent: usize, journal: &[u8]) -> bool
+    ensures { λ r. ⌜ r ≡ shortOf (now (index .entry)) (now (bodies .entry)) lent (now (journal .entry)) ⌝ }
+{
+    (index.len() < index::LENGTH)
+        | (bodies.len() < kept_table::BODIES)
+        | (lent < (places::FEWEST as usize))
+        | (journal.len() < LENGTH)
+}
+
+// Judges an order, which stands at index q of the journal, on an index, follows what is looked up and applies the order's plan to
+// the index. Its number.
+fn replay_order(d: &mut [u8], m: &mut [u8], s: &[u8], q: u16, want: Want) -> u8
+    requires { ⌜ (soundIndex (now d) ≡ true) × (length (now m) ≡ roomFor want) ⌝ }
+    ensures { λ r. ⌜ r ≡ planNumber (planOf (now (d .entry)) (now (s .entry))) ⌝ }
+    ensures { λ r. ⌜ now (d .exit) ≡ indexAfter (now (d .entry)) (now (s .entry)) ⌝ }
+    ensures { λ r. ⌜ now (m .exit) ≡ followedAfter want q (now (d .entry)) (now (s .entry)) (now (m .entry)) ⌝ }
+{
+    let p = index::judge(d, s);
+    kept_follow::follow(m, s, p, q, want);
+    index::changes::apply(d, p);
+    index::number(p)
+}
+
+// Replays count orders of the journal. Where they end, or 0 where one is cut or refused.
+fn replay(d: &mut [u8], m: &mut [u8], journal: &[u8], count: usize, want: Want) -> usize
+    requires { ⌜ (soundIndex (now d) ≡ true) × (length (now m) ≡ roomFor want) × (journalLength ≤ length (now journal)) ⌝ }
+    ensures { λ r. ⌜ Replayed (replayFrom want count logStart (now (journal .entry)) (now (d .entry)) (now (m .entry))) r (now (d .exit)) (now (m .exit)) ⌝ }
+{
+    let mut p = START;
+    let mut i = 0;
+    while i < count {
+        let size = wire::read_u16(journal, p + 1) as usize;
+        if LENGTH - p < size {
+            return 0;
+        }
+        let end = p + size;
+        let number = replay_order(d, m, &journal[p..end], p as u16, want);
+        if number != 0 {
+            return 0;
+        }
+        p = end;
+        i += 1;
+    }
+    p
+}
+
+// Whether the orders can be replayed: the parts are long enough, the table at the mark is one, and the count is within the room.
+fn can_replay(index: &[u8], bodies: &[u8], lent: usize, journal: &[u8]) -> bool
+    ensures { λ r. ⌜ r ≡ replayable (now (index .entry)) (now (bodies .entry)) lent (now (journal .entry)) ⌝ }
+{
+    if too_short(index, bodies, lent, journal) {
+        return false;
+    }
+    if !kept_table::sound::is_sound(index, bodies, lent) {
+        return false;
+    }
+    let count = wire::read_u16(journal, 0) as usize;
+    !(MOST_ORDERS < count)
+}
+
+// Decides the rule for any memory to which so many places are lent. Where it is met, d becomes the index of the present table and m
+// what that has of the target.
+pub fn validate(
+    index: &[u8],
+    bodies: &[u8],
+    lent: usize,
+    journal: &[u8],
+    want: Want,
+    d: &mut [u8],
+    m: &mut [u8],
+) -> JournalExtent
+    requires { ⌜ (length (now d) ≡ indexLength) × (length (now m) ≡ roomFor want) ⌝ }
+    ensures { λ r. ⌜ (store : List (List ℕ)) → placesIn store ≡ lent → Validation want (memory (now (index .entry)) (now (bodies .entry)) store (now (journal .entry))) (now (d .entry)) (now (m .entry)) r (now (d .exit)) (now (m .exit)) ⌝ }
+{
+    if !can_replay(index, bodies, lent, journal) {
+        return JournalExtent { count: 0, end: 0 };
+    }
+    let count = wire::read_u16(journal, 0) as usize;
+    wire::copy_part(d, 0, index, 0, index::LENGTH);
+    kept_follow::begin(m, index, bodies, want);
+    let end = replay(d, m, journal, count, want);
+    if end == 0 {
+        return JournalExtent { count: 0, end: 0 };
+    }
+    JournalExtent { count, end }
+}
+
+// The same with nothing looked up.
+pub fn extent(
+    index: &[u8],
+    bodies: &[u8],
+    lent: usize,
+    journal: &[u8],
+    d: &mut [u8],
+) -> JournalExtent
+    requires { ⌜ length (now d) ≡ indexLength ⌝ }
+    ensures { λ r. ⌜ (store : List (List ℕ)) → placesIn store ≡ lent → Validation Nothing (memory (now (index .entry)) (now (bodies .entry)) store (now (journal .entry))) (now (d .entry)) [] r (now (d .exit)) [] ⌝ }
+{
+    let mut m = [0u8; 0];
+    validate(index, bodies, lent, journal, Want::Nothing, d, &mut m)
+}
+
+pub fn well_formed(index: &[u8], bodies: &[u8], lent: usize, journal: &[u8]) -> bool
+    ensures { λ r. ⌜ (store : List (List ℕ)) → placesIn store ≡ lent → r ≡ meetsRule (memory (now (index .entry)) (now (bodies .entry)) store (now (journal .entry))) ⌝ }
+{
+    let mut d = [0u8; index::LENGTH];
+    let w = extent(index, bodies, lent, journal, &mut d);
+    w.end != 0
+}
+
+// Where the first count orders end.
+pub fn end_of(journal: &[u8], count: usize) -> usize
+    requires { ⌜ (count ≤ mostOrders) × (withinFrom count logStart (now journal) ≡ true) ⌝ }
+    ensures { λ r. ⌜ (r ≡ endFrom count logStart (now (journal .entry))) × (r ≤ journalLength) ⌝ }
+{
+    let mut p = START;
+    let mut i = 0;
+    while i < count {
+        p += wire::read_u16(journal, p + 1) as usize;
+        i += 1;
+    }
+    p
+}
+
+// Applies the first count orders to a table.
+pub fn apply(
+    index: &mut [u8],
+    bodies: &mut [u8],
+    a: &mut [u8],
+    b: &mut [u8],
+    c: &mut [u8],
+    d: &mut [u8],
+    e: &mut [u8],
+    journal: &[u8],
+    count: usize,
+)
+    requires { ⌜ soundTable (now index) (now bodies) (placesIn (five (now a) (now b) (now c) (now d) (now e))) ≡ true ⌝ }
+    requires { ⌜ (journalLength ≤ length (now journal)) × (withinFrom count logStart (now journal) ≡ true) ⌝ }
+    ensures { λ _. ⌜ Applied (now (index .entry)) (now (bodies .entry)) (five (now (a .entry)) (now (b .entry)) (now (c .entry)) (now (d .entry)) (now (e .entry))) (now (journal .entry)) count (now (index .exit)) (now (bodies .exit)) (five (now (a .exit)) (now (b .exit)) (now (c .exit)) (now (d .exit)) (now (e .exit))) ⌝ }
+{
+    let mut p = START;
+    let mut i = 0;
+    while i < count {
+        let end = p + wire::read_u16(journal, p + 1) as usize;
+        kept_table::deliver(index, bodies, a, b, c, d, e, &journal[p..end]);
+        p = end;
+        i += 1;
+    }
+}

@@ -1,0 +1,5 @@
+pub mod Table
+pub mod Memory
+pub mod Changes
+pub mod Outcome
+pub mod Promises
