@@ -26,6 +26,10 @@ pub record Memory : Type 0 where
 abbrev pub memory : List ℕ → List ℕ → List (List ℕ) → List ℕ → Memory
 memory index bodies store journal = record { index = index; bodies = bodies; store = store; journal = journal }
 
+-- so it is in every store that lends so many places: a call that reads and writes no picture is told their number alone
+abbrev pub InEachStore : ℕ → (List (List ℕ) → Type 0) → Type 0
+InEachStore lent claim = (p : List (List ℕ)) → placesIn p ≡ lent → claim p
+
 -- a part is shorter than needed, or the store has fewer than 12 places
 abbrev pub shortOf : List ℕ → List ℕ → ℕ → List ℕ → Bool
 shortOf index bodies lent journal =

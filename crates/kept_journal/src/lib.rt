@@ -2,7 +2,7 @@
 // validate the memory that is lent to a call, or applied to the table at a checkpoint.
 ghost use mathlib.Core.Path.{_≡_};
 ghost use mathlib.Core.Bool.{true, false};
-ghost use mathlib.Core.List.{List, []};
+ghost use mathlib.Core.List.{[]};
 ghost use Prim.Native.Nat.{_≤_, _<_};
 ghost use lib.ListN.{length};
 ghost use Rattle.index.specs.Families.{indexLength};
@@ -14,7 +14,7 @@ ghost use Rattle.kept_table.specs.Memory.{soundTable};
 ghost use Rattle.kept_follow.specs.Follow.{roomFor};
 ghost use Rattle.kept_journal.specs.Limits.{journalLength, logStart, mostOrders};
 ghost use Rattle.kept_journal.specs.Journal.{endFrom, withinFrom};
-ghost use Rattle.kept_journal.specs.View.{Memory, memory, shortOf, meetsRule};
+ghost use Rattle.kept_journal.specs.View.{Memory, memory, InEachStore, shortOf, meetsRule};
 ghost use Rattle.kept_journal.specs.Replay.{indexAfter, followedAfter, replayFrom, Replayed, replayable, Validation, Applied};
 use kept_follow::Want;
 
@@ -107,7 +107,7 @@ pub fn validate(
     m: &mut [u8],
 ) -> JournalExtent
     requires { ⌜ (length (now d) ≡ indexLength) × (length (now m) ≡ roomFor want) ⌝ }
-    ensures { λ r. ⌜ (store : List (List ℕ)) → placesIn store ≡ lent → Validation want (memory (now (index .entry)) (now (bodies .entry)) store (now (journal .entry))) (now (d .entry)) (now (m .entry)) r (now (d .exit)) (now (m .exit)) ⌝ }
+    ensures { λ r. ⌜ InEachStore lent (λ store. Validation want (memory (now (index .entry)) (now (bodies .entry)) store (now (journal .entry))) (now (d .entry)) (now (m .entry)) r (now (d .exit)) (now (m .exit))) ⌝ }
 {
     if !can_replay(index, bodies, lent, journal) {
         return JournalExtent { count: 0, end: 0 };
@@ -131,14 +131,14 @@ pub fn extent(
     d: &mut [u8],
 ) -> JournalExtent
     requires { ⌜ length (now d) ≡ indexLength ⌝ }
-    ensures { λ r. ⌜ (store : List (List ℕ)) → placesIn store ≡ lent → Validation Nothing (memory (now (index .entry)) (now (bodies .entry)) store (now (journal .entry))) (now (d .entry)) [] r (now (d .exit)) [] ⌝ }
+    ensures { λ r. ⌜ InEachStore lent (λ store. Validation Nothing (memory (now (index .entry)) (now (bodies .entry)) store (now (journal .entry))) (now (d .entry)) [] r (now (d .exit)) []) ⌝ }
 {
     let mut m = [0u8; 0];
     validate(index, bodies, lent, journal, Want::Nothing, d, &mut m)
 }
 
 pub fn well_formed(index: &[u8], bodies: &[u8], lent: usize, journal: &[u8]) -> bool
-    ensures { λ r. ⌜ (store : List (List ℕ)) → placesIn store ≡ lent → r ≡ meetsRule (memory (now (index .entry)) (now (bodies .entry)) store (now (journal .entry))) ⌝ }
+    ensures { λ r. ⌜ InEachStore lent (λ store. r ≡ meetsRule (memory (now (index .entry)) (now (bodies .entry)) store (now (journal .entry)))) ⌝ }
 {
     let mut d = [0u8; index::LENGTH];
     let w = extent(index, bodies, lent, journal, &mut d);

@@ -9,13 +9,15 @@ use Rattle.wire.specs.Parts.{splice}
 use Rattle.order.specs.Icons.{partsOf}
 use Rattle.protocol.specs.Flags.{desktopNone}
 use Rattle.places.specs.Sizes.{slotCount, mostPlaces}
+use Rattle.places.specs.Memory.{withPicture}
 use Rattle.index.specs.declared.Change.{Change}
 use Rattle.index.specs.declared.Plan.{Plan}
 use Rattle.index.specs.declared.Plan.the-variants.{ChangeRecord, ChangeDesktop, Refuse}
 use Rattle.index.specs.Orders.{bringsIcon}
 use Rattle.body.specs.Bodies.{desktopFields, slotOf}
 use Rattle.body.specs.Stores.{storeOf, preparedOf, hookedOf, syncedOf, EndsWell}
-use Rattle.store.specs.Store.{placeLength, placesIn}
+use Rattle.cache.specs.Cells.{carriedPicture}
+use Rattle.store.specs.Store.{placeLength}
 use Rattle.picture.specs.Pictures.{headsAfter, storeAfter}
 use Rattle.kept_table.specs.Table.{fieldRows, fieldsAt}
 use Rattle.kept_table.specs.Memory.{headsStart, headsOf}
@@ -58,6 +60,12 @@ unfoldable pub storeBy : List ℕ → Plan → List (List ℕ) → List (List �
 storeBy s (ChangeRecord c) store = pick (putsPicture c) (storeAfter store (c .place) s (c .icon)) store
 storeBy s (ChangeDesktop flags) store = store
 storeBy s (Refuse n) store = store
+
+-- the pictures at the places after a plan
+unfoldable pub picturesBy : List ℕ → Plan → (ℕ → List ℕ) → ℕ → List ℕ
+picturesBy s (ChangeRecord c) pictures = pick (putsPicture c) (withPicture pictures (c .place) (carriedPicture s (c .icon))) pictures
+picturesBy s (ChangeDesktop flags) pictures = pictures
+picturesBy s (Refuse n) pictures = pictures
 
 -- ---- what the changes ask
 
