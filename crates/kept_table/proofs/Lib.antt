@@ -1,0 +1,4 @@
+pub mod OfKinds
+pub mod Able
+pub mod Decoded
+pub mod Past
