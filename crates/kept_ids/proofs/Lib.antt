@@ -1,0 +1,5 @@
+pub mod StepsLeast
+pub mod IdsListed
+pub mod StepsLaid
+pub mod OnlyOne
+pub mod TypedTells

@@ -1,0 +1,4 @@
+pub mod Ids
+pub mod Only
+pub mod Typed
+pub mod Steps
