@@ -2,3 +2,4 @@ pub mod OfKinds
 pub mod Able
 pub mod Decoded
 pub mod Past
+pub mod Shown
