@@ -1,0 +1,106 @@
+-- Emptying, a checkpoint and an undo: what each answers, and the log that it leaves. Assumes nothing.
+use mathlib.Core.Path.{_≡_, refl, sym, ap, _∙_}
+use mathlib.Core.Bool.{Bool, true, false}
+use mathlib.Core.List.{List, []}
+use Prim.Native.Nat.{ℕ, _-_, _≤_, _<_}
+use native.Mathlib.Omega.{arith}
+use lib.Dec.{ltb}
+use lib.ListN.{length, take, drop}
+use borrow.Author.Tests.{lt-ltb, le-ltb}
+use Rattle.wire.specs.Numbers.{bytesOf}
+use Rattle.wire.specs.Parts.{splice}
+use Rattle.wire.proofs.Numbers.{length-bytes}
+use Rattle.wire.proofs.Parts.{drop-splice}
+use Rattle.table.specs.Table.{Table, emptied}
+use Rattle.table.specs.Memory.{soundTable}
+use Rattle.table.specs.Outcome.{PastKept, Emptied}
+use Rattle.journal.specs.declared.JournalExtent.{JournalExtent}
+use Rattle.journal.specs.Limits.{cellsLength, journalLength, mostOrders, logStart}
+use Rattle.journal.specs.State.{run}
+use Rattle.journal.specs.Journal.{endFrom, withinFrom}
+use Rattle.journal.specs.View.{Memory, memory, tooShort, wellFormed, formed, viewOf}
+use Rattle.journal.specs.Replay.{Applied}
+use Rattle.journal.proofs.Logged.{Long, Logged, markedIn, withJournal, logged-none, logged-take, logged-within, logged-orders, logged-low, logged-high, past-counted}
+use Rattle.session.specs.declared.Reply.{Reply}
+use Rattle.session.specs.Calls.{Call, reset, checkpoint, undo, nothing, refuse, grant, answer, next, answerView, nextView}
+use Rattle.session.specs.Outcome.{plain, replied, sizeFor, bytesFor, replyOf, CallOutcome}
+use Rattle.session.proofs.Outcomes.{answer-in, next-in, refused-in, granted}
+
+abbrev pub nothingStands : Reply
+nothingStands = record { number = 0; count = 0; bytes = 0 }
+
+-- ---- a table with no orders after it
+
+module _ (m : Memory) (l : Long m) {d b k : List ℕ} (same-d : length d ≡ length (m .dir)) (same-b : length b ≡ length (m .bodies))
+    (same-k : length k ≡ length (m .cells)) {j : List ℕ} (put : j ≡ splice (m .journal) 0 (bytesOf 2 0)) where
+  -- with the table t at the mark
+  restarted : (c : Call) {t : Table} {r : Reply} → sizeFor c nothing ≡ 0 → bytesFor c nothing ≡ [] → markedIn (memory d b k j) ≡ t → soundTable d b k ≡ true
+      → PastKept (m .dir) (m .bodies) (m .cells) d b k → answerView c (viewOf m) ≡ grant [] nothing
+      → nextView c (viewOf m) ≡ formed (record { marked = t; log = [] }) → r ≡ nothingStands → CallOutcome (plain c) m (replied r) (memory d b k j)
+  restarted c {t = t} room none table sound past a n e =
+      let n' = length-bytes 2 0 in
+      let parts : Long (memory d b k (m .journal)) =
+      record { dir = omega (arith, same-d, l .dir); bodies = omega (arith, same-b, l .bodies); cells = omega (arith, same-k, l .cells); journal = l .journal } in
+      let log : Logged (memory d b k j) (record { count = 0; end = logStart }) [] = rw put (logged-none d b k (m .journal) parts sound) in
+      granted c room none log a (n ∙ ap (λ (t : Table). formed (record { marked = t; log = [] })) (sym table)) e
+      (record {
+        dir = past .dir;
+        bodies = past .bodies;
+        cells = past .cells;
+        journal = ap (drop journalLength) put ∙ drop-splice (m .journal) 0 (bytesOf 2 0) (omega (arith, l .journal)) journalLength (omega arith);
+      })
+
+  pub reset-granted : {r : Reply} → tooShort m ≡ false → k ≡ m .cells → Emptied (m .dir) (m .bodies) d b k → r ≡ nothingStands → CallOutcome (plain reset) m (replied r) (memory d b k j)
+  reset-granted t c e f =
+      restarted reset refl refl (e .table) (e .sound) (record { dir = e .past .dir; bodies = e .past .bodies; cells = ap (drop cellsLength) c })
+      (reset-answers t .0) (reset-answers t .1) f
+    where
+      reset-answers : tooShort m ≡ false → (answerView reset (viewOf m) ≡ grant [] nothing) × (nextView reset (viewOf m) ≡ formed (record { marked = emptied; log = [] }))
+      reset-answers t = go (wellFormed m) refl
+        where
+          go : (w : Bool) → wellFormed m ≡ w
+              → (answerView reset (viewOf m) ≡ grant [] nothing) × (nextView reset (viewOf m) ≡ formed (record { marked = emptied; log = [] }))
+          go true w = (unfold viewOf answerView answer in rw (t, w), unfold viewOf nextView next in rw (t, w))
+          go false w = (unfold viewOf answerView in rw (t, w), unfold viewOf nextView in rw (t, w))
+
+  pub checkpoint-granted : {w : JournalExtent} {os : List (List ℕ)} {r : Reply} → Logged m w os → Applied (m .dir) (m .bodies) (m .cells) (m .journal) (w .count) d b k
+      → r ≡ nothingStands → CallOutcome (plain checkpoint) m (replied r) (memory d b k j)
+  unfolding answer next
+  checkpoint-granted g a f =
+      restarted checkpoint refl refl (a .table ∙ ap (run (markedIn m)) (logged-orders g)) (a .sound) (a .past) (answer-in g checkpoint) (next-in g checkpoint) f
+
+-- ---- fewer orders
+
+module _ {m : Memory} {w : JournalExtent} {os : List (List ℕ)} (l : Logged m w os) where
+  -- what applying all of them asks, and finding the end of the first n
+  pub apply-asks : (soundTable (m .dir) (m .bodies) (m .cells) ≡ true) × ((journalLength ≤ length (m .journal)) × (withinFrom (w .count) logStart (m .journal) ≡ true))
+  apply-asks = (l .sound, (l .long .journal, logged-within l (w .count) (omega arith)))
+
+  pub end-asks : (n : ℕ) → n ≤ w .count → (n ≤ mostOrders) × (withinFrom n logStart (m .journal) ≡ true)
+  end-asks n h = (omega (arith, l .few), logged-within l n h)
+
+  module _ (k : ℕ) where
+    -- 13
+    pub undo-refused : {r : Reply} → w .count < k → r ≡ replyOf (refuse 13) → CallOutcome (plain (undo k)) m (replied r) m
+    unfolding answer next
+    undo-refused h e =
+        let x = lt-ltb (length os) k (omega (arith, l .many)) in
+        refused-in l (plain (undo k)) 13 (λ z. omega (arith, z)) (rw x) (rw x) e
+
+    module _ (some : k ≤ w .count) {e : ℕ} (is : e ≡ endFrom (w .count - k) logStart (m .journal)) where
+      left : Logged (withJournal m (splice (m .journal) 0 (bytesOf 2 (w .count - k)))) (record { count = w .count - k; end = e }) (take (w .count - k) os)
+      left = logged-take l (w .count - k) e (omega arith) is
+
+      -- what a grant asks
+      pub undo-asks : (w .count - k ≤ mostOrders) × (logStart ≤ e) × (e ≤ journalLength)
+      undo-asks = (left .few, logged-low left, logged-high left)
+
+      pub undo-granted : {j : List ℕ} {r : Reply} → j ≡ splice (m .journal) 0 (bytesOf 2 (w .count - k))
+          → r ≡ record { number = 0; count = w .count - k; bytes = e - logStart } → CallOutcome (plain (undo k)) m (replied r) (withJournal m j)
+      unfolding answer next
+      undo-granted put f =
+          let x : ltb (length os) k ≡ false = le-ltb (length os) k (omega (arith, l .many)) in
+          let n : length os - k ≡ w .count - k = omega (arith, l .many) in
+          rw put
+          (granted (undo k) refl refl left (answer-in l (undo k) ∙ rw (x, n)) (next-in l (undo k) ∙ rw (x, n)) f
+          (past-counted l (w .count - k)))

@@ -1,0 +1,5 @@
+pub mod Calls
+pub mod Outcome
+pub mod Delivery
+pub mod Targets
+pub mod Packed

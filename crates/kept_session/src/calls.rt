@@ -1,0 +1,130 @@
+// Emptying, delivery, checkpoint (document 01's mark) and undo (its step back).
+ghost use mathlib.Core.Path.{_≡_};
+ghost use Prim.Native.Nat.{_+_, _≤_};
+ghost use lib.ListN.{length};
+ghost use Rattle.wire.specs.Numbers.{bytesOf};
+ghost use Rattle.wire.specs.Parts.{splice};
+ghost use Rattle.kept_journal.specs.Limits.{journalLength, mostOrders};
+ghost use Rattle.store.specs.Store.{five};
+ghost use Rattle.kept_journal.specs.View.{memory, InEachStore};
+ghost use Rattle.kept_session.specs.Calls.{reset, deliver, checkpoint, undo};
+ghost use Rattle.kept_session.specs.Outcome.{plain, replied, CallOutcome};
+ghost use Rattle.kept_session.specs.Delivery.{Ready, DeliveredOn};
+use crate::Delivery;
+use crate::Reply;
+use crate::replies::granted;
+use crate::replies::refused;
+use kept_journal::JournalExtent;
+
+// Empties a state to which so many places are lent.
+pub fn reset(index: &mut [u8], bodies: &mut [u8], lent: usize, journal: &mut [u8]) -> Reply
+    ensures { λ r. ⌜ InEachStore lent (λ store. CallOutcome (plain (reset lent)) (memory (now (index .entry)) (now (bodies .entry)) store (now (journal .entry))) (replied r) (memory (now (index .exit)) (now (bodies .exit)) store (now (journal .exit)))) ⌝ }
+{
+    if kept_journal::too_short(index, bodies, lent, journal) {
+        return refused(1);
+    }
+    kept_table::empty(index, bodies, lent);
+    wire::write_u16(journal, 0, 0);
+    granted(JournalExtent {
+        count: 0,
+        end: kept_journal::START,
+    })
+}
+
+// Appends an order to the journal of count orders that end at index end.
+fn append(journal: &mut [u8], s: &[u8], count: usize, end: usize)
+    requires { ⌜ (count + 1 ≤ mostOrders) × (end + length (now s) ≤ journalLength) × (journalLength ≤ length (now journal)) ⌝ }
+    ensures { λ _. ⌜ now (journal .exit) ≡ splice (splice (now (journal .entry)) end (now (s .entry))) 0 (bytesOf 2 (count + 1)) ⌝ }
+{
+    wire::copy_at(journal, end, s);
+    let n = (count + 1) as u16;
+    wire::write_u16(journal, 0, n);
+}
+
+// Judges an order on the index d of a validated memory whose journal has the extent w and, where it is granted, appends it and
+// applies its plan to d: what was validated then stands for the next order.
+pub fn deliver_on(journal: &mut [u8], d: &mut [u8], s: &[u8], w: JournalExtent) -> Delivery
+    requires { ⌜ Ready (now d) (now journal) w ⌝ }
+    ensures { λ r. ⌜ DeliveredOn (now (d .entry)) (now (journal .entry)) (now (s .entry)) w r (now (d .exit)) (now (journal .exit)) ⌝ }
+{
+    let p = index::judge(d, s);
+    let number = index::number(p);
+    if number != 0 {
+        return Delivery { number, extent: w };
+    }
+    if (kept_journal::MOST_ORDERS < w.count + 1)
+        | (kept_journal::MOST_BYTES < w.end - kept_journal::START + s.len())
+    {
+        return Delivery {
+            number: 12,
+            extent: w,
+        };
+    }
+    append(journal, s, w.count, w.end);
+    index::changes::apply(d, p);
+    Delivery {
+        number: 0,
+        extent: JournalExtent {
+            count: w.count + 1,
+            end: w.end + s.len(),
+        },
+    }
+}
+
+pub fn deliver(index: &[u8], bodies: &[u8], lent: usize, journal: &mut [u8], s: &[u8]) -> Reply
+    ensures { λ r. ⌜ InEachStore lent (λ store. CallOutcome (plain (deliver (now (s .entry)))) (memory (now (index .entry)) (now (bodies .entry)) store (now (journal .entry))) (replied r) (memory (now (index .entry)) (now (bodies .entry)) store (now (journal .exit)))) ⌝ }
+{
+    let mut d = [0u8; crate::INDEX];
+    let w = kept_journal::extent(index, bodies, lent, journal, &mut d);
+    if w.end == 0 {
+        return refused(1);
+    }
+    let r = deliver_on(journal, &mut d, s, w);
+    if r.number != 0 {
+        return refused(r.number);
+    }
+    granted(r.extent)
+}
+
+pub fn checkpoint(
+    index: &mut [u8],
+    bodies: &mut [u8],
+    a: &mut [u8],
+    b: &mut [u8],
+    c: &mut [u8],
+    d: &mut [u8],
+    e: &mut [u8],
+    journal: &mut [u8],
+) -> Reply
+    ensures { λ r. ⌜ CallOutcome (plain checkpoint) (memory (now (index .entry)) (now (bodies .entry)) (five (now (a .entry)) (now (b .entry)) (now (c .entry)) (now (d .entry)) (now (e .entry))) (now (journal .entry))) (replied r) (memory (now (index .exit)) (now (bodies .exit)) (five (now (a .exit)) (now (b .exit)) (now (c .exit)) (now (d .exit)) (now (e .exit))) (now (journal .exit))) ⌝ }
+{
+    let lent = store::places(a, b, c, d, e);
+    let mut x = [0u8; crate::INDEX];
+    let w = kept_journal::extent(index, bodies, lent, journal, &mut x);
+    if w.end == 0 {
+        return refused(1);
+    }
+    kept_journal::apply(index, bodies, a, b, c, d, e, journal, w.count);
+    wire::write_u16(journal, 0, 0);
+    granted(JournalExtent {
+        count: 0,
+        end: kept_journal::START,
+    })
+}
+
+pub fn undo(index: &[u8], bodies: &[u8], lent: usize, journal: &mut [u8], k: u64) -> Reply
+    ensures { λ r. ⌜ InEachStore lent (λ store. CallOutcome (plain (undo k)) (memory (now (index .entry)) (now (bodies .entry)) store (now (journal .entry))) (replied r) (memory (now (index .entry)) (now (bodies .entry)) store (now (journal .exit)))) ⌝ }
+{
+    let mut d = [0u8; crate::INDEX];
+    let w = kept_journal::extent(index, bodies, lent, journal, &mut d);
+    if w.end == 0 {
+        return refused(1);
+    }
+    if (w.count as u64) < k {
+        return refused(13);
+    }
+    let count = w.count - (k as usize);
+    let end = kept_journal::end_of(journal, count);
+    wire::write_u16(journal, 0, count as u16);
+    granted(JournalExtent { count, end })
+}

@@ -1,0 +1,21 @@
+// The session record of the orders that stand after the mark.
+ghost use Rattle.kept_journal.specs.View.{memory, InEachStore};
+ghost use Rattle.kept_session.specs.Outcome.{recordTo, handed, CallOutcome};
+use crate::Reply;
+use crate::replies::granted;
+use crate::replies::refused;
+
+// Writes it to out.
+pub fn write(index: &[u8], bodies: &[u8], lent: usize, journal: &[u8], out: &mut [u8]) -> Reply
+    ensures { λ r. ⌜ InEachStore lent (λ store. CallOutcome (recordTo (now (out .entry))) (memory (now (index .entry)) (now (bodies .entry)) store (now (journal .entry))) (handed r (now (out .exit))) (memory (now (index .entry)) (now (bodies .entry)) store (now (journal .entry)))) ⌝ }
+{
+    let mut d = [0u8; crate::INDEX];
+    let w = kept_journal::extent(index, bodies, lent, journal, &mut d);
+    if w.end == 0 {
+        return refused(1);
+    }
+    if !kept_record::write(journal, w.count, w.end, out) {
+        return refused(14);
+    }
+    granted(w)
+}
