@@ -11,20 +11,20 @@ use Rattle.wire.specs.Numbers.{bytesOf}
 use Rattle.wire.specs.Parts.{splice}
 use Rattle.wire.proofs.Numbers.{length-bytes}
 use Rattle.wire.proofs.Parts.{drop-splice}
-use Rattle.table.specs.Table.{Table, emptied}
-use Rattle.table.specs.Memory.{soundTable}
-use Rattle.table.specs.Outcome.{PastKept, Emptied}
-use Rattle.journal.specs.declared.JournalExtent.{JournalExtent}
-use Rattle.journal.specs.Limits.{cellsLength, journalLength, mostOrders, logStart}
-use Rattle.journal.specs.State.{run}
-use Rattle.journal.specs.Journal.{endFrom, withinFrom}
-use Rattle.journal.specs.View.{Memory, memory, tooShort, wellFormed, formed, viewOf}
-use Rattle.journal.specs.Replay.{Applied}
-use Rattle.journal.proofs.Logged.{Long, Logged, markedIn, withJournal, logged-none, logged-take, logged-within, logged-orders, logged-low, logged-high, past-counted}
-use Rattle.session.specs.declared.Reply.{Reply}
-use Rattle.session.specs.Calls.{Call, reset, checkpoint, undo, nothing, refuse, grant, answer, next, answerView, nextView}
-use Rattle.session.specs.Outcome.{plain, replied, sizeFor, bytesFor, replyOf, CallOutcome}
-use Rattle.session.proofs.Outcomes.{answer-in, next-in, refused-in, granted}
+use Rattle.kept_table.specs.Table.{Table, emptied}
+use Rattle.kept_table.specs.Memory.{soundTable}
+use Rattle.kept_table.specs.Outcome.{PastKept, Emptied}
+use Rattle.kept_journal.specs.declared.JournalExtent.{JournalExtent}
+use Rattle.kept_journal.specs.Limits.{cellsLength, journalLength, mostOrders, logStart}
+use Rattle.kept_journal.specs.State.{run}
+use Rattle.kept_journal.specs.Journal.{endFrom, withinFrom}
+use Rattle.kept_journal.specs.View.{Memory, memory, tooShort, wellFormed, formed, viewOf}
+use Rattle.kept_journal.specs.Replay.{Applied}
+use Rattle.kept_journal.proofs.Logged.{Long, Logged, markedIn, withJournal, logged-none, logged-take, logged-within, logged-orders, logged-low, logged-high, past-counted}
+use Rattle.kept_session.specs.declared.Reply.{Reply}
+use Rattle.kept_session.specs.Calls.{Call, reset, checkpoint, undo, nothing, refuse, grant, answer, next, answerView, nextView}
+use Rattle.kept_session.specs.Outcome.{plain, replied, sizeFor, bytesFor, replyOf, CallOutcome}
+use Rattle.kept_session.proofs.Outcomes.{answer-in, next-in, refused-in, granted}
 
 abbrev pub nothingStands : Reply
 nothingStands = record { number = 0; count = 0; bytes = 0 }

@@ -13,21 +13,21 @@ use Rattle.wire.proofs.Numbers.{Bytes}
 use Rattle.directory.specs.declared.Plan.{Plan}
 use Rattle.directory.specs.Plans.{planOf, numberOf}
 use Rattle.directory.specs.Marks.{markedBy}
-use Rattle.table.specs.Table.{number}
-use Rattle.journal.specs.declared.JournalExtent.{JournalExtent}
-use Rattle.journal.specs.Limits.{mostOrders, mostBytes, logStart, journalLength}
-use Rattle.journal.specs.State.{run}
-use Rattle.journal.specs.View.{Memory, formed}
-use Rattle.journal.specs.Replay.{indexAfter}
-use Rattle.journal.proofs.Logged.{Logged, markedIn, withJournal, logged-low, logged-high, logged-bytes, logged-more, past-more}
-use Rattle.journal.proofs.Replays.{number-on}
-use Rattle.journal.proofs.Indexed.{Indexed, indexed-more}
-use Rattle.session.specs.declared.Reply.{Reply}
-use Rattle.session.specs.declared.Delivery.{Delivery}
-use Rattle.session.specs.Calls.{deliver, nothing, refuse, grant, overFull, answer, next}
-use Rattle.session.specs.Outcome.{plain, replied, replyOf, CallOutcome}
-use Rattle.session.specs.Delivery.{Ready, isFull, numberOn, appended, oneMore, DeliveredOn}
-use Rattle.session.proofs.Outcomes.{stateIn, answer-in, next-in, refused-in, granted}
+use Rattle.kept_table.specs.Table.{number}
+use Rattle.kept_journal.specs.declared.JournalExtent.{JournalExtent}
+use Rattle.kept_journal.specs.Limits.{mostOrders, mostBytes, logStart, journalLength}
+use Rattle.kept_journal.specs.State.{run}
+use Rattle.kept_journal.specs.View.{Memory, formed}
+use Rattle.kept_journal.specs.Replay.{indexAfter}
+use Rattle.kept_journal.proofs.Logged.{Logged, markedIn, withJournal, logged-low, logged-high, logged-bytes, logged-more, past-more}
+use Rattle.kept_journal.proofs.Replays.{number-on}
+use Rattle.kept_journal.proofs.Indexed.{Indexed, indexed-more}
+use Rattle.kept_session.specs.declared.Reply.{Reply}
+use Rattle.kept_session.specs.declared.Delivery.{Delivery}
+use Rattle.kept_session.specs.Calls.{deliver, nothing, refuse, grant, overFull, answer, next}
+use Rattle.kept_session.specs.Outcome.{plain, replied, replyOf, CallOutcome}
+use Rattle.kept_session.specs.Delivery.{Ready, isFull, numberOn, appended, oneMore, DeliveredOn}
+use Rattle.kept_session.proofs.Outcomes.{stateIn, answer-in, next-in, refused-in, granted}
 
 -- ---- the ways through the code
 

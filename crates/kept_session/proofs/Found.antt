@@ -11,23 +11,23 @@ use Rattle.wire.specs.Tests.{pick, both}
 use Rattle.wire.specs.Parts.{splice}
 use Rattle.wire.proofs.Tests.{both-left, both-right}
 use Rattle.directory.specs.Directory.{Family, windows, notifications, Directory, directoryOf}
-use Rattle.ids.specs.Ids.{idsIn}
-use Rattle.table.specs.Table.{Table, there, directory, recordAt, pictureAt}
-use Rattle.table.specs.Follow.{Holds}
-use Rattle.journal.specs.declared.JournalExtent.{JournalExtent}
-use Rattle.journal.specs.Limits.{logStart}
-use Rattle.journal.specs.State.{run}
-use Rattle.journal.specs.View.{Memory, viewOf}
-use Rattle.journal.proofs.Logged.{markedIn, logged-view}
-use Rattle.journal.proofs.Indexed.{Indexed, Followed}
-use Rattle.session.specs.declared.Reply.{Reply}
-use Rattle.session.specs.declared.LookupTarget.{LookupTarget}
-use Rattle.session.specs.declared.LookupTarget.the-variants.{Window, Notification, Cell, Desktop, Windows, Notifications}
-use Rattle.session.specs.Calls.{look, nothing, picture, ids, refuse, grant, aPicture, payloadIn, found, answer, next, answerView, nextView}
-use Rattle.session.specs.Outcome.{lookup, handed, layoutSize, payloadBytes, replyOf, answerWithin, outAfter, responseOf, CallOutcome}
-use Rattle.session.specs.Targets.{inCaches, cellNumber, wantOf, listedIn, payloadHeld, validHeld}
-use Rattle.session.proofs.Targets.{cell-inside}
-use Rattle.session.proofs.Outcomes.{answer-in, next-in, refused-in, reply-in, stays}
+use Rattle.kept_ids.specs.Ids.{idsIn}
+use Rattle.kept_table.specs.Table.{Table, there, directory, recordAt, pictureAt}
+use Rattle.kept_table.specs.Follow.{Holds}
+use Rattle.kept_journal.specs.declared.JournalExtent.{JournalExtent}
+use Rattle.kept_journal.specs.Limits.{logStart}
+use Rattle.kept_journal.specs.State.{run}
+use Rattle.kept_journal.specs.View.{Memory, viewOf}
+use Rattle.kept_journal.proofs.Logged.{markedIn, logged-view}
+use Rattle.kept_journal.proofs.Indexed.{Indexed, Followed}
+use Rattle.kept_session.specs.declared.Reply.{Reply}
+use Rattle.kept_session.specs.declared.LookupTarget.{LookupTarget}
+use Rattle.kept_session.specs.declared.LookupTarget.the-variants.{Window, Notification, Cell, Desktop, Windows, Notifications}
+use Rattle.kept_session.specs.Calls.{look, nothing, picture, ids, refuse, grant, aPicture, payloadIn, found, answer, next, answerView, nextView}
+use Rattle.kept_session.specs.Outcome.{lookup, handed, layoutSize, payloadBytes, replyOf, answerWithin, outAfter, responseOf, CallOutcome}
+use Rattle.kept_session.specs.Targets.{inCaches, cellNumber, wantOf, listedIn, payloadHeld, validHeld}
+use Rattle.kept_session.proofs.Targets.{cell-inside}
+use Rattle.kept_session.proofs.Outcomes.{answer-in, next-in, refused-in, reply-in, stays}
 
 clash : {A : Type 0} → _≡_ {A = Bool} false true → A
 clash e = let z : _≡_ {A = ℕ} 0 1 = cc in absurd (omega arith)

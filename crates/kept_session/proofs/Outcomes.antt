@@ -6,14 +6,14 @@ use Prim.Native.Nat.{ℕ, _-_}
 use native.Mathlib.Omega.{arith}
 use borrow.Author.Tests.{ne-eqb}
 use Rattle.wire.specs.Parts.{splice}
-use Rattle.journal.specs.declared.JournalExtent.{JournalExtent}
-use Rattle.journal.specs.Limits.{logStart}
-use Rattle.journal.specs.State.{State}
-use Rattle.journal.specs.View.{Memory, Past, tooShort, wellFormed, meetsRule, short, unformed, formed, viewOf}
-use Rattle.journal.proofs.Logged.{Logged, markedIn, logged-view, logged-bytes}
-use Rattle.session.specs.declared.Reply.{Reply}
-use Rattle.session.specs.Calls.{Call, Payload, nothing, Answer, refuse, grant, isReset, answer, next, answerView, nextView}
-use Rattle.session.specs.Outcome.{Request, plain, Response, replied, handed, sizeFor, bytesFor, replyOf, answerWithin, outAfter, responseOf, CallOutcome}
+use Rattle.kept_journal.specs.declared.JournalExtent.{JournalExtent}
+use Rattle.kept_journal.specs.Limits.{logStart}
+use Rattle.kept_journal.specs.State.{State}
+use Rattle.kept_journal.specs.View.{Memory, Past, tooShort, wellFormed, meetsRule, short, unformed, formed, viewOf}
+use Rattle.kept_journal.proofs.Logged.{Logged, markedIn, logged-view, logged-bytes}
+use Rattle.kept_session.specs.declared.Reply.{Reply}
+use Rattle.kept_session.specs.Calls.{Call, Payload, nothing, Answer, refuse, grant, isReset, answer, next, answerView, nextView}
+use Rattle.kept_session.specs.Outcome.{Request, plain, Response, replied, handed, sizeFor, bytesFor, replyOf, answerWithin, outAfter, responseOf, CallOutcome}
 
 -- ---- a call that leaves the memory as it is
 

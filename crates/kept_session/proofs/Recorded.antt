@@ -9,19 +9,19 @@ use lib.Dec.{leb, ltb}
 use lib.ListN.{length}
 use borrow.Author.Tests.{leb-true, leb-false, lt-ltb, le-ltb}
 use Rattle.wire.specs.Parts.{splice}
-use Rattle.journal.specs.declared.JournalExtent.{JournalExtent}
-use Rattle.journal.specs.Limits.{logStart}
-use Rattle.journal.specs.Journal.{ordersFrom, endFrom}
-use Rattle.journal.specs.View.{Memory, viewOf}
-use Rattle.journal.proofs.Stored.{stored-reads}
-use Rattle.journal.proofs.Logged.{Logged, logged-view, logged-orders, logged-within, logged-low, logged-high}
-use Rattle.record.specs.Layout.{recordOf}
-use Rattle.record.specs.Writing.{Within, fitsIn, outAfter}
-use Rattle.session.specs.declared.Reply.{Reply}
-use Rattle.session.specs.Calls.{writeRecord, orders, refuse, grant, answer, next, answerView, nextView}
-use Rattle.session.specs.Outcome.{recordTo, handed, sessionRecord, replyOf, answerWithin, responseOf, CallOutcome}
-use Rattle.session.specs.Outcome as session
-use Rattle.session.proofs.Outcomes.{answer-in, next-in, reply-in, stays}
+use Rattle.kept_journal.specs.declared.JournalExtent.{JournalExtent}
+use Rattle.kept_journal.specs.Limits.{logStart}
+use Rattle.kept_journal.specs.Journal.{ordersFrom, endFrom}
+use Rattle.kept_journal.specs.View.{Memory, viewOf}
+use Rattle.kept_journal.proofs.Stored.{stored-reads}
+use Rattle.kept_journal.proofs.Logged.{Logged, logged-view, logged-orders, logged-within, logged-low, logged-high}
+use Rattle.kept_record.specs.Layout.{recordOf}
+use Rattle.kept_record.specs.Writing.{Within, fitsIn, outAfter}
+use Rattle.kept_session.specs.declared.Reply.{Reply}
+use Rattle.kept_session.specs.Calls.{writeRecord, orders, refuse, grant, answer, next, answerView, nextView}
+use Rattle.kept_session.specs.Outcome.{recordTo, handed, sessionRecord, replyOf, answerWithin, responseOf, CallOutcome}
+use Rattle.kept_session.specs.Outcome as session
+use Rattle.kept_session.proofs.Outcomes.{answer-in, next-in, reply-in, stays}
 
 module _ {m : Memory} {w : JournalExtent} {os : List (List ℕ)} (l : Logged m w os) where
   -- what writing asks

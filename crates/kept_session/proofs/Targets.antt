@@ -18,17 +18,17 @@ use Rattle.directory.specs.declared.Searched.{Searched}
 use Rattle.directory.specs.Slots.{isAt, firstFrom, searchFrom, filledAt}
 use Rattle.directory.proofs.Search.{search-found}
 use Rattle.directory.specs.Directory.{directoryOf}
-use Rattle.ids.specs.Ids.{listSize}
+use Rattle.kept_ids.specs.Ids.{listSize}
 use Rattle.body.specs.Bodies.{windowFields, notificationFields, desktopFields, bodyOk, fieldsOk}
 use Rattle.body.specs.Stores.{roomAll}
 use Rattle.cache.specs.Cells.{cellOk}
-use Rattle.table.specs.declared.Want.{Want}
-use Rattle.table.specs.declared.Want.the-variants as want
-use Rattle.table.specs.Follow.{roomFor}
-use Rattle.session.specs.declared.LookupTarget.{LookupTarget}
-use Rattle.session.specs.declared.LookupTarget.the-variants.{Window, Notification, Cell, Desktop, Windows, Notifications}
-use Rattle.session.specs.Outcome.{layoutSize, payloadBytes}
-use Rattle.session.specs.Targets.{inCaches, cellNumber, isFound, wantOf, listedIn, payloadHeld, validHeld}
+use Rattle.kept_table.specs.declared.Want.{Want}
+use Rattle.kept_table.specs.declared.Want.the-variants as want
+use Rattle.kept_table.specs.Follow.{roomFor}
+use Rattle.kept_session.specs.declared.LookupTarget.{LookupTarget}
+use Rattle.kept_session.specs.declared.LookupTarget.the-variants.{Window, Notification, Cell, Desktop, Windows, Notifications}
+use Rattle.kept_session.specs.Outcome.{layoutSize, payloadBytes}
+use Rattle.kept_session.specs.Targets.{inCaches, cellNumber, isFound, wantOf, listedIn, payloadHeld, validHeld}
 
 -- ---- the cell
 

@@ -2,7 +2,7 @@
 use mathlib.Core.Path.{_≡_}
 use Prim.Native.Nat.{_%_}
 use native.Mathlib.Omega.{arith}
-use Rattle.session.specs.Packed.{packedOf, Unpacks}
+use Rattle.kept_session.specs.Packed.{packedOf, Unpacks}
 
 pub unpacks : Unpacks
 unfolding Unpacks packedOf

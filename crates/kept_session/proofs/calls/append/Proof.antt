@@ -4,8 +4,8 @@ use Prim.Native.Nat.{ℕ, _+_}
 use Rattle.wire.specs.Numbers.{bytesOf}
 use Rattle.wire.specs.Parts.{splice}
 use borrow.Author.Needs.{needs}
-use Rattle.session.proofs.calls.append.Statement.{statement}
-use Rattle.session.proofs.calls.append.Tie as tie
+use Rattle.kept_session.proofs.calls.append.Statement.{statement}
+use Rattle.kept_session.proofs.calls.append.Tie as tie
 
 -- The order copied behind the others, then the count.
 pub append-spec : {M : Type 1} → statement M

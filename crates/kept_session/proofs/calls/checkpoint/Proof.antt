@@ -1,15 +1,15 @@
 use mathlib.Core.Path.{refl}
 use native.Mathlib.Omega.{arith}
 use denote.Ref.{now}
-use Rattle.journal.specs.View.{Memory, memory}
-use Rattle.journal.proofs.Indexed.{unmet, indexed}
-use Rattle.session.specs.Calls.{checkpoint}
-use Rattle.session.specs.Outcome.{plain}
-use Rattle.session.proofs.Outcomes.{refused-unmet}
-use Rattle.session.proofs.Changes.{apply-asks, checkpoint-granted}
+use Rattle.kept_journal.specs.View.{Memory, memory}
+use Rattle.kept_journal.proofs.Indexed.{unmet, indexed}
+use Rattle.kept_session.specs.Calls.{checkpoint}
+use Rattle.kept_session.specs.Outcome.{plain}
+use Rattle.kept_session.proofs.Outcomes.{refused-unmet}
+use Rattle.kept_session.proofs.Changes.{apply-asks, checkpoint-granted}
 use borrow.Author.Needs.{needs}
-use Rattle.session.proofs.calls.checkpoint.Statement.{statement}
-use Rattle.session.proofs.calls.checkpoint.Tie as tie
+use Rattle.kept_session.proofs.calls.checkpoint.Statement.{statement}
+use Rattle.kept_session.proofs.calls.checkpoint.Tie as tie
 
 -- 1 where the rule is not met; else the orders applied to the table at the mark, and none left.
 abbrev mem : tie.Start → Memory

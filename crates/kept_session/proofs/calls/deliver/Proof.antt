@@ -1,14 +1,14 @@
 use mathlib.Core.Path.{refl}
 use denote.Ref.{now}
-use Rattle.journal.specs.View.{Memory, memory}
-use Rattle.journal.proofs.Indexed.{unmet, indexed}
-use Rattle.session.specs.Calls.{deliver}
-use Rattle.session.specs.Outcome.{plain}
-use Rattle.session.proofs.Outcomes.{refused-unmet}
-use Rattle.session.proofs.Deliveries.{ready, delivery-refused, delivery-asks, delivery-granted}
+use Rattle.kept_journal.specs.View.{Memory, memory}
+use Rattle.kept_journal.proofs.Indexed.{unmet, indexed}
+use Rattle.kept_session.specs.Calls.{deliver}
+use Rattle.kept_session.specs.Outcome.{plain}
+use Rattle.kept_session.proofs.Outcomes.{refused-unmet}
+use Rattle.kept_session.proofs.Deliveries.{ready, delivery-refused, delivery-asks, delivery-granted}
 use borrow.Author.Needs.{needs}
-use Rattle.session.proofs.calls.deliver.Statement.{statement}
-use Rattle.session.proofs.calls.deliver.Tie as tie
+use Rattle.kept_session.proofs.calls.deliver.Statement.{statement}
+use Rattle.kept_session.proofs.calls.deliver.Tie as tie
 
 -- 1 where the rule is not met; else one delivery on what the validation established.
 abbrev mem : tie.Start → Memory

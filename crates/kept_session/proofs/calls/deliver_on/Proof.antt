@@ -1,9 +1,9 @@
 use native.Mathlib.Omega.{arith}
 use denote.Ref.{now}
-use Rattle.session.proofs.Deliveries.{on-refused, on-full, on-granted, room-has}
+use Rattle.kept_session.proofs.Deliveries.{on-refused, on-full, on-granted, room-has}
 use borrow.Author.Needs.{needs}
-use Rattle.session.proofs.calls.deliver_on.Statement.{statement}
-use Rattle.session.proofs.calls.deliver_on.Tie as tie
+use Rattle.kept_session.proofs.calls.deliver_on.Statement.{statement}
+use Rattle.kept_session.proofs.calls.deliver_on.Tie as tie
 
 -- The number of the plan; else 12; else the journal, index and extent with the order.
 pub deliver-on-spec : {M : Type 1} → statement M

@@ -2,15 +2,15 @@ use mathlib.Core.Path.{_≡_, refl, sym, _∙_}
 use mathlib.Core.Bool.{Bool}
 use native.Mathlib.Omega.{arith}
 use denote.Ref.{now}
-use Rattle.journal.specs.View.{Memory, memory, tooShort}
-use Rattle.journal.proofs.Logged.{long-has}
-use Rattle.session.specs.Calls.{reset}
-use Rattle.session.specs.Outcome.{plain}
-use Rattle.session.proofs.Outcomes.{refused-short}
-use Rattle.session.proofs.Changes.{reset-granted}
+use Rattle.kept_journal.specs.View.{Memory, memory, tooShort}
+use Rattle.kept_journal.proofs.Logged.{long-has}
+use Rattle.kept_session.specs.Calls.{reset}
+use Rattle.kept_session.specs.Outcome.{plain}
+use Rattle.kept_session.proofs.Outcomes.{refused-short}
+use Rattle.kept_session.proofs.Changes.{reset-granted}
 use borrow.Author.Needs.{needs}
-use Rattle.session.proofs.calls.reset.Statement.{statement}
-use Rattle.session.proofs.calls.reset.Tie as tie
+use Rattle.kept_session.proofs.calls.reset.Statement.{statement}
+use Rattle.kept_session.proofs.calls.reset.Tie as tie
 
 -- 1 for memory that is too short; else an emptied table and no orders.
 abbrev mem : tie.Start → Memory

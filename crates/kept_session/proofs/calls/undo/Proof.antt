@@ -2,15 +2,15 @@ use mathlib.Core.Path.{refl}
 use Prim.Native.Nat.{_-_}
 use native.Mathlib.Omega.{arith}
 use denote.Ref.{now}
-use Rattle.journal.specs.View.{Memory, memory}
-use Rattle.journal.proofs.Indexed.{unmet, indexed}
-use Rattle.session.specs.Calls.{undo}
-use Rattle.session.specs.Outcome.{plain}
-use Rattle.session.proofs.Outcomes.{refused-unmet}
-use Rattle.session.proofs.Changes.{end-asks, undo-refused, undo-asks, undo-granted}
+use Rattle.kept_journal.specs.View.{Memory, memory}
+use Rattle.kept_journal.proofs.Indexed.{unmet, indexed}
+use Rattle.kept_session.specs.Calls.{undo}
+use Rattle.kept_session.specs.Outcome.{plain}
+use Rattle.kept_session.proofs.Outcomes.{refused-unmet}
+use Rattle.kept_session.proofs.Changes.{end-asks, undo-refused, undo-asks, undo-granted}
 use borrow.Author.Needs.{needs}
-use Rattle.session.proofs.calls.undo.Statement.{statement}
-use Rattle.session.proofs.calls.undo.Tie as tie
+use Rattle.kept_session.proofs.calls.undo.Statement.{statement}
+use Rattle.kept_session.proofs.calls.undo.Tie as tie
 
 -- 1 where the rule is not met, 13 where fewer orders stand; else the count of the orders left.
 abbrev mem : tie.Start → Memory

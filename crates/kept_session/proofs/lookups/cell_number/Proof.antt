@@ -1,9 +1,9 @@
-use Rattle.session.proofs.Targets.{cell-outside, cell-inside}
+use Rattle.kept_session.proofs.Targets.{cell-outside, cell-inside}
 use borrow.Author.Tests.{not-true, not-false}
-use Rattle.session.specs.Targets.{inCaches}
+use Rattle.kept_session.specs.Targets.{inCaches}
 use borrow.Author.Needs.{needs}
-use Rattle.session.proofs.lookups.cell_number.Statement.{statement}
-use Rattle.session.proofs.lookups.cell_number.Tie as tie
+use Rattle.kept_session.proofs.lookups.cell_number.Statement.{statement}
+use Rattle.kept_session.proofs.lookups.cell_number.Tie as tie
 
 -- Outside the caches or within.
 pub cell-number-spec : {M : Type 1} → statement M

@@ -1,9 +1,9 @@
-use Rattle.session.proofs.Targets.{found-is}
+use Rattle.kept_session.proofs.Targets.{found-is}
 use Rattle.directory.specs.Slots.{isAt}
 use denote.Ref.{now}
 use borrow.Author.Needs.{needs}
-use Rattle.session.proofs.lookups.found.Statement.{statement}
-use Rattle.session.proofs.lookups.found.Tie as tie
+use Rattle.kept_session.proofs.lookups.found.Statement.{statement}
+use Rattle.kept_session.proofs.lookups.found.Tie as tie
 
 -- What the search answered.
 pub found-spec : {M : Type 1} → statement M

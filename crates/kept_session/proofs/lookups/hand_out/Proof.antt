@@ -1,10 +1,10 @@
 use denote.Ref.{now}
-use Rattle.session.specs.Outcome.{payloadBytes}
-use Rattle.session.specs.Targets.{payloadHeld}
-use Rattle.session.proofs.Targets.{hands-as, window-asks, notification-asks, picture-asks, desktop-asks, windows-asks, notifications-asks, handed-as}
+use Rattle.kept_session.specs.Outcome.{payloadBytes}
+use Rattle.kept_session.specs.Targets.{payloadHeld}
+use Rattle.kept_session.proofs.Targets.{hands-as, window-asks, notification-asks, picture-asks, desktop-asks, windows-asks, notifications-asks, handed-as}
 use borrow.Author.Needs.{needs}
-use Rattle.session.proofs.lookups.hand_out.Statement.{statement}
-use Rattle.session.proofs.lookups.hand_out.Tie as tie
+use Rattle.kept_session.proofs.lookups.hand_out.Statement.{statement}
+use Rattle.kept_session.proofs.lookups.hand_out.Tie as tie
 
 -- The layout of the target's kind.
 pub hand-out-spec : {M : Type 1} → statement M

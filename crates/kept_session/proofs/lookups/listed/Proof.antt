@@ -1,8 +1,8 @@
 use denote.Ref.{now}
-use Rattle.session.proofs.Targets.{listed-as, window-listed, notification-listed, cell-listed, desktop-listed, windows-listed, notifications-listed}
+use Rattle.kept_session.proofs.Targets.{listed-as, window-listed, notification-listed, cell-listed, desktop-listed, windows-listed, notifications-listed}
 use borrow.Author.Needs.{needs}
-use Rattle.session.proofs.lookups.listed.Statement.{statement}
-use Rattle.session.proofs.lookups.listed.Tie as tie
+use Rattle.kept_session.proofs.lookups.listed.Statement.{statement}
+use Rattle.kept_session.proofs.lookups.listed.Tie as tie
 
 -- By the kind of the target.
 pub listed-spec : {M : Type 1} → statement M

@@ -1,9 +1,9 @@
 use mathlib.Core.Path.{refl}
-use Rattle.session.specs.Targets.{wantOf}
-use Rattle.session.proofs.Targets.{room-as}
+use Rattle.kept_session.specs.Targets.{wantOf}
+use Rattle.kept_session.proofs.Targets.{room-as}
 use borrow.Author.Needs.{needs}
-use Rattle.session.proofs.lookups.look.Statement.{statement}
-use Rattle.session.proofs.lookups.look.Tie as tie
+use Rattle.kept_session.proofs.lookups.look.Statement.{statement}
+use Rattle.kept_session.proofs.lookups.look.Tie as tie
 
 -- A memory of the size of the target's kind.
 pub look-spec : {M : Type 1} → statement M

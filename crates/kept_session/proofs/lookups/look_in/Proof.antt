@@ -3,19 +3,19 @@ use native.Mathlib.Omega.{arith}
 use lib.ListN.{replicate}
 use denote.Ref.{now}
 use borrow.Author.Tests.{not-true, not-false}
-use Rattle.table.specs.Follow.{roomFor}
-use Rattle.journal.specs.View.{Memory, memory}
-use Rattle.journal.proofs.Logged.{logged-low, logged-high}
-use Rattle.journal.specs.Limits.{indexLength}
-use Rattle.journal.specs.Replay.{Validation}
-use Rattle.journal.proofs.Indexed.{validated-as, unmet, indexed, followed}
-use Rattle.session.specs.Outcome.{lookup}
-use Rattle.session.proofs.Outcomes.{refused-unmet}
-use Rattle.session.specs.Targets.{wantOf}
-use Rattle.session.proofs.Found.{look-absent, look-valid, look-small, look-found}
+use Rattle.kept_table.specs.Follow.{roomFor}
+use Rattle.kept_journal.specs.View.{Memory, memory}
+use Rattle.kept_journal.proofs.Logged.{logged-low, logged-high}
+use Rattle.kept_journal.specs.Limits.{indexLength}
+use Rattle.kept_journal.specs.Replay.{Validation}
+use Rattle.kept_journal.proofs.Indexed.{validated-as, unmet, indexed, followed}
+use Rattle.kept_session.specs.Outcome.{lookup}
+use Rattle.kept_session.proofs.Outcomes.{refused-unmet}
+use Rattle.kept_session.specs.Targets.{wantOf}
+use Rattle.kept_session.proofs.Found.{look-absent, look-valid, look-small, look-found}
 use borrow.Author.Needs.{needs}
-use Rattle.session.proofs.lookups.look_in.Statement.{statement}
-use Rattle.session.proofs.lookups.look_in.Tie as tie
+use Rattle.kept_session.proofs.lookups.look_in.Statement.{statement}
+use Rattle.kept_session.proofs.lookups.look_in.Tie as tie
 
 -- 1 where the rule is not met, 9 where the index does not list the target, 14 where the output is too small; else what m holds.
 abbrev mem : tie.Start → Memory

@@ -1,8 +1,8 @@
 use mathlib.Core.Path.{sym, ap}
-use Rattle.session.specs.Outcome.{layoutSize}
+use Rattle.kept_session.specs.Outcome.{layoutSize}
 use borrow.Author.Needs.{needs}
-use Rattle.session.proofs.lookups.size_of.Statement.{statement}
-use Rattle.session.proofs.lookups.size_of.Tie as tie
+use Rattle.kept_session.proofs.lookups.size_of.Statement.{statement}
+use Rattle.kept_session.proofs.lookups.size_of.Tie as tie
 
 -- By the kind of the target.
 pub size-of-spec : {M : Type 1} → statement M

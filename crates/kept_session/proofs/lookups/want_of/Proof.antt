@@ -1,9 +1,9 @@
 use mathlib.Core.Path.{refl}
-use Rattle.session.specs.Targets.{wantOf}
-use Rattle.session.proofs.Targets.{wanted-as, cell-wanted}
+use Rattle.kept_session.specs.Targets.{wantOf}
+use Rattle.kept_session.proofs.Targets.{wanted-as, cell-wanted}
 use borrow.Author.Needs.{needs}
-use Rattle.session.proofs.lookups.want_of.Statement.{statement}
-use Rattle.session.proofs.lookups.want_of.Tie as tie
+use Rattle.kept_session.proofs.lookups.want_of.Statement.{statement}
+use Rattle.kept_session.proofs.lookups.want_of.Tie as tie
 
 -- By the kind of the target.
 pub want-of-spec : {M : Type 1} → statement M

@@ -1,15 +1,15 @@
 use mathlib.Core.Path.{refl}
 use denote.Ref.{now}
 use borrow.Author.Tests.{not-true, not-false}
-use Rattle.journal.specs.View.{Memory, memory}
-use Rattle.journal.proofs.Indexed.{unmet, indexed}
-use Rattle.journal.proofs.Logged.{logged-low, logged-high}
-use Rattle.session.specs.Outcome.{recordTo}
-use Rattle.session.proofs.Outcomes.{refused-unmet}
-use Rattle.session.proofs.Recorded.{record-asks, record-small, record-written}
+use Rattle.kept_journal.specs.View.{Memory, memory}
+use Rattle.kept_journal.proofs.Indexed.{unmet, indexed}
+use Rattle.kept_journal.proofs.Logged.{logged-low, logged-high}
+use Rattle.kept_session.specs.Outcome.{recordTo}
+use Rattle.kept_session.proofs.Outcomes.{refused-unmet}
+use Rattle.kept_session.proofs.Recorded.{record-asks, record-small, record-written}
 use borrow.Author.Needs.{needs}
-use Rattle.session.proofs.records.write.Statement.{statement}
-use Rattle.session.proofs.records.write.Tie as tie
+use Rattle.kept_session.proofs.records.write.Statement.{statement}
+use Rattle.kept_session.proofs.records.write.Tie as tie
 
 -- 1 where the rule is not met, 14 where the output is too small; else the record of the orders that the journal holds.
 abbrev mem : tie.Start → Memory
