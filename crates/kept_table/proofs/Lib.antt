@@ -3,3 +3,4 @@ pub mod Able
 pub mod Decoded
 pub mod Past
 pub mod Shown
+pub mod Promises
