@@ -4,10 +4,10 @@ use mathlib.Core.Bool.{true, false}
 use Prim.Native.Nat.{_≤_}
 use native.Mathlib.Omega.{arith}
 use lib.ListN.{length}
-use Rattle.journal.specs.Limits.{mostOrders, mostBytes}
-use Rattle.journal.specs.State.{bytesIn, allAccepted}
-use Rattle.journal.specs.View.{Memory, tooShort, wellFormed, stateOf}
-use Rattle.journal.proofs.Logged.{formed-logged, logged-bytes, logged-high}
+use Rattle.kept_journal.specs.Limits.{mostOrders, mostBytes}
+use Rattle.kept_journal.specs.State.{bytesIn, allAccepted}
+use Rattle.kept_journal.specs.View.{Memory, tooShort, wellFormed, stateOf}
+use Rattle.kept_journal.proofs.Logged.{formed-logged, logged-bytes, logged-high}
 
 pub record Fits (m : Memory) : Type 0 where
   pub accepted : allAccepted (stateOf m .marked) (stateOf m .log) ≡ true

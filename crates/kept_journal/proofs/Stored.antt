@@ -13,11 +13,11 @@ use Rattle.wire.specs.Numbers.{numAt, bytesOf}
 use Rattle.wire.specs.Parts.{slice, splice}
 use Rattle.wire.proofs.Numbers.{num-cong, num-in, num-put, length-bytes, fits2}
 use Rattle.wire.proofs.Parts.{length-slice, length-splice, slice-splice, slice-splice-before, slice-splice-after}
-use Rattle.table.specs.Table.{Table, after}
-use Rattle.journal.specs.Limits.{logStart, journalLength}
-use Rattle.journal.specs.State.{bytesIn, allAccepted}
-use Rattle.journal.specs.Journal.{countOf, sizeAt, orderAt, ordersFrom, endFrom, withinFrom}
-use Rattle.journal.proofs.Runs.{accepted-order, accepted-first, accepted-rest}
+use Rattle.kept_table.specs.Table.{Table, after}
+use Rattle.kept_journal.specs.Limits.{logStart, journalLength}
+use Rattle.kept_journal.specs.State.{bytesIn, allAccepted}
+use Rattle.kept_journal.specs.Journal.{countOf, sizeAt, orderAt, ordersFrom, endFrom, withinFrom}
+use Rattle.kept_journal.proofs.Runs.{accepted-order, accepted-first, accepted-rest}
 
 -- the orders os stand in j from index p to index e: each declares its own length, and ends within the room
 pub data Stored (j : List ℕ) : ℕ → List (List ℕ) → ℕ → Type 0 where

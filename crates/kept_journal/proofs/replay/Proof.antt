@@ -3,9 +3,9 @@ use Prim.Native.Nat.{_-_}
 use denote.Ref.{now}
 use borrow.Author.Needs.{needs}
 use Rattle.wire.proofs.Numbers.{Bytes}
-use Rattle.journal.proofs.LoopInvariants.{ReplayInv, replay-start, replay-cut, replay-refused, replay-next, replay-end}
-use Rattle.journal.proofs.replay.Statement.{statement}
-use Rattle.journal.proofs.replay.Tie as tie
+use Rattle.kept_journal.proofs.LoopInvariants.{ReplayInv, replay-start, replay-cut, replay-refused, replay-next, replay-end}
+use Rattle.kept_journal.proofs.replay.Statement.{statement}
+use Rattle.kept_journal.proofs.replay.Tie as tie
 
 -- The replay of the orders left, from the memories so far, is the replay of all of them from the first memories.
 abbrev Inv-loop : tie.InvT-loop
@@ -47,6 +47,7 @@ replay-spec =
     let f = c .before .before in
     let w = f .before .before .before in
     omega (arith, w .loop .inv .high, f .if1 .left, start (w .before) .pre .2))
+    (λ c. omega (arith, c .before .before .before .before .before .before .loop .inv .high))  -- cast-replay-order
     (λ c κs. let w = c .before .before .before .before .before .before in (w .loop .inv .sound, w .loop .inv .room))  -- replay-order-requires
     (λ c. search needs)
     (λ c. search needs)
