@@ -18,7 +18,6 @@ use Rattle.places.specs.declared.Family.{Family}
 use Rattle.places.specs.declared.Found.{Found}
 use Rattle.places.specs.Counts.{onFound}
 use Rattle.places.specs.Memory.{placesOf, pointerAt, shownOf, shown}
-use Rattle.places.specs.Keyed.{keyed}
 use Rattle.places.specs.Holder.{Holder, numberOf}
 use Rattle.places.proofs.Counting.{count-cong, first-cong}
 use Rattle.places.proofs.Validity.{valid-has, valid-is}

@@ -20,7 +20,7 @@ use Rattle.kept_follow.specs.declared.Want.{Want}
 use Rattle.kept_follow.specs.Follow.{heldOrigins, originAt, Holds}
 use Rattle.kept_journal.specs.declared.JournalExtent.{JournalExtent}
 use Rattle.kept_journal.specs.Limits.{journalLength}
-use Rattle.kept_journal.specs.State.{present, run}
+use Rattle.kept_journal.specs.State.{run}
 use Rattle.kept_journal.specs.Journal.{sizeAt, logOf}
 use Rattle.kept_journal.specs.View.{Memory, meetsRule, stateOf}
 use Rattle.kept_journal.specs.Replay.{indexAfter, extentOf, markedPictures, sincePictures, headIsOk, Validation}

@@ -6,20 +6,17 @@ use Prim.Native.Nat.{ℕ, _≤_}
 use native.Mathlib.Omega.{arith}
 use lib.Dec.{eqb, ltb}
 use lib.ListN.{length}
-use borrow.Author.Tests.{not-true, not-false, ne-eqb}
+use borrow.Author.Tests.{not-true, ne-eqb}
 use Rattle.wire.specs.Tests.{pick, both}
 use Rattle.wire.specs.Parts.{slice, splice}
 use Rattle.wire.proofs.Numbers.{Bytes}
 use Rattle.places.specs.Memory.{placesOf}
-use Rattle.places.specs.declared.Family.the-variants.{Windows, Notifications}
-use Rattle.places.specs.Sizes.{holderCount}
-use Rattle.places.specs.Counts.{eachBelow}
 use Rattle.index.specs.Families.{indexLength}
 use Rattle.index.specs.Memory.{indexOf}
 use Rattle.index.specs.Sound.{soundIndex}
-use Rattle.body.specs.Bodies.{desktopFields, slotOf, bodyOk}
 use Rattle.store.specs.Store.{placesIn}
-use Rattle.kept_table.specs.Memory.{bodiesLength, decode, recordsOk, holderOk, soundTable}
+use Rattle.kept_table.specs.Memory.{decode, soundTable}
+use Rattle.kept_table.proofs.Rule.{table-has}
 use Rattle.kept_follow.specs.declared.Want.{Want}
 use Rattle.kept_follow.specs.declared.Want.the-variants.{Nothing}
 use Rattle.kept_follow.specs.Follow.{roomFor, beginOf}
@@ -106,24 +103,6 @@ not-validated want x b lent j d f e store same =
 
 -- ---- the memories that the replay begins with
 
--- a table has an index
-table-index : (x b : List ℕ) (lent : ℕ) → soundTable x b lent ≡ true → soundIndex x ≡ true
-unfolding soundTable
-table-index x b lent e = go (ltb (length b) bodiesLength) (soundIndex x) refl e
-  where
-    rest : Bool
-    rest =
-        pick (ltb lent (placesOf x)) false
-        (pick (not (recordsOk Windows x b)) false
-        (pick (not (recordsOk Notifications x b)) false
-        (pick (not (bodyOk desktopFields 1 1 (slotOf b 48))) false
-        (eachBelow holderCount (holderOk x b)))))
-
-    go : (t u : Bool) → soundIndex x ≡ u → pick t false (pick (not u) false rest) ≡ true → soundIndex x ≡ true
-    go true u y e = no e
-    go false false y e = no e
-    go false true y e = y
-
 module _ (want : Want) (x b : List ℕ) (lent : ℕ) (j d f : List ℕ) (room : length d ≡ indexLength) (place : length f ≡ roomFor want)
     (has : Replayable x b lent j) where
   abbrev pub copyOf : List ℕ
@@ -133,7 +112,7 @@ module _ (want : Want) (x b : List ℕ) (lent : ℕ) (j d f : List ℕ) (room : 
   begun = beginOf want x b f
 
   pub copy-sound : soundIndex copyOf ≡ true
-  copy-sound = copied-sound d x room (has .long .index) (table-index x b lent (has .sound))
+  copy-sound = copied-sound d x room (has .long .index) (table-has x b lent (has .sound) .index)
 
   pub begun-length : length begun ≡ roomFor want
   begun-length = begin-length want x b lent f (has .sound) place
@@ -162,10 +141,10 @@ module _ (want : Want) (m : Memory) (bytes : Bytes (m .journal)) (d f : List ℕ
   first =
       let long = has .long .index in
       record {
-        sound = copied-sound d (m .index) room long (table-index (m .index) (m .bodies) (placesIn (m .store)) (has .sound));
+        sound = copy-sound want (m .index) (m .bodies) (placesIn (m .store)) (m .journal) d f room place has;
         index = copied-index d (m .index) room long ∙ decode-index (m .index) (m .bodies) (m .store);
         lent = copied-places d (m .index) room long;
-        room = begin-length want (m .index) (m .bodies) (placesIn (m .store)) f (has .sound) place;
+        room = begun-length want (m .index) (m .bodies) (placesIn (m .store)) (m .journal) d f room place has;
         holds =
             copied-holds d (m .index) room long want (markedIn m) start (markedPictures m) (sincePictures m) (headIsOk m)
             (begin-holds want (m .index) (m .bodies) (m .store) (placesIn (m .store)) f (sincePictures m) (has .sound) place);
