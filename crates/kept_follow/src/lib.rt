@@ -10,9 +10,9 @@ ghost use Rattle.kept_table.specs.Memory.{bodiesLength};
 ghost use Rattle.index.specs.Slots as slots;
 ghost use Rattle.kept_table.specs.Changes.{Able, Follows};
 ghost use Rattle.kept_follow.specs.Follow.{originsLength, roomFor, beginRecord, beginOf, isFor, slotFollowed, originsFollowed, recordFollowed, picturesFollowed, desktopFollowed, followedOf};
-use kept_table::changes;
 use index::Change;
 use index::Plan;
+use kept_table::changes;
 use places::Family;
 use places::Found;
 use protocol::NotifyIconId;
@@ -166,9 +166,7 @@ pub fn follow(m: &mut [u8], s: &[u8], p: Plan, q: u16, want: Want)
     ensures { λ _. ⌜ now (m .exit) ≡ followedOf want q (now (s .entry)) p (now (m .entry)) ⌝ }
 {
     match want {
-        Want::Window(w) => {
-            follow_record(m, s, p, q, Family::Windows, w, NotifyIconId { id: 0 })
-        }
+        Want::Window(w) => { follow_record(m, s, p, q, Family::Windows, w, NotifyIconId { id: 0 }) }
         Want::Notification(w, n) => follow_record(m, s, p, q, Family::Notifications, w, n),
         Want::Pictures => follow_pictures(m, s, p, q),
         Want::Desktop => follow_desktop(m, s, p),

@@ -1,0 +1,5 @@
+pub mod Origins
+pub mod Pictured
+pub mod Recorded
+pub mod Begun
+pub mod Following
