@@ -5,3 +5,10 @@ pub mod Past
 pub mod Shown
 pub mod Rule
 pub mod Promises
+pub mod Bodied
+pub mod Heads
+pub mod Pointed
+pub mod Changed
+pub mod Joined
+pub mod Sounded
+pub mod Delivered
