@@ -1,0 +1,4 @@
+pub mod ViewsRead
+pub mod ViewsRecords
+pub mod ViewsLossless
+pub mod PicturesLossless

@@ -1,0 +1,172 @@
+-- Each record is the view of the body in its bytes: every part is read from the place of its field. Assumes nothing.
+use mathlib.Core.Path.{_≡_, refl, sym, ap, _∙_}
+use mathlib.Core.Bool.{Bool, true, false}
+use mathlib.Core.List.{List}
+use Prim.Native.Nat.{ℕ, _+_}
+use native.Mathlib.Omega.{arith}
+use lib.Dec.{eqb}
+use lib.ListN.{getD, drop, replicate}
+use Rattle.wire.specs.Numbers.{numAt}
+use Rattle.wire.specs.Parts.{slice, splice, padded}
+use Rattle.protocol.specs.declared.WindowId.{WindowId}
+use Rattle.order.specs.declared.Row.{Row}
+use Rattle.order.specs.Rows.{noRow, numbersRow, textRow, rectanglesRow, idsRow}
+use Rattle.order.specs.Icons.{tabled}
+use Rattle.body.specs.Bodies.{Body, windowFields, notificationFields, desktopFields, fieldsOf, bodyOf}
+use Rattle.layout.specs.Layouts.{fieldAt}
+use Rattle.kept_view.specs.declared.Point.{Point}
+use Rattle.kept_view.specs.declared.Pair.{Pair}
+use Rattle.kept_view.specs.declared.Text.{Text}
+use Rattle.kept_view.specs.declared.Rectangles.{Rectangles}
+use Rattle.kept_view.specs.declared.Stack.{Stack}
+use Rattle.kept_view.specs.Views.{windowId, pointOf, pairOf, textOf, rectanglesOf, stackOf, isMarked, fieldOf, windowOf, notificationOf, desktopOf, pictureView}
+use Rattle.kept_view.proofs.ViewsRead.{num-field, num-start, numbers-flag, text-flag, rectangles-flag, ids-flag, content-is}
+
+-- a mark that is read
+marked : {p : Bool} {v w : ℕ} → p ≡ isMarked v → v ≡ w → p ≡ isMarked w
+marked e f = e ∙ ap isMarked f
+
+-- ---- a window
+
+-- by the parts of a body
+window-parts : (b : Body) {owner : WindowId} {style extended show : ℕ} {title : Text} {offset : Point} {size : Pair} {content : ℕ} {root : WindowId} {place delta : Point} {whole : Pair} {rects : Rectangles} {visible : Point} {shown : Rectangles}
+    {small big : Bool}
+    → owner ≡ windowId (numAt 4 (fieldOf b 0) 0) → style ≡ numAt 4 (fieldOf b 1) 0 → extended ≡ numAt 4 (fieldOf b 1) 4 → show ≡ numAt 1 (fieldOf b 2) 0 → title ≡ textOf (fieldOf b 3)
+    → offset ≡ pointOf (fieldOf b 4) → size ≡ pairOf (fieldOf b 5) → content ≡ numAt 1 (fieldOf b 6) 0 → root ≡ windowId (numAt 4 (fieldOf b 7) 0) → place ≡ pointOf (fieldOf b 8)
+    → delta ≡ pointOf (fieldOf b 9) → whole ≡ pairOf (fieldOf b 10) → rects ≡ rectanglesOf (fieldOf b 11) → visible ≡ pointOf (fieldOf b 12) → shown ≡ rectanglesOf (fieldOf b 13)
+    → small ≡ isMarked (b .first) → big ≡ isMarked (b .second)
+    → record {
+      owner = owner;
+      style = style;
+      «extended_style» = extended;
+      «show_state» = show;
+      title = title;
+      «client_offset» = offset;
+      «client_size» = size;
+      «rp_content» = content;
+      «root_parent» = root;
+      «window_offset» = place;
+      «client_delta» = delta;
+      «window_size» = whole;
+      «window_rects» = rects;
+      «visible_offset» = visible;
+      «visibility_rects» = shown;
+      small = small;
+      big = big;
+    } ≡ windowOf b
+unfolding windowOf
+window-parts b e0 e1 e2 e3 e4 e5 e6 e7 e8 e9 e10 e11 e12 e13 e14 e15 e16 = rw (e0, e1, e2, e3, e4, e5, e6, e7, e8, e9, e10, e11, e12, e13, e14, e15, e16)
+
+module _ (s : List ℕ) where
+  pub window-is : {owner : WindowId} {style extended show : ℕ} {title : Text} {offset : Point} {size : Pair} {content : ℕ} {root : WindowId} {place delta : Point} {whole : Pair} {rects : Rectangles}
+      {visible : Point} {shown : Rectangles} {v w : ℕ} {small big : Bool}
+      → title ≡ textOf (fieldAt (textRow 0 520) s 15) → offset ≡ pointOf (fieldAt (numbersRow 0 8) s 537) → size ≡ pairOf (fieldAt (numbersRow 0 8) s 545)
+      → place ≡ pointOf (fieldAt (numbersRow 0 8) s 558) → delta ≡ pointOf (fieldAt (numbersRow 0 8) s 566) → whole ≡ pairOf (fieldAt (numbersRow 0 8) s 574)
+      → rects ≡ rectanglesOf (fieldAt (rectanglesRow 0) s 582) → visible ≡ pointOf (fieldAt (numbersRow 0 8) s 712) → shown ≡ rectanglesOf (fieldAt (rectanglesRow 0) s 720)
+      → v ≡ numAt 1 s 0 → small ≡ isMarked v → w ≡ numAt 1 s 1 → big ≡ isMarked w → owner ≡ windowId (numAt 4 s 2) → root ≡ windowId (numAt 4 s 554)
+      → style ≡ numAt 4 s 6 → extended ≡ numAt 4 s 10 → show ≡ numAt 1 s 14 → content ≡ numAt 1 s 553
+      → record {
+        owner = owner;
+        style = style;
+        «extended_style» = extended;
+        «show_state» = show;
+        title = title;
+        «client_offset» = offset;
+        «client_size» = size;
+        «rp_content» = content;
+        «root_parent» = root;
+        «window_offset» = place;
+        «client_delta» = delta;
+        «window_size» = whole;
+        «window_rects» = rects;
+        «visible_offset» = visible;
+        «visibility_rects» = shown;
+        small = small;
+        big = big;
+      } ≡ windowOf (bodyOf windowFields s)
+  unfolding bodyOf fieldsOf
+  window-is title offset size place delta whole rects visible shown v small w big owner root style extended show content =
+      let r : ℕ → Row = λ k. getD windowFields k noRow in
+      window-parts (bodyOf windowFields s)
+      (owner ∙ ap windowId (num-start (r 0) s 2 4 (omega arith) (omega arith)))
+      (style ∙ num-start (r 1) s 6 4 (omega arith) (omega arith))
+      (extended ∙ num-field (r 1) s 6 4 4 (omega arith) (omega arith))
+      (show ∙ num-start (r 2) s 14 1 (omega arith) (omega arith))
+      (title ∙ ap textOf (text-flag 0x00000004 520 s 15))
+      (offset ∙ ap pointOf (numbers-flag 0x00004000 8 s 537))
+      (size ∙ ap pairOf (numbers-flag 0x00010000 8 s 545))
+      (content ∙ num-start (r 6) s 553 1 (omega arith) (omega arith))
+      (root ∙ ap windowId (num-start (r 7) s 554 4 (omega arith) (omega arith)))
+      (place ∙ ap pointOf (numbers-flag 0x00000800 8 s 558))
+      (delta ∙ ap pointOf (numbers-flag 0x00008000 8 s 566))
+      (whole ∙ ap pairOf (numbers-flag 0x00000400 8 s 574))
+      (rects ∙ ap rectanglesOf (rectangles-flag 0x00000100 s 582))
+      (visible ∙ ap pointOf (numbers-flag 0x00001000 8 s 712))
+      (shown ∙ ap rectanglesOf (rectangles-flag 0x00000200 s 720))
+      (marked small v)
+      (marked big w)
+
+-- ---- a notification icon
+
+notification-parts : (b : Body) {version : ℕ} {tip : Text} {timeout flags : ℕ} {text title : Text} {state : ℕ} {icon : Bool}
+    → version ≡ numAt 4 (fieldOf b 0) 0 → tip ≡ textOf (fieldOf b 1) → timeout ≡ numAt 4 (fieldOf b 2) 0 → flags ≡ numAt 4 (fieldOf b 2) 4 → text ≡ textOf (fieldOf b 3)
+    → title ≡ textOf (fieldOf b 4) → state ≡ numAt 4 (fieldOf b 5) 0 → icon ≡ isMarked (b .first)
+    → record { version = version; tip = tip; timeout = timeout; flags = flags; text = text; title = title; state = state; icon = icon } ≡ notificationOf b
+unfolding notificationOf
+notification-parts b e0 e1 e2 e3 e4 e5 e6 e7 = rw (e0, e1, e2, e3, e4, e5, e6, e7)
+
+module _ (s : List ℕ) where
+  pub notification-is : {version : ℕ} {tip : Text} {timeout flags : ℕ} {text title : Text} {state v : ℕ} {icon : Bool}
+      → tip ≡ textOf (fieldAt (textRow 0 256) s 6) → text ≡ textOf (fieldAt (textRow 0 510) s 272) → title ≡ textOf (fieldAt (textRow 0 126) s 784)
+      → v ≡ numAt 1 s 0 → icon ≡ isMarked v → version ≡ numAt 4 s 2 → timeout ≡ numAt 4 s 264 → flags ≡ numAt 4 s 268 → state ≡ numAt 4 s 912
+      → record { version = version; tip = tip; timeout = timeout; flags = flags; text = text; title = title; state = state; icon = icon } ≡ notificationOf (bodyOf notificationFields s)
+  unfolding bodyOf fieldsOf
+  notification-is tip text title v icon version timeout flags state =
+      let r : ℕ → Row = λ k. getD notificationFields k noRow in
+      notification-parts (bodyOf notificationFields s)
+      (version ∙ num-start (r 0) s 2 4 (omega arith) (omega arith))
+      (tip ∙ ap textOf (text-flag 0x00000001 256 s 6))
+      (timeout ∙ num-start (r 2) s 264 4 (omega arith) (omega arith))
+      (flags ∙ num-field (r 2) s 264 4 4 (omega arith) (omega arith))
+      (text ∙ ap textOf (text-flag 0x00000002 510 s 272))
+      (title ∙ ap textOf (text-flag 0x00000002 126 s 784))
+      (state ∙ num-start (r 5) s 912 4 (omega arith) (omega arith))
+      (marked icon v)
+
+-- ---- the desktop
+
+desktop-parts : (b : Body) {active : WindowId} {hooked syncing : Bool} {stack : Stack}
+    → active ≡ windowId (numAt 4 (fieldOf b 0) 0) → hooked ≡ eqb (b .first) 1 → syncing ≡ eqb (b .second) 1 → stack ≡ stackOf (fieldOf b 1)
+    → record { active = active; hooked = hooked; syncing = syncing; stack = stack } ≡ desktopOf b
+unfolding desktopOf
+desktop-parts b e0 e1 e2 e3 = rw (e0, e1, e2, e3)
+
+module _ (s : List ℕ) where
+  pub desktop-is : {active : WindowId} {a b : ℕ} {stack : Stack} → stack ≡ stackOf (fieldAt (idsRow 0) s 6) → active ≡ windowId (numAt 4 s 2) → a ≡ numAt 1 s 0 → b ≡ numAt 1 s 1
+      → record { active = active; hooked = eqb a 1; syncing = eqb b 1; stack = stack } ≡ desktopOf (bodyOf desktopFields s)
+  unfolding bodyOf fieldsOf
+  desktop-is stack active a b =
+      let r : ℕ → Row = λ k. getD desktopFields k noRow in
+      desktop-parts (bodyOf desktopFields s)
+      (active ∙ ap windowId (num-start (r 0) s 2 4 (omega arith) (omega arith)))
+      (ap (λ (n : ℕ). eqb n 1) a)
+      (ap (λ (n : ℕ). eqb n 1) b)
+      (stack ∙ ap stackOf (ids-flag 0x00000010 s 6))
+
+-- ---- a picture
+
+module _ (s : List ℕ) {bits width height first second : ℕ} (a : bits ≡ numAt 1 s 0) (b : width ≡ numAt 2 s 1) (c : height ≡ numAt 2 s 3)
+    (d : first ≡ numAt 2 s 5) (e : second ≡ numAt 2 s 7) where
+  pub tabled-is : {third : ℕ} {bytes : List ℕ} → tabled bits ≡ true → third ≡ numAt 2 s 9 → bytes ≡ splice (replicate 4224 0) 0 (slice s 11 4224)
+      → record { bits = bits; width = width; height = height; mask = second; table = first; color = third; bytes = bytes } ≡ pictureView s
+  unfolding pictureView
+  tabled-is t f g =
+      let u : tabled (numAt 1 s 0) ≡ true = ap (λ (n : ℕ). tabled n) (sym a) ∙ t in
+      rw (u, a, b, c, d, e, f, content-is s 11 g)
+
+  pub untabled-is : {bytes : List ℕ} → tabled bits ≡ false → bytes ≡ splice (replicate 4224 0) 0 (slice s 9 4224)
+      → record { bits = bits; width = width; height = height; mask = first; table = 0; color = second; bytes = bytes } ≡ pictureView s
+  unfolding pictureView
+  untabled-is t g =
+      let u : tabled (numAt 1 s 0) ≡ false = ap (λ (n : ℕ). tabled n) (sym a) ∙ t in
+      rw (u, a, b, c, d, e, content-is s 9 g)
