@@ -1,4 +1,3 @@
-pub mod Stubs
 pub mod Runs
 pub mod Stored
 pub mod Logged

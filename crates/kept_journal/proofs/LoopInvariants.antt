@@ -26,11 +26,11 @@ use Rattle.kept_table.proofs.Able.{plan-follows}
 use Rattle.kept_table.proofs.Past.{same-past, past-past, same-store, store-store}
 use Rattle.kept_follow.specs.declared.Want.{Want}
 use Rattle.kept_follow.specs.Follow.{roomFor, followedOf}
+use Rattle.kept_follow.proofs.Following.{follow-length}
 use Rattle.kept_journal.specs.Limits.{journalLength, logStart}
 use Rattle.kept_journal.specs.State.{run}
 use Rattle.kept_journal.specs.Journal.{sizeAt, orderAt, ordersFrom, endFrom, withinFrom}
 use Rattle.kept_journal.specs.Replay.{indexAfter, followedAfter, replayFrom, stopped, Replayed, Applied}
-use Rattle.kept_journal.proofs.Stubs.{follow-length}
 use Rattle.kept_journal.proofs.Stored.{fails}
 
 -- ---- orders left

@@ -21,11 +21,11 @@ use Rattle.kept_table.specs.Promises.{IndexAlone}
 use Rattle.kept_table.proofs.Decoded.{index-alone, places-kept}
 use Rattle.kept_follow.specs.declared.Want.{Want}
 use Rattle.kept_follow.specs.Follow.{roomFor, heldOrigins, originAt, carriedBy, Holds}
+use Rattle.kept_follow.proofs.Following.{follow-holds, follow-length, follow-origins}
 use Rattle.kept_journal.specs.Limits.{journalLength}
 use Rattle.kept_journal.specs.State.{run, allAccepted}
 use Rattle.kept_journal.specs.Journal.{sizeAt, orderAt, ordersFrom, endFrom, withinFrom}
 use Rattle.kept_journal.specs.Replay.{indexAfter, followedAfter, Replay, replayFrom}
-use Rattle.kept_journal.proofs.Stubs.{follow-holds, follow-length, follow-origins}
 
 -- ---- one order, on an index of a table
 

@@ -20,13 +20,13 @@ use Rattle.kept_table.proofs.Rule.{table-has}
 use Rattle.kept_follow.specs.declared.Want.{Want}
 use Rattle.kept_follow.specs.declared.Want.the-variants.{Nothing}
 use Rattle.kept_follow.specs.Follow.{roomFor, beginOf}
+use Rattle.kept_follow.proofs.Following.{begin-holds, begin-length, begin-origins}
 use Rattle.kept_journal.specs.declared.JournalExtent.{JournalExtent}
 use Rattle.kept_journal.specs.Limits.{mostOrders, logStart}
 use Rattle.kept_journal.specs.State.{allAccepted}
 use Rattle.kept_journal.specs.Journal.{countOf, ordersFrom, endFrom, withinFrom, logOf}
 use Rattle.kept_journal.specs.View.{Memory, memory, InEachStore, shortOf, tooShort, wellFormed, meetsRule, stateOf}
 use Rattle.kept_journal.specs.Replay.{Replay, replayFrom, Replayed, extentOf, replayable, validationOf, markedPictures, sincePictures, headIsOk, Validated, Validation}
-use Rattle.kept_journal.proofs.Stubs.{begin-holds, begin-length, begin-origins}
 use Rattle.kept_journal.proofs.Copies.{copied-index, copied-places, copied-sound, copied-holds}
 use Rattle.kept_journal.proofs.Logged.{Long, long-has, long-is, markedIn, extent-formed, logged-low}
 use Rattle.kept_journal.proofs.Replays.{Ready, Through, Ran, stops, through, replay-ran}
