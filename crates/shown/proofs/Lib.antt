@@ -1,0 +1,2 @@
+pub mod StepsCarried
+pub mod ShownHanded
