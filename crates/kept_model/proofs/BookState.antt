@@ -1,0 +1,148 @@
+-- The state that a book describes: each call answers on it as the book does, and moves it as the book moves. Assumes nothing.
+use Prim.Native.Nat.{ℕ, _+_, _*_}
+use mathlib.Core.Path.{_≡_, refl, sym, ap, ap₂, _∙_}
+use mathlib.Core.Bool.{Bool, true, false, not}
+use mathlib.Core.List.{List, [], _∷_, _++_}
+use mathlib.Core.Option.{Option, none, some}
+use lib.Dec.{eqb, leb, ltb}
+use lib.ListN.{length}
+use borrow.Author.Tests.{leb-true, leb-false, lt-ltb, le-ltb}
+use Rattle.wire.specs.Tests.{pick, both, either}
+use Rattle.directory.specs.Directory.{windows, notifications}
+use Rattle.kept_ids.specs.Ids.{idsIn}
+use Rattle.body.specs.Bodies.{Body}
+use Rattle.kept_table.specs.Table.{Table, emptied, number, after, directory, recordAt, pictureAt}
+use Rattle.kept_journal.specs.Limits.{mostOrders, mostBytes}
+use Rattle.kept_journal.specs.State.{State, run, present, bytesIn}
+use Rattle.kept_session.specs.declared.LookupTarget.{LookupTarget}
+use Rattle.kept_session.specs.declared.LookupTarget.the-variants.{Window, Notification, Cell, Desktop, Windows, Notifications}
+use Rattle.kept_session.specs.Calls.{Call, reset, deliver, checkpoint, undo, look, writeRecord, Payload, nothing, body, picture, ids, orders, Answer, refuse, grant, overFull, without, aBody, aPicture, payloadIn, found, answer, next}
+use Rattle.kept_model.specs.Book.{Book, newBook, makes, tableOf, bytesOf, hasRoom, joined, markMoved, lastGone, says, refuses, givesBody, givesPicture, bookNext, bookAnswer}
+
+-- ---- the book's words and the state's
+
+makes-run : (t : Table) (os : List (List ℕ)) → makes t os ≡ run t os
+unfolding makes run
+makes-run t [] = refl
+makes-run t (o ∷ os) = makes-run (after t o) os
+
+run-append : (t : Table) (a b : List (List ℕ)) → run t (a ++ b) ≡ run (run t a) b
+unfolding run
+run-append t [] b = refl
+run-append t (o ∷ a) b = run-append (after t o) a b
+
+pub bytes-same : (os : List (List ℕ)) → bytesIn os ≡ bytesOf os
+unfolding bytesIn bytesOf
+bytes-same [] = refl
+bytes-same (o ∷ os) = ap (λ (n : ℕ). length o + n) (bytes-same os)
+
+-- ---- the tests, written the other way round
+
+turned : {A : Type 0} (t : Bool) (x y : A) → pick (not t) x y ≡ pick t y x
+turned true x y = refl
+turned false x y = refl
+
+ltb-not : (a b : ℕ) → ltb a b ≡ not (leb b a)
+ltb-not a b = go (leb b a) refl
+  where
+    go : (t : Bool) → leb b a ≡ t → ltb a b ≡ not t
+    go true e = le-ltb a b (leb-true b a e)
+    go false e = lt-ltb a b (leb-false b a e)
+
+either-not : (s t : Bool) → either (not s) (not t) ≡ not (both s t)
+either-not true t = refl
+either-not false t = refl
+
+-- ---- a book as a state
+
+abbrev pub stateOfBook : Book → State
+stateOfBook b = record { marked = run emptied (b .old); log = b .new }
+
+module _ (b : Book) where
+  pub present-book : present (stateOfBook b) ≡ tableOf b
+  unfolding tableOf
+  present-book = sym (makes-run emptied (b .old ++ b .new) ∙ run-append emptied (b .old) (b .new))
+
+  full-room : (o : List ℕ) → overFull (b .new) o ≡ not (hasRoom b o)
+  full-room o =
+      rw (bytes-same (b .new), ltb-not mostOrders (length (b .new) + 1), ltb-not mostBytes (bytesOf (b .new) + length o))
+      (either-not (leb (length (b .new) + 1) mostOrders) (leb (bytesOf (b .new) + length o) mostBytes))
+
+  grants : (p : Payload) → grant (b .new) p ≡ says 0 b p
+  grants p = ap (λ (n : ℕ). record { number = 0; count = length (b .new); bytes = n; payload = p }) (bytes-same (b .new))
+
+  -- ---- lookups
+
+  body-same : (x : Option Body) → found (b .new) (aBody x) ≡ givesBody b x
+  body-same none = refl
+  body-same (some x) = grants (body x)
+
+  picture-same : (t : Bool) (x : Option (List ℕ)) → found (b .new) (pick t (aPicture x) nothing) ≡ givesPicture b (pick t x none)
+  picture-same false x = refl
+  picture-same true none = refl
+  picture-same true (some p) = grants (picture p)
+
+  look-says : (target : LookupTarget) → found (b .new) (payloadIn target (tableOf b)) ≡ bookAnswer (look target) b
+  unfolding payloadIn bookAnswer
+  look-says (Window w) = body-same (recordAt (tableOf b) windows (w .id) 0)
+  look-says (Notification w n) = body-same (recordAt (tableOf b) notifications (w .id) (n .id))
+  look-says (Cell cache entry) = picture-same (both (leb cache 1) (leb entry 5)) (pictureAt (tableOf b) (6 * cache + entry))
+  look-says Desktop = grants (body (tableOf b .desktop))
+  look-says Windows = grants (ids windows (idsIn (directory (tableOf b)) windows))
+  look-says Notifications = grants (ids notifications (idsIn (directory (tableOf b)) notifications))
+
+-- ---- each call's answer
+
+room-says : (b : Book) (o : List ℕ) → pick (overFull (b .new) o) (refuse 12) (grant (b .new ++ (o ∷ [])) nothing) ≡ pick (hasRoom b o) (says 0 (joined b o) nothing) (refuses 12)
+room-says b o =
+    ap₂ (λ (t : Bool) (a : Answer). pick t (refuse 12) a) (full-room b o) (grants (joined b o) nothing)
+    ∙ turned (hasRoom b o) (refuse 12) (says 0 (joined b o) nothing)
+
+deliver-says : (b : Book) (o : List ℕ) (n : ℕ) → pick (not (eqb n 0)) (refuse n) (pick (overFull (b .new) o) (refuse 12) (grant (b .new ++ (o ∷ [])) nothing)) ≡ pick (eqb n 0) (pick (hasRoom b o) (says 0 (joined b o) nothing) (refuses 12)) (refuses n)
+deliver-says b o n =
+    ap (λ (a : Answer). pick (not (eqb n 0)) (refuse n) a) (room-says b o)
+    ∙ turned (eqb n 0) (refuse n) (pick (hasRoom b o) (says 0 (joined b o) nothing) (refuses 12))
+
+undo-says : (b : Book) (k : ℕ) → pick (ltb (length (b .new)) k) (refuse 13) (grant (without k (b .new)) nothing) ≡ pick (leb k (length (b .new))) (says 0 (lastGone k b) nothing) (refuses 13)
+undo-says b k =
+    ap₂ (λ (t : Bool) (a : Answer). pick t (refuse 13) a) (ltb-not (length (b .new)) k) (grants (lastGone k b) nothing)
+    ∙ turned (leb k (length (b .new))) (refuse 13) (says 0 (lastGone k b) nothing)
+
+pub answer-book : (c : Call) (b : Book) → answer c (stateOfBook b) ≡ bookAnswer c b
+unfolding answer bookAnswer
+answer-book reset b = grants newBook nothing
+answer-book (deliver o) b = rw (present-book b) (deliver-says b o (number (tableOf b) o))
+answer-book checkpoint b = grants (markMoved b) nothing
+answer-book (undo k) b = undo-says b k
+answer-book (look target) b = ap (λ (t : Table). found (b .new) (payloadIn target t)) (present-book b) ∙ look-says b target
+answer-book writeRecord b = grants b (orders (b .new))
+
+-- ---- and what it leaves
+
+-- a test that picks a book picks its state
+picks : (t : Bool) (x y : Book) → pick t (stateOfBook x) (stateOfBook y) ≡ stateOfBook (pick t x y)
+picks true x y = refl
+picks false x y = refl
+
+deliver-moves : (b : Book) (o : List ℕ) (t : Bool) → pick (either (not t) (overFull (b .new) o)) (stateOfBook b) (stateOfBook (joined b o)) ≡ stateOfBook (pick (both t (hasRoom b o)) (joined b o) b)
+deliver-moves b o t =
+    ap (λ (u : Bool). pick (either (not t) u) (stateOfBook b) (stateOfBook (joined b o))) (full-room b o)
+    ∙ ap (λ (u : Bool). pick u (stateOfBook b) (stateOfBook (joined b o))) (either-not t (hasRoom b o))
+    ∙ turned (both t (hasRoom b o)) (stateOfBook b) (stateOfBook (joined b o))
+    ∙ picks (both t (hasRoom b o)) (joined b o) b
+
+undo-moves : (b : Book) (k : ℕ) → pick (ltb (length (b .new)) k) (stateOfBook b) (stateOfBook (lastGone k b)) ≡ stateOfBook (pick (leb k (length (b .new))) (lastGone k b) b)
+undo-moves b k =
+    ap (λ (u : Bool). pick u (stateOfBook b) (stateOfBook (lastGone k b))) (ltb-not (length (b .new)) k)
+    ∙ turned (leb k (length (b .new))) (stateOfBook b) (stateOfBook (lastGone k b))
+    ∙ picks (leb k (length (b .new))) (lastGone k b) b
+
+pub next-book : (c : Call) (b : Book) → next c (stateOfBook b) ≡ stateOfBook (bookNext c b)
+unfolding next bookNext run
+next-book reset b = refl
+next-book (deliver o) b = rw (present-book b) (deliver-moves b o (eqb (number (tableOf b) o) 0))
+next-book checkpoint b =
+    ap {B = State} (λ (t : Table). record { marked = t; log = [] }) (sym (run-append emptied (b .old) (b .new)))
+next-book (undo k) b = undo-moves b k
+next-book (look target) b = refl
+next-book writeRecord b = refl

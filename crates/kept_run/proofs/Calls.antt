@@ -1,0 +1,276 @@
+-- A script's calls by their kind, and the block of each. Assumes nothing.
+use Prim.Native.Nat.{ℕ, zero, suc, _+_, _*_, _-_, _≤_, _<_}
+use mathlib.Core.Path.{_≡_, refl, sym, ap, _∙_, subst}
+use mathlib.Core.Bool.{Bool, true, false}
+use mathlib.Core.List.{List, [], _∷_, _++_, append-nil}
+use native.Mathlib.Nat.{zero-add}
+use native.Mathlib.Omega.{arith}
+use lib.Dec.{eqb, ltb}
+use lib.ListN.{length, take, drop, replicate, length-append, length-drop, length-replicate, drop-of-length-le}
+use lib.Seq.{length-take-le, take-all, drop-at}
+use borrow.Author.Tests.{ne-eqb, lt-ltb, le-ltb}
+use Rattle.wire.specs.Tests.{pick}
+use Rattle.wire.specs.Parts.{splice}
+use Rattle.wire.specs.Numbers.{numAt, bytesOf}
+use Rattle.wire.proofs.Parts.{splice-start, splice-after}
+use Rattle.wire.proofs.Numbers.{length-bytes}
+use Rattle.layout.specs.Layouts.{windowSize, notificationSize, desktopSize, pictureSize}
+use Rattle.kept_ids.specs.Ids.{listSize}
+use Rattle.kept_journal.specs.View.{Memory}
+use Rattle.kept_record.specs.Layout.{mostRecord}
+use Rattle.kept_session.specs.declared.Reply.{Reply}
+use Rattle.kept_session.specs.declared.LookupTarget.{LookupTarget}
+use Rattle.kept_session.specs.declared.LookupTarget.the-variants.{Window, Notification, Cell, Desktop, Windows, Notifications}
+use Rattle.kept_session.specs.Calls.{Call, reset, deliver, checkpoint, undo, look, writeRecord}
+use Rattle.kept_session.specs.Outcome.{Response, replied, handed, neededFor, CallOutcome}
+use Rattle.kept_session.specs.Packed.{packedOf}
+use Rattle.kept_update.specs.declared.Report.{Report}
+use Rattle.kept_update.specs.Outcome.{UpdateOutcome}
+use Rattle.kept_update.specs.Packed.{standingHalf, grantedHalf}
+use Rattle.kept_model.specs.Updates.{Step, update, responds, reports}
+use Rattle.kept_model.specs.Claim.{none, more, moreAtOnce}
+use Rattle.kept_run.specs.Script.{targetOf, changeOf, recordKind, callOf, requestOf, oneCall, limitSize, stepOf, blockLength}
+use Rattle.kept_run.specs.Steps.{Takes, TakesOne, Done}
+
+-- ---- numbers of 8 bytes
+
+pub num8-is : (s : List ℕ) → numAt 4 s 0 + 4294967296 * numAt 4 s 4 ≡ numAt 8 s 0
+unfolding numAt
+num8-is s = omega arith
+
+-- ---- calls by their kind
+
+module _ (kind : ℕ) (arg : List ℕ) where
+  pub is-reset : kind ≡ 0 → changeOf kind arg ≡ reset
+  unfolding changeOf
+  is-reset e = rw e
+
+  pub is-deliver : kind ≡ 1 → changeOf kind arg ≡ deliver arg
+  unfolding changeOf
+  is-deliver e = rw e
+
+  pub is-checkpoint : kind ≡ 2 → changeOf kind arg ≡ checkpoint
+  unfolding changeOf
+  is-checkpoint e = rw e
+
+  pub is-undo : (kind ≡ 0 → ⊥) → (kind ≡ 1 → ⊥) → (kind ≡ 2 → ⊥) → (k : ℕ) → k ≡ numAt 8 arg 0 → changeOf kind arg ≡ undo k
+  unfolding changeOf
+  is-undo a b c k w = rw (ne-eqb kind 0 a, ne-eqb kind 1 b, ne-eqb kind 2 c, w)
+
+  pub is-window : kind ≡ 4 → (x : ℕ) → x ≡ numAt 4 arg 0 → Window (record { id = x }) ≡ targetOf kind arg
+  unfolding targetOf
+  is-window e x w = rw (e, w)
+
+  pub is-notification : kind ≡ 5 → (x y : ℕ) → x ≡ numAt 4 arg 0 → y ≡ numAt 4 arg 4 → Notification (record { id = x }) (record { id = y }) ≡ targetOf kind arg
+  unfolding targetOf
+  is-notification e x y v w = rw (e, v, w)
+
+  pub is-cell : kind ≡ 6 → (x y : ℕ) → x ≡ numAt 1 arg 0 → y ≡ numAt 2 arg 1 → Cell x y ≡ targetOf kind arg
+  unfolding targetOf
+  is-cell e x y v w = rw (e, v, w)
+
+  pub is-windows : kind ≡ 10 → Windows ≡ targetOf kind arg
+  unfolding targetOf
+  is-windows e = rw e
+
+  pub is-notifications : kind ≡ 11 → Notifications ≡ targetOf kind arg
+  unfolding targetOf
+  is-notifications e = rw e
+
+  pub is-desktop : (kind ≡ 4 → ⊥) → (kind ≡ 5 → ⊥) → (kind ≡ 6 → ⊥) → (kind ≡ 10 → ⊥) → (kind ≡ 11 → ⊥) → Desktop ≡ targetOf kind arg
+  unfolding targetOf
+  is-desktop a b c d e = rw (ne-eqb kind 4 a, ne-eqb kind 5 b, ne-eqb kind 6 c, ne-eqb kind 10 d, ne-eqb kind 11 e)
+
+  pub is-change : kind < 4 → callOf kind arg ≡ changeOf kind arg
+  unfolding callOf
+  is-change l = rw (lt-ltb kind 4 l)
+
+  pub is-record : kind ≡ recordKind → callOf kind arg ≡ writeRecord
+  unfolding callOf
+  is-record e = rw e
+
+  pub is-look : 4 ≤ kind → (kind ≡ recordKind → ⊥) → callOf kind arg ≡ look (targetOf kind arg)
+  unfolding callOf
+  is-look l n = rw (le-ltb kind 4 l, ne-eqb kind recordKind n)
+
+  pub looks : 4 ≤ kind → (kind ≡ recordKind → ⊥) → {target : LookupTarget} → target ≡ targetOf kind arg → callOf kind arg ≡ look target
+  looks l n e = is-look l n ∙ ap look (sym e)
+
+  -- a call that changes the state hands nothing out
+  pub hands-nothing : neededFor (changeOf kind arg) ≡ 0
+  unfolding changeOf
+  hands-nothing = go (eqb kind 0) (eqb kind 1) (eqb kind 2)
+    where
+      go : (a b c : Bool) → neededFor (pick a reset (pick b (deliver arg) (pick c checkpoint (undo (numAt 8 arg 0))))) ≡ 0
+      go true b c = refl
+      go false true c = refl
+      go false false true = refl
+      go false false false = refl
+
+pub outcome-as : {c c' : Call} {m e : Memory} {r : Response} → c' ≡ c → CallOutcome (requestOf c) m r e → CallOutcome (requestOf c') m r e
+outcome-as {m = m} {e = e} {r = r} p o = subst (λ (x : Call). CallOutcome (requestOf x) m r e) (sym p) o
+
+pub done-as : {x x' : Step} {m e : Memory} {out' : List ℕ} → x' ≡ x → Done x m e out' → Done x' m e out'
+done-as {m = m} {e = e} {out' = out'} p d = subst (λ (x : Step). Done x m e out') (sym p) d
+
+-- ---- a whole update apart from the single calls
+
+module _ (kind : ℕ) (arg : List ℕ) where
+  pub is-update : kind ≡ 8 → stepOf kind arg ≡ update (numAt 4 arg 0) (drop limitSize arg)
+  unfolding stepOf
+  is-update e = rw e
+
+  pub is-single : (kind ≡ 8 → ⊥) → stepOf kind arg ≡ oneCall (callOf kind arg)
+  unfolding stepOf
+  is-single h = rw (ne-eqb kind 8 h)
+
+-- ---- the bytes of a block go by the kind
+
+abbrev oneLength : Call → ℕ
+oneLength c = 4 + neededFor c
+
+module _ (kind : ℕ) where
+  pub length-update : kind ≡ 8 → Takes kind 8
+  length-update e = record { takes = λ arg. ap blockLength (sym (is-update kind arg e)) }
+
+  pub length-single : {n : ℕ} → (kind ≡ 8 → ⊥) → TakesOne kind n → Takes kind n
+  length-single h t = record { takes = λ arg. t .takes arg ∙ ap blockLength (sym (is-single kind arg h)) }
+
+  pub length-change : kind < 4 → TakesOne kind 4
+  length-change l = record { takes = λ arg. ap (λ (n : ℕ). 4 + n) (sym (hands-nothing kind arg)) ∙ ap oneLength (sym (is-change kind arg l)) }
+
+  length-look : {n : ℕ} → 4 ≤ kind → (kind ≡ recordKind → ⊥) → ((arg : List ℕ) → n ≡ oneLength (look (targetOf kind arg))) → TakesOne kind n
+  length-look l r f = record { takes = λ arg. f arg ∙ ap oneLength (sym (is-look kind arg l r)) }
+
+  pub length-record : kind ≡ recordKind → TakesOne kind (4 + mostRecord)
+  length-record e = record { takes = λ arg. ap oneLength (sym (is-record kind arg e)) }
+
+  pub length-window : kind ≡ 4 → TakesOne kind (4 + windowSize)
+  unfolding targetOf
+  length-window e = length-look (omega (arith, e)) (λ x. omega (arith, e, x)) (λ arg. rw e)
+
+  pub length-notification : kind ≡ 5 → TakesOne kind (4 + notificationSize)
+  unfolding targetOf
+  length-notification e = length-look (omega (arith, e)) (λ x. omega (arith, e, x)) (λ arg. rw e)
+
+  pub length-cell : kind ≡ 6 → TakesOne kind (4 + pictureSize)
+  unfolding targetOf
+  length-cell e = length-look (omega (arith, e)) (λ x. omega (arith, e, x)) (λ arg. rw e)
+
+  pub length-windows : kind ≡ 10 → TakesOne kind (4 + listSize)
+  unfolding targetOf
+  length-windows e = length-look (omega (arith, e)) (λ x. omega (arith, e, x)) (λ arg. rw e)
+
+  pub length-notifications : kind ≡ 11 → TakesOne kind (4 + listSize)
+  unfolding targetOf
+  length-notifications e = length-look (omega (arith, e)) (λ x. omega (arith, e, x)) (λ arg. rw e)
+
+  pub length-desktop : 4 ≤ kind → (kind ≡ 4 → ⊥) → (kind ≡ 5 → ⊥) → (kind ≡ 6 → ⊥) → (kind ≡ recordKind → ⊥) → (kind ≡ 10 → ⊥) → (kind ≡ 11 → ⊥)
+      → TakesOne kind (4 + desktopSize)
+  unfolding targetOf
+  length-desktop l a b c r d e =
+      length-look l r (λ arg. rw (ne-eqb kind 4 a, ne-eqb kind 5 b, ne-eqb kind 6 c, ne-eqb kind 10 d, ne-eqb kind 11 e))
+
+-- ---- the block of a call that hands nothing out
+
+pub change-block : {c : Call} {m e : Memory} {r : Reply} {v : ℕ} (out : List ℕ) {out' : List ℕ} → neededFor c ≡ 0 → CallOutcome (requestOf c) m (replied r) e
+    → length out ≡ blockLength (oneCall c)
+    → v ≡ packedOf r
+    → out' ≡ splice out 0 (bytesOf 4 v)
+    → Done (oneCall c) m e out'
+change-block {r = r} {v = v} out z o l p w =
+    let h : length (bytesOf 4 v) ≡ 4 = length-bytes 4 v in
+    let n : length out ≤ length (bytesOf 4 v) = omega (arith, l, z, h) in
+    record {
+      said = responds (replied r);
+      outcome = more o none;
+      block =
+          w ∙ splice-start out (bytesOf 4 v) ∙ ap (λ (x : List ℕ). bytesOf 4 v ++ x) (drop-of-length-le out n)
+          ∙ ap (λ (x : ℕ). bytesOf 4 x ++ []) p;
+    }
+
+-- ---- calls that hand something out
+
+zeros-after : (k n : ℕ) → drop k (replicate {A = ℕ} (k + n) 0) ≡ replicate n 0
+zeros-after zero n = rw (zero-add n)
+zeros-after (suc k) n = let e : suc k + n ≡ suc (k + n) = omega arith in rw e (zeros-after k n)
+
+-- the part of cleared output that the call is lent
+module _ (out clear : List ℕ) (n : ℕ) (l : length out ≡ 4 + n) (cl : clear ≡ splice out 0 (replicate (length out) 0)) where
+  cleared : clear ≡ replicate (4 + n) 0
+  cleared =
+      let z : List ℕ = replicate (4 + n) 0 in
+      let h : length out ≤ length z = omega (arith, l, length-replicate {A = ℕ} (4 + n) 0) in
+      cl ∙ ap (λ (k : ℕ). splice out 0 (replicate k 0)) l ∙ splice-start out z
+      ∙ ap (λ (x : List ℕ). z ++ x) (drop-of-length-le out h) ∙ append-nil z
+
+  after-four : drop 4 clear ≡ replicate n 0
+  after-four = ap (drop 4) cleared ∙ zeros-after 4 n
+
+  short-of : length (drop 4 clear) ≤ length out - 4
+  short-of = omega (arith, l, ap length after-four, length-replicate {A = ℕ} n 0)
+
+  lent-zeros : take (length out - 4) (drop 4 clear) ≡ replicate n 0
+  lent-zeros = take-all (length out - 4) (drop 4 clear) short-of ∙ after-four
+
+  nothing-after : drop (length out - 4) (drop 4 clear) ≡ []
+  nothing-after = drop-of-length-le (drop 4 clear) short-of
+
+  -- the part comes back, and the head is put before it
+  headed : (part head out' : List ℕ) → length head ≡ 4 → out' ≡ splice (take 4 clear ++ (part ++ drop (length out - 4) (drop 4 clear))) 0 head → out' ≡ head ++ part
+  headed part head out' h w =
+      let four : length (take 4 clear) ≡ 4 = length-take-le 4 clear (omega (arith, ap length cleared, length-replicate {A = ℕ} (4 + n) 0)) in
+      let x : List ℕ = take 4 clear ++ (part ++ drop (length out - 4) (drop 4 clear)) in
+      let d : drop (length head) x ≡ part =
+      drop-at (take 4 clear) (part ++ drop (length out - 4) (drop 4 clear)) (length head) (four ∙ sym h)
+      ∙ ap (λ (y : List ℕ). part ++ y) nothing-after ∙ append-nil part in
+      w ∙ splice-start x head ∙ ap (λ (y : List ℕ). head ++ y) d
+
+pub handed-block : (c : Call) {m : Memory} {r : Reply} {v : ℕ} (out clear part : List ℕ) {out' : List ℕ} → length out ≡ blockLength (oneCall c)
+    → clear ≡ splice out 0 (replicate (length out) 0)
+    → CallOutcome (record { call = c; out = take (length out - 4) (drop 4 clear) }) m (handed r part) m
+    → v ≡ packedOf r
+    → out' ≡ splice (take 4 clear ++ (part ++ drop (length out - 4) (drop 4 clear))) 0 (bytesOf 4 v)
+    → Done (oneCall c) m m out'
+handed-block c {m} {r} {v} out clear part {out'} l cl o p w =
+    let n : ℕ = neededFor c in
+    record {
+      said = responds (handed r part);
+      outcome = more (subst (λ (x : List ℕ). CallOutcome (record { call = c; out = x }) m (handed r part) m) (lent-zeros out clear n l cl) o) none;
+      block =
+          headed out clear n l cl part (bytesOf 4 v) out' (length-bytes 4 v) w
+          ∙ ap (λ (x : ℕ). bytesOf 4 x ++ part) p;
+    }
+
+-- ---- a whole update
+
+-- the bytes after the limit
+pub after-short : (arg : List ℕ) → length arg < limitSize → (length arg ≤ length arg) × (drop (length arg) arg ≡ drop limitSize arg)
+after-short arg h =
+    let own : length arg ≤ length arg = omega arith in
+    let few : length arg ≤ limitSize = omega arith in
+    (own, drop-of-length-le arg own ∙ sym (drop-of-length-le arg few))
+
+rest-is : (arg : List ℕ) (start : ℕ) → drop start arg ≡ drop limitSize arg → take (length arg - start) (drop start arg) ≡ drop limitSize arg
+rest-is arg start e = take-all (length arg - start) (drop start arg) (omega (arith, length-drop start arg)) ∙ e
+
+pub update-block : {m e : Memory} {r : Report} {limit low high : ℕ} (arg out : List ℕ) (start : ℕ) {out' : List ℕ} → limit ≡ numAt 4 arg 0 → drop start arg ≡ drop limitSize arg
+    → UpdateOutcome limit (take (length arg - start) (drop start arg)) m r e → length out ≡ 8 → low ≡ standingHalf r → high ≡ grantedHalf r
+    → out' ≡ splice (splice out 0 (bytesOf 4 low)) 4 (bytesOf 4 high)
+    → Done (update (numAt 4 arg 0) (drop limitSize arg)) m e out'
+update-block {m} {e} {r} {limit} {low} {high} arg out start n d o l a b w =
+    let x : length (bytesOf 4 low) ≡ 4 = length-bytes 4 low in
+    let y : length (bytesOf 4 high) ≡ 4 = length-bytes 4 high in
+    let both : List ℕ = bytesOf 4 low ++ bytesOf 4 high in
+    let wide : length out ≤ length both = omega (arith, l, x, y, length-append (bytesOf 4 low) (bytesOf 4 high)) in
+    record {
+      said = reports r;
+      outcome =
+          moreAtOnce
+          (subst (λ (s : List ℕ). UpdateOutcome (numAt 4 arg 0) s m r e) (rest-is arg start d) (subst (λ (k : ℕ). UpdateOutcome k (take (length arg - start) (drop start arg)) m r e) n o))
+          none;
+      block =
+          w ∙ splice-after out 0 (bytesOf 4 low) (bytesOf 4 high) 4 (omega (arith, x)) (omega (arith, l, x, y))
+          ∙ splice-start out both ∙ ap (λ (z : List ℕ). both ++ z) (drop-of-length-le out wide) ∙ append-nil both
+          ∙ ap (λ (k : ℕ). bytesOf 4 k ++ bytesOf 4 high) a ∙ ap (λ (k : ℕ). bytesOf 4 (standingHalf r) ++ bytesOf 4 k) b;
+    }

@@ -1,0 +1,245 @@
+-- The loop of a run: the calls done so far, what they leave of the script, and what stands in the memory and the output. Assumes
+-- nothing.
+use Prim.Native.Nat.{ℕ, suc, _+_, _*_, _-_, _%_, _≤_}
+use mathlib.Core.Path.{_≡_, refl, sym, ap, _∙_, subst}
+use mathlib.Core.Bool.{true, false}
+use mathlib.Core.List.{List, [], _∷_, _++_, append-assoc, append-nil, map, map-append, flatten}
+use native.Mathlib.Omega.{arith}
+use lib.ListN.{length, take, drop, length-append, length-take, length-drop}
+use lib.Seq.{drop-drop}
+use Rattle.wire.specs.Parts.{splice}
+use Rattle.wire.specs.Numbers.{numAt}
+use Rattle.wire.proofs.Parts.{splice-nil, splice-after, length-splice, part-back}
+use Rattle.kept_journal.specs.State.{run}
+use Rattle.kept_journal.specs.View.{Memory, tooShort, formed, viewOf}
+use Rattle.kept_session.specs.declared.Reply.{Reply}
+use Rattle.kept_session.specs.Calls.{reset}
+use Rattle.kept_session.specs.Outcome.{plain, Response, replied, CallOutcome}
+use Rattle.kept_model.specs.Updates.{Step, Said}
+use Rattle.kept_model.specs.Claim.{Calls, none, AsBook}
+use Rattle.kept_model.specs.Wellformed.{emptiedState, EmptyingGranted, EmptiedMeets}
+use Rattle.kept_model.proofs.Demand3.{as-book, snoc, past-then, calls-past}
+use Rattle.kept_model.proofs.Wellformed.{reset-long, emptying-granted, emptied-meets}
+use Rattle.kept_run.specs.Script.{stepOf, firstCall, itemLength, blockOf, blockLength, endsWith, Course, endsHere, callFirst, courseFrom, courseOf, RunUnpacks, RunAs, Runs}
+use Rattle.kept_run.specs.Steps.{Takes, endNumber, Done}
+use Rattle.kept_run.proofs.Ends.{Going, going, number-small, course-end, course-more, size-at, call-at, block-at}
+
+pub run-unpacks : RunUnpacks
+unfolding RunUnpacks
+run-unpacks p a b =
+    let x : length (p .calls) % 0x100000000000000 ≡ length (p .calls) = omega arith in
+    record { number = rw x (omega arith); calls = rw x (omega arith) }
+
+-- ---- lists with one more at the end
+
+flatten-more : (ls : List (List ℕ)) (l : List ℕ) → flatten (ls ++ (l ∷ [])) ≡ flatten ls ++ l
+unfolding flatten
+flatten-more [] l = append-nil l
+flatten-more (x ∷ xs) l = ap (λ (y : List ℕ). x ++ y) (flatten-more xs l) ∙ sym (append-assoc x (flatten xs) l)
+
+-- ---- what the loop keeps: n calls are done from m₀ on, the next is at index at, its block comes to index to
+
+abbrev pub blocks : List Said → List (List ℕ)
+blocks rs = map blockOf rs
+
+-- calls before a course
+abbrev pub coming : List Step → Course → Course
+coming cs p = record { calls = cs ++ p .calls; number = p .number }
+
+pub record Ran (s out₀ : List ℕ) (m₀ : Memory) (at to n ended : ℕ) (m : Memory) (out : List ℕ) : Type 0 where
+  pub made : List Step
+  pub given : List Said
+  pub calls : Calls m₀ made given m
+  pub left : courseOf s (length out₀) ≡ coming made (courseFrom (length s - n) (drop at s) (length out₀ - to))
+  pub count : length made ≡ n
+  pub far : n ≤ at
+  pub within : at ≤ length s
+  pub room : to ≤ length out₀
+  pub wide : length (flatten (blocks given)) ≡ to
+  pub wrote : out ≡ splice out₀ 0 (flatten (blocks given))
+  pub sizes : map length (blocks given) ≡ map blockLength made
+  pub same : length out ≡ length out₀
+  pub ends : ended ≡ endNumber (endsWith (drop at s) (length out₀ - to))
+
+-- at the start
+pub ran-start : (s out : List ℕ) {ended : ℕ} {m : Memory} → ended ≡ endNumber (endsWith (drop 0 s) (length out)) → Ran s out m 0 0 0 ended m out
+unfolding courseOf flatten
+ran-start s out e =
+    let z : length s - 0 ≡ length s = omega arith in
+    let w : length out - 0 ≡ length out = omega arith in
+    record {
+      made = [];
+      given = [];
+      calls = none;
+      left = rw (z, w);
+      count = refl;
+      far = omega arith;
+      within = omega arith;
+      room = omega arith;
+      wide = refl;
+      wrote = sym (splice-nil out 0);
+      sizes = refl;
+      same = refl;
+      ends = rw w e;
+    }
+
+module _ (s out₀ : List ℕ) {m₀ : Memory} {at to n ended : ℕ} {m : Memory} {out : List ℕ} (g : Ran s out₀ m₀ at to n ended m out) where
+  pub ended-small : ended ≤ 255
+  ended-small = omega (arith, g .ends, number-small (drop at s) (length out₀ - to))
+
+  -- no call more
+  module _ (v : viewOf m₀ ≡ formed emptiedState) (over : ended ≡ 255 → ⊥) where
+    last : courseFrom (length s - n) (drop at s) (length out₀ - to) ≡ endsHere ended
+    last = course-end (length s - n) (drop at s) (length out₀ - to) (omega (arith, length-drop at s, g .far)) (g .ends) over
+
+    course-is : courseOf s (length out₀) ≡ record { calls = g .made; number = ended }
+    course-is = g .left ∙ ap (coming (g .made)) last ∙ ap (λ (cs : List Step). record { calls = cs; number = ended }) (append-nil (g .made))
+
+    booked : AsBook (g .made) (g .given) m
+    unfolding run
+    booked = as-book v (g .calls)
+
+    pub ran-end : {r : ℕ} → r ≡ ended + 256 * (n % 0x100000000000000) → RunAs (courseOf s (length out₀)) m₀ out₀ r m out
+    ran-end e =
+        rw course-is
+        (record {
+          says = e ∙ ap (λ (k : ℕ). ended + 256 * (k % 0x100000000000000)) (sym (g .count));
+          answers = g .wrote ∙ ap (λ (ys : List Said). splice out₀ 0 (flatten (blocks ys))) (booked .answers);
+          sizes = ap (λ (ys : List Said). map length (blocks ys)) (sym (booked .answers)) ∙ g .sizes;
+          holds = booked .holds;
+          past = calls-past (g .calls);
+        })
+
+  module _ (more : ended ≡ 255) where
+    this : Step
+    this = firstCall (drop at s)
+
+    goes : Going (drop at s) (length out₀ - to)
+    goes = going (drop at s) (length out₀ - to) (sym (g .ends) ∙ more)
+
+    pub head-ends : at + 3 ≤ length s
+    head-ends = omega (arith, goes .whole, length-drop at s, g .within)
+
+    module _ {kind size : ℕ} (k : kind ≡ numAt 1 s at) (z : size ≡ numAt 2 s (at + 1)) where
+      abbrev arg : List ℕ
+      arg = take (at + 3 + size - (at + 3)) (drop (at + 3) s)
+
+      -- the item ends within the script
+      pub item-ends : at + 3 + size ≤ length s
+      item-ends = omega (arith, goes .whole, size-at s at, z, length-drop at s, g .within)
+
+      this-is : this ≡ stepOf kind arg
+      unfolding this
+      this-is = call-at s at k z
+
+      module _ {block : ℕ} (b : Takes kind block) where
+        this-takes : blockLength this ≡ block
+        unfolding this
+        this-takes = block-at s at k z b
+
+        -- its block ends within the output
+        pub block-ends : to + block ≤ length out
+        unfolding this
+        block-ends = omega (arith, this-takes, goes .fits, g .room, g .same)
+
+        -- the part of the output that the call is lent
+        lent-long : length (take (to + block - to) (drop to out)) ≡ block
+        lent-long = simp (length-take, length-drop) (omega (arith, block-ends))
+
+        pub lent-is : length (take (to + block - to) (drop to out)) ≡ blockLength (stepOf kind arg)
+        lent-is = lent-long ∙ b .takes arg
+
+        module _ {ended' : ℕ} {e : Memory} {part out' : List ℕ} (d : Done (stepOf kind arg) m e part) (kept : length part ≡ length (take (to + block - to) (drop to out))) (w : out' ≡ take to out ++ (part ++ drop (to + block - to) (drop to out))) (f : ended' ≡ endNumber (endsWith (drop (at + 3 + size) s) (length out' - (to + block)))) where
+          outcome : Calls m (this ∷ []) (d .said ∷ []) e
+          outcome = subst (λ (x : Step). Calls m (x ∷ []) (d .said ∷ []) e) (sym this-is) (d .outcome)
+
+          blocks-are : blocks (g .given ++ (d .said ∷ [])) ≡ blocks (g .given) ++ (part ∷ [])
+          blocks-are = map-append blockOf (g .given) (d .said ∷ []) ∙ ap (λ (x : List ℕ). blocks (g .given) ++ (x ∷ [])) (sym (d .block))
+
+          all-are : flatten (blocks (g .given ++ (d .said ∷ []))) ≡ flatten (blocks (g .given)) ++ part
+          all-are = ap flatten blocks-are ∙ flatten-more (blocks (g .given)) part
+
+          part-long : length part ≡ block
+          part-long = kept ∙ lent-long
+
+          put-is : out' ≡ splice out to part
+          put-is = w ∙ part-back out part to (to + block - to) (omega (arith, part-long))
+
+          out-is : out' ≡ splice out₀ 0 (flatten (blocks (g .given ++ (d .said ∷ []))))
+          out-is =
+              let h : 0 + length (flatten (blocks (g .given))) + length part ≤ length out₀ = omega (arith, g .wide, part-long, block-ends, g .same) in
+              put-is ∙ ap (λ (x : List ℕ). splice x to part) (g .wrote)
+              ∙ splice-after out₀ 0 (flatten (blocks (g .given))) part to (omega (arith, g .wide)) h
+              ∙ ap (splice out₀ 0) (sym all-are)
+
+          sizes-are : map length (blocks (g .given ++ (d .said ∷ []))) ≡ map blockLength (g .made ++ (this ∷ []))
+          sizes-are =
+              ap (map length) blocks-are ∙ map-append length (blocks (g .given)) (part ∷ [])
+              ∙ ap (λ (x : List ℕ). x ++ (length part ∷ [])) (g .sizes)
+              ∙ ap (λ (x : ℕ). map blockLength (g .made) ++ (x ∷ [])) (part-long ∙ sym this-takes)
+              ∙ sym (map-append blockLength (g .made) (this ∷ []))
+
+          out-long : length out' ≡ length out₀
+          out-long = ap length put-is ∙ length-splice out to part (omega (arith, part-long, block-ends)) ∙ g .same
+
+          -- one call fewer is to come
+          next : courseFrom (length s - n) (drop at s) (length out₀ - to) ≡ callFirst this (courseFrom (length s - (n + 1)) (drop (at + 3 + size) s) (length out₀ - (to + block)))
+          unfolding this
+          next =
+              let fuel : length s - n ≡ suc (length s - (n + 1)) = omega (arith, head-ends, g .far) in
+              let rest : length out₀ - to - blockLength this ≡ length out₀ - (to + block) = omega (arith, this-takes) in
+              let far : at + itemLength (drop at s) ≡ at + 3 + size = omega (arith, size-at s at, z) in
+              ap (λ (x : ℕ). courseFrom x (drop at s) (length out₀ - to)) fuel
+              ∙ course-more (length s - (n + 1)) (drop at s) goes
+              ∙ ap (λ (x : List ℕ). callFirst this (courseFrom (length s - (n + 1)) x (length out₀ - to - blockLength this))) (drop-drop (itemLength (drop at s)) at s ∙ ap (λ (x : ℕ). drop x s) far)
+              ∙ ap (λ (x : ℕ). callFirst this (courseFrom (length s - (n + 1)) (drop (at + 3 + size) s) x)) rest
+
+          pub ran-more : Ran s out₀ m₀ (at + 3 + size) (to + block) (n + 1) ended' e out'
+          ran-more =
+              let p : Course = courseFrom (length s - (n + 1)) (drop (at + 3 + size) s) (length out₀ - (to + block)) in
+              record {
+                made = g .made ++ (this ∷ []);
+                given = g .given ++ (d .said ∷ []);
+                calls = snoc (g .calls) outcome;
+                left =
+                    g .left ∙ ap (coming (g .made)) next
+                    ∙ ap (λ (cs : List Step). record { calls = cs; number = p .number }) (sym (append-assoc (g .made) (this ∷ []) (p .calls)));
+                count = omega (arith, length-append (g .made) (this ∷ []), g .count);
+                far = omega (arith, g .far);
+                within = item-ends;
+                room = omega (arith, block-ends, g .same);
+                wide = ap length all-are ∙ length-append (flatten (blocks (g .given))) part ∙ omega (arith, g .wide, part-long);
+                wrote = out-is;
+                sizes = sizes-are;
+                same = out-long;
+                ends = f ∙ ap (λ (x : ℕ). endNumber (endsWith (drop (at + 3 + size) s) (x - (to + block)))) out-long;
+              }
+
+-- ---- the emptying before the run
+
+clash : _≡_ {A = ℕ} 0 1 → ⊥
+clash e = omega arith
+
+-- it is granted just where the memory is long enough
+module _ {m e : Memory} {r : Reply} (o : CallOutcome (plain reset) m (replied r) e) where
+  unlike : true ≡ false → ⊥
+  unlike x = let z : _≡_ {A = ℕ} 0 1 = cc in omega arith
+
+  pub emptied-holds : r .number ≡ 0 → viewOf e ≡ formed emptiedState
+  unfolding EmptiedMeets
+  emptied-holds z = emptied-meets m e (replied r) o z .1
+
+  number-long : tooShort m ≡ false → r .number ≡ 0
+  unfolding EmptyingGranted
+  number-long l = ap (λ (x : Response). x .reply .number) (emptying-granted m e (replied r) l o)
+
+  module _ (s out : List ℕ) where
+    pub run-refused : (r .number ≡ 0 → ⊥) → Runs s m out 1 e out
+    run-refused n = record { refused = λ l. (refl, o .kept n, refl); ran = λ l. absurd (n (number-long l)) }
+
+    pub run-granted : {v : ℕ} {e' : Memory} {out' : List ℕ} → r .number ≡ 0 → RunAs (courseOf s (length out)) e out v e' out' → Runs s m out v e' out'
+    run-granted z a =
+        record {
+          refused = λ l. absurd (unlike (sym l ∙ reset-long m (o .says) z));
+          ran = λ l. record { says = a .says; answers = a .answers; sizes = a .sizes; holds = a .holds; past = past-then (o .past) (a .past) };
+        }

@@ -1,0 +1,25 @@
+-- The output is cleared, the lookup is lent what follows the first four bytes, and its reply is put there.
+use denote.Ref.{now}
+use Rattle.kept_session.specs.Calls.{look}
+use Rattle.kept_run.proofs.Calls.{handed-block}
+use borrow.Author.Needs.{needs}
+use Rattle.kept_run.proofs.look_up.Statement.{statement}
+use Rattle.kept_run.proofs.look_up.Tie as tie
+
+pub look-up-spec : {M : Type 1} → statement M
+look-up-spec =
+    tie.close
+    (tie.spec
+    (λ c κs. search needs)
+    (λ c. search needs)
+    (λ c. search needs)
+    (λ c. search needs)
+    (λ c κs. search needs)
+    (λ c κs. search needs)
+    (λ c κs. search needs)
+    (λ c. search needs)
+    (λ c.  -- returns
+    let start = c .before .before .before .before .before .before .before .before .before .before .before .before .before .before .before .before .before .before in
+    let cleared = c .before .before .before .before .before .before .before .before .before .before .before in
+    let looked = c .before .before .before .before .before .before .before in
+    handed-block (look (start .args .target)) (now (start .args .out)) _ _ (start .pre) (cleared .clear .ensures) (looked .look .ensures) (c .before .before .before .before .packed .ensures) (c .before .before .write-u32 .ensures)))

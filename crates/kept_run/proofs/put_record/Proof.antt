@@ -1,0 +1,25 @@
+-- As a lookup: the output is cleared, the record is written behind the first four bytes, and its reply is put there.
+use denote.Ref.{now}
+use Rattle.kept_session.specs.Calls.{writeRecord}
+use Rattle.kept_run.proofs.Calls.{handed-block}
+use borrow.Author.Needs.{needs}
+use Rattle.kept_run.proofs.put_record.Statement.{statement}
+use Rattle.kept_run.proofs.put_record.Tie as tie
+
+pub put-record-spec : {M : Type 1} → statement M
+put-record-spec =
+    tie.close
+    (tie.spec
+    (λ c κs. search needs)
+    (λ c. search needs)
+    (λ c. search needs)
+    (λ c. search needs)
+    (λ c κs. search needs)
+    (λ c κs. search needs)
+    (λ c κs. search needs)
+    (λ c. search needs)
+    (λ c.  -- returns
+    let start = c .before .before .before .before .before .before .before .before .before .before .before .before .before .before .before .before .before .before in
+    let cleared = c .before .before .before .before .before .before .before .before .before .before .before in
+    let written = c .before .before .before .before .before .before .before in
+    handed-block writeRecord (now (start .args .out)) _ _ (start .pre) (cleared .clear .ensures) (written .write .ensures) (c .before .before .before .before .packed .ensures) (c .before .before .write-u32 .ensures)))

@@ -1,0 +1,28 @@
+-- Where the emptying is refused nothing changes; where it is granted the run begins on emptied memory.
+use denote.Ref.{now}
+use Rattle.kept_run.proofs.RunLoop.{emptied-holds, run-refused, run-granted}
+use borrow.Author.Needs.{needs}
+use Rattle.kept_run.proofs.run.Statement.{statement}
+use Rattle.kept_run.proofs.run.Tie as tie
+
+pub run-spec : {M : Type 1} → statement M
+run-spec =
+    tie.close
+    (tie.spec
+    (λ c κs. search needs)
+    (λ c. search needs)
+    (λ c. search needs)
+    (λ c. search needs)
+    (λ c. search needs)
+    (λ c.  -- returns
+    let u = c .before .before .before .before .before .before .before .before .before .before .before .before .before .before .before .before .before .before .before in
+    run-refused (c .before .before .before .before .before .before .before .before .reset .ensures) (now (u .args .script)) (now (u .args .out)) (c .if1 .taken))
+    (λ c κs. emptied-holds (c .before .before .before .before .before .before .before .before .before .before .before .before .before .reset .ensures) (c .before .before .before .before .before .if1 .left))  -- run-on-requires
+    (λ c. search needs)
+    (λ c. search needs)
+    (λ c. search needs)
+    (λ c. search needs)
+    (λ c. search needs)
+    (λ c.  -- returns-2
+    let u = c .before .before .before .before .before .before .before .before .before .before .before .before .before .before .before .before .before .before .before .before .before .before .before .before .before .before .before .before .before .before .before .before .before .before .before in
+    run-granted (c .before .before .before .before .before .before .before .before .before .before .before .before .before .before .before .before .before .before .before .before .before .before .before .before .reset .ensures) (now (u .args .script)) (now (u .args .out)) (c .before .before .before .before .before .before .before .before .before .before .before .before .before .before .before .before .if1 .left) (c .before .before .before .before .before .before .before .before .before .before .run-on .ensures)))

@@ -1,0 +1,27 @@
+-- By the kind: four bytes for the reply, and those of what a call of the kind hands out at most.
+use Rattle.kept_run.proofs.Calls.{length-change, length-window, length-notification, length-cell, length-record, length-windows, length-notifications, length-desktop}
+use borrow.Author.Needs.{needs}
+use Rattle.kept_run.proofs.single_length.Statement.{statement}
+use Rattle.kept_run.proofs.single_length.Tie as tie
+
+pub single-length-spec : {M : Type 1} → statement M
+single-length-spec =
+    tie.close
+    (tie.spec
+    (λ c. length-change _ (c .if1 .taken))  -- returns
+    (λ c. search needs)
+    (λ c. length-window _ (c .if2 .taken))  -- returns-2
+    (λ c. search needs)
+    (λ c. length-notification _ (c .if3 .taken))  -- returns-3
+    (λ c. search needs)
+    (λ c. length-cell _ (c .if4 .taken))  -- returns-4
+    (λ c. search needs)
+    (λ c. length-record _ (c .if5 .taken))  -- returns-5
+    (λ c. search needs)
+    (λ c. length-windows _ (c .if6 .taken))  -- returns-6
+    (λ c. search needs)
+    (λ c. length-notifications _ (c .if7 .taken))  -- returns-7
+    (λ c. search needs)
+    (λ c.  -- returns-8
+    let t = c .before .before .before in
+    length-desktop _ (t .before .before .before .if1 .left) (t .before .before .if2 .left) (t .before .if3 .left) (t .if4 .left) (c .before .before .if5 .left) (c .before .if6 .left) (c .if7 .left)))

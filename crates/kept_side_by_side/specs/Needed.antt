@@ -1,0 +1,105 @@
+-- Change request 13: what its premises are needed for, on states reached by deliveries from an emptied one. Assumes nothing.
+use Prim.Native.Nat.{ℕ}
+use mathlib.Core.Path.{_≡_}
+use mathlib.Core.List.{List, [], _∷_, _++_}
+use lib.ListN.{replicate}
+use Rattle.directory.specs.Directory.{windows}
+use Rattle.kept_table.specs.Table.{emptied}
+use Rattle.kept_journal.specs.State.{State, present}
+use Rattle.kept_session.specs.Calls.{deliver, answer, next}
+use Rattle.kept_model.specs.Wellformed.{emptiedState}
+use Rattle.kept_side_by_side.specs.SideBySide.{Beside, Different, EitherWay, Claim}
+
+-- ---- orders for a window below 256
+
+abbrev pub newWindow : ℕ → List ℕ
+newWindow k = 0x2E ∷ 0x0B ∷ 0x00 ∷ 0x00 ∷ 0x00 ∷ 0x00 ∷ 0x11 ∷ k ∷ 0x00 ∷ 0x00 ∷ 0x00 ∷ []
+
+abbrev pub deleteWindow : ℕ → List ℕ
+deleteWindow k = 0x2E ∷ 0x0B ∷ 0x00 ∷ 0x00 ∷ 0x00 ∷ 0x00 ∷ 0x21 ∷ k ∷ 0x00 ∷ 0x00 ∷ 0x00 ∷ []
+
+-- a title of one letter
+abbrev pub titleWindow : ℕ → ℕ → List ℕ
+titleWindow k letter = 0x2E ∷ 0x0F ∷ 0x00 ∷ 0x04 ∷ 0x00 ∷ 0x00 ∷ 0x01 ∷ k ∷ 0x00 ∷ 0x00 ∷ 0x00 ∷ 0x02 ∷ 0x00 ∷ letter ∷ 0x00 ∷ []
+
+-- ---- states
+
+unfoldable pub delivered : State → List (List ℕ) → State
+delivered s [] = s
+delivered s (o ∷ os) = delivered (next (deliver o) s) os
+
+abbrev pub crowd : List ℕ
+crowd =
+    (0 ∷ 1 ∷ 2 ∷ 3 ∷ 4 ∷ 5 ∷ 6 ∷ 7 ∷ 8 ∷ 9 ∷ 10 ∷ 11 ∷ 12 ∷ 13 ∷ 14 ∷ 15 ∷ [])
+    ++ (16 ∷ 17 ∷ 18 ∷ 19 ∷ 20 ∷ 21 ∷ 22 ∷ 23 ∷ 24 ∷ 25 ∷ 26 ∷ 27 ∷ 28 ∷ 29 ∷ 30 ∷ [])
+
+unfoldable pub newWindows : List ℕ → List (List ℕ)
+newWindows [] = []
+newWindows (k ∷ ks) = newWindow k ∷ newWindows ks
+
+-- windows 0 to 30, new, delivered to an emptied state
+abbrev pub crowded : State
+crowded = delivered emptiedState (newWindows crowd)
+
+-- window 7 alone
+abbrev pub single : State
+single = delivered emptiedState (newWindow 7 ∷ [])
+
+-- window 7 with 127 orders standing
+abbrev pub brimming : State
+brimming = delivered single (replicate 126 (titleWindow 7 0x41))
+
+-- window 7 listed and a count of 0: no memory and no book has such a table
+abbrev pub uncounted : State
+uncounted =
+    record {
+      marked = record { records = present single .records; many = λ f. 0; cells = emptied .cells; desktop = emptied .desktop };
+      log = [];
+    }
+
+-- ---- the numbers
+
+-- of a and b, a first; and of b and a, b first
+pub record Numbers (s : State) (a b : List ℕ) (p q q' p' : ℕ) : Type 0 where
+  pub a-first : answer (deliver a) s .number ≡ p
+  pub then-b : answer (deliver b) (next (deliver a) s) .number ≡ q
+  pub b-first : answer (deliver b) s .number ≡ q'
+  pub then-a : answer (deliver a) (next (deliver b) s) .number ≡ p'
+
+-- at 31 listed windows two new ones: whichever comes second gets 10
+unfoldable pub AtThirtyOne : Type 0
+AtThirtyOne = (present crowded .many windows ≡ 31) × Numbers crowded (newWindow 31) (newWindow 32) 0 10 0 10
+
+-- with room for one order: whichever comes second gets 12
+unfoldable pub RoomForOne : Type 0
+RoomForOne = Numbers brimming (newWindow 8) (newWindow 9) 0 12 0 12
+
+-- two orders for one window: deleted and then new again, or 9 and then deleted
+unfoldable pub OneWindow : Type 0
+OneWindow = Numbers single (deleteWindow 7) (newWindow 7) 0 0 9 0
+
+-- two titles for one window: both are accepted either way, and the one that comes last stands
+unfoldable pub LastStands : Type 0
+LastStands =
+    Numbers single (titleWindow 7 0x41) (titleWindow 7 0x42) 0 0 0 0
+    × (present (delivered single (titleWindow 7 0x41 ∷ titleWindow 7 0x42 ∷ [])) ≡ present (delivered single (titleWindow 7 0x42 ∷ titleWindow 7 0x41 ∷ []))
+    → ⊥)
+
+-- both are accepted either way, but a deletion takes nothing from 0: the count at the end is 1 or 0
+unfoldable pub Uncounted : Type 0
+Uncounted =
+    Numbers uncounted (deleteWindow 7) (newWindow 8) 0 0 0 0
+    × (present (delivered uncounted (deleteWindow 7 ∷ newWindow 8 ∷ [])) .many windows ≡ 1)
+    × (present (delivered uncounted (newWindow 8 ∷ deleteWindow 7 ∷ [])) .many windows ≡ 0)
+
+-- ---- so the claim fails with 31 for 30, and for orders that name one window
+
+unfoldable pub ThirtyNeeded : Type 0
+ThirtyNeeded = Claim 31 Different → ⊥
+
+unfoldable pub DifferentNeeded : Type 0
+DifferentNeeded = Claim 30 (λ x y. x ≡ y) → ⊥
+
+-- and without `Counts`, on states that nothing describes
+unfoldable pub CountsNeeded : Type 0
+CountsNeeded = ((s : State) (a b : List ℕ) (x y : ℕ) → Beside 30 Different s a b x y → EitherWay s a b) → ⊥

@@ -1,0 +1,3 @@
+pub mod Cuts
+pub mod Courses
+pub mod Reports

@@ -1,0 +1,18 @@
+-- The two halves, one above the other.
+use mathlib.Core.Path.{refl}
+use Rattle.kept_update.specs.Packed.{packedReport}
+use borrow.Author.Needs.{needs}
+use Rattle.kept_update.proofs.packed.Statement.{statement}
+use Rattle.kept_update.proofs.packed.Tie as tie
+
+pub packed-spec : {M : Type 1} → statement M
+packed-spec =
+    tie.close
+    (tie.spec
+    (λ c κs. search needs)
+    (λ c. search needs)
+    (λ c κs. search needs)
+    (λ c. search needs)
+    (λ c. search needs)
+    (λ c. search needs)
+    (λ c. unfold packedReport in rw (c .before .standing .ensures, c .granted .ensures)))  -- returns
