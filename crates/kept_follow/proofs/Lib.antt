@@ -3,3 +3,4 @@ pub mod Pictured
 pub mod Recorded
 pub mod Begun
 pub mod Following
+pub mod Ways

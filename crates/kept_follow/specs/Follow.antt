@@ -70,8 +70,11 @@ presentPictures marked since origins p = pick (eqb (originAt origins p) 0) (mark
 abbrev pub noOrigins : List ℕ
 noOrigins = replicate originsLength 0
 
+abbrev pub beginSlot : Found → List ℕ → List ℕ → List ℕ
+beginSlot f bodies m = onFound f m (λ i. splice m 0 (slotOf bodies i))
+
 abbrev pub beginRecord : Found → List ℕ → List ℕ → List ℕ
-beginRecord f bodies m = splice (onFound f m (λ i. splice m 0 (slotOf bodies i))) 916 noOrigins
+beginRecord f bodies m = splice (beginSlot f bodies m) 916 noOrigins
 
 unfoldable pub beginOf : Want → List ℕ → List ℕ → List ℕ → List ℕ
 beginOf Nothing index bodies m = m

@@ -9,7 +9,7 @@ ghost use Rattle.index.specs.Slots.{isAt};
 ghost use Rattle.kept_table.specs.Memory.{bodiesLength};
 ghost use Rattle.index.specs.Slots as slots;
 ghost use Rattle.kept_table.specs.Changes.{Able, Follows};
-ghost use Rattle.kept_follow.specs.Follow.{originsLength, roomFor, beginRecord, beginOf, isFor, slotFollowed, originsFollowed, recordFollowed, picturesFollowed, desktopFollowed, followedOf};
+ghost use Rattle.kept_follow.specs.Follow.{originsLength, roomFor, beginSlot, beginRecord, beginOf, isFor, slotFollowed, originsFollowed, recordFollowed, picturesFollowed, desktopFollowed, followedOf};
 use index::Change;
 use index::Plan;
 use kept_table::changes;
@@ -34,6 +34,26 @@ pub const ORIGINS: usize = 128;
 // A slot and the origins.
 pub const RECORD: usize = 1044;
 
+// Copies the slot in which the record of the ids is listed, where it is.
+fn begin_slot(
+    m: &mut [u8],
+    index: &[u8],
+    bodies: &[u8],
+    family: Family,
+    window: WindowId,
+    notify: NotifyIconId,
+)
+    requires { ⌜ (length (now m) ≡ 1044) × (indexLength ≤ length (now index)) × (bodiesLength ≤ length (now bodies)) ⌝ }
+    ensures { λ _. ⌜ now (m .exit) ≡ beginSlot (slots.slotOf (now (index .entry)) family (window .id) (notify .id)) (now (bodies .entry)) (now (m .entry)) ⌝ }
+{
+    let search = index::slots::find(index, family, window, notify);
+    let f = search.found;
+    let Found::At(i) = f else {
+        return;
+    };
+    wire::copy_part(m, 0, bodies, body::SLOT * i, body::SLOT);
+}
+
 fn begin_record(
     m: &mut [u8],
     index: &[u8],
@@ -45,11 +65,7 @@ fn begin_record(
     requires { ⌜ (length (now m) ≡ 1044) × (indexLength ≤ length (now index)) × (bodiesLength ≤ length (now bodies)) ⌝ }
     ensures { λ _. ⌜ now (m .exit) ≡ beginRecord (slots.slotOf (now (index .entry)) family (window .id) (notify .id)) (now (bodies .entry)) (now (m .entry)) ⌝ }
 {
-    let search = index::slots::find(index, family, window, notify);
-    let f = search.found;
-    if let Found::At(i) = f {
-        wire::copy_part(m, 0, bodies, body::SLOT * i, body::SLOT);
-    }
+    begin_slot(m, index, bodies, family, window, notify);
     wire::clear(m, body::SLOT, ORIGINS);
 }
 
@@ -74,7 +90,7 @@ fn is_for(c: Change, family: Family, window: WindowId, notify: NotifyIconId) -> 
     ensures { λ r. ⌜ r ≡ isFor family (window .id) (notify .id) c ⌝ }
 {
     let f = c.family;
-    let ids = (c.window.id == window.id) & (c.notify.id == notify.id);
+    let ids = (window.id == c.window.id) & (notify.id == c.notify.id);
     match f {
         Family::Windows => match family {
             Family::Windows => ids,
