@@ -3,9 +3,7 @@
 ghost use mathlib.Core.Path.{_≡_};
 ghost use Prim.Native.Nat.{_+_, _<_, _≤_};
 ghost use lib.ListN.{length};
-ghost use Rattle.places.specs.Counts.{firstFrom};
 ghost use Rattle.index.specs.Families.{indexLength};
-ghost use Rattle.index.specs.Slots.{isAt};
 ghost use Rattle.kept_table.specs.Memory.{bodiesLength};
 ghost use Rattle.index.specs.Slots as slots;
 ghost use Rattle.kept_table.specs.Changes.{Able, Follows};
