@@ -4,9 +4,7 @@
 use crate::ids::{NotifyIconId, WindowId};
 use crate::number::{ROOM_PASSED, TOO_MANY_STEPS, WRONG_ID};
 use crate::order::{judge, CellPlace};
-use crate::table::{
-    brings_icon, number, Cell, Desktop, Holder, NotificationIcon, Table, Window,
-};
+use crate::table::{brings_icon, number, Cell, Desktop, Holder, NotificationIcon, Table, Window};
 
 /// The most orders after the mark.
 pub const ORDERS_ROOM: usize = 128;
@@ -59,7 +57,8 @@ impl Book {
 
     /// Whether the table, or one that steps back can bring, has a picture.
     pub fn has_pictures(&self) -> bool {
-        let brings = |order: &Vec<u8>| judge(order).is_ok_and(|order| brings_icon(&order).is_some());
+        let brings =
+            |order: &Vec<u8>| judge(order).is_ok_and(|order| brings_icon(&order).is_some());
         self.at_mark.store().used() > 0 || self.after_mark.iter().any(brings)
     }
 

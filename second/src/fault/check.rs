@@ -147,7 +147,10 @@ impl<'a> Judge<'a> {
 /// A line with a dot for each hex digit of a picture's bytes: those of the fields that
 /// have parts of one, or a whole one.
 fn without_pictures(line: &[u8]) -> Vec<u8> {
-    let mut words: Vec<Vec<u8>> = line.split(|&byte| byte == b' ').map(<[u8]>::to_vec).collect();
+    let mut words: Vec<Vec<u8>> = line
+        .split(|&byte| byte == b' ')
+        .map(<[u8]>::to_vec)
+        .collect();
     for word in &mut words {
         let Some(at) = word.iter().position(|&byte| byte == b'=') else {
             continue;

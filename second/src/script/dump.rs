@@ -20,7 +20,10 @@ pub(super) fn push_size(line: &mut Vec<u8>, size: usize) {
 pub fn memory(line: &[u8]) -> Option<Vec<u8>> {
     let digits = line.strip_prefix(b"Z ")?.strip_suffix(b"\n")?;
     let is_lowercase = |byte: &u8| matches!(byte, b'0'..=b'9' | b'a'..=b'f');
-    digits.iter().all(is_lowercase).then(|| hex::bytes(digits).ok())?
+    digits
+        .iter()
+        .all(is_lowercase)
+        .then(|| hex::bytes(digits).ok())?
 }
 
 /// An output in which each line of a `Z` tells its size, as a run here prints it. Where a
