@@ -33,6 +33,11 @@ fn session_record() {
 }
 
 #[test]
+fn store() {
+    check(include_str!("../../vectors/session-store.txt"), 52);
+}
+
+#[test]
 fn demo() {
     check(include_str!("../../vectors/session.txt"), 23);
 }
