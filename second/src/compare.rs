@@ -14,10 +14,13 @@ pub struct Scripts<'a> {
     /// What a script has to print.
     pub expected: &'a (dyn Fn(&[u8]) -> Vec<u8> + Sync),
     /// What another program printed for a script, in the terms of what is expected.
-    pub told: &'a (dyn Fn(&[u8], Vec<u8>) -> Vec<u8> + Sync),
+    pub told: &'a Told<'a>,
     /// The kinds of items that print nothing.
     pub silent: &'a [u8],
 }
+
+/// Tells what was printed for a script.
+pub type Told<'a> = dyn Fn(&[u8], Vec<u8>) -> Vec<u8> + Sync + 'a;
 
 /// What a comparison came to.
 #[derive(Clone, Copy, Debug, Default, PartialEq, Eq)]

@@ -10,6 +10,8 @@ mod faults;
 mod generator;
 mod judging;
 mod lookups;
+mod memory;
+mod places;
 mod scripts;
 mod sets;
 mod side_by_side;

@@ -1,6 +1,6 @@
 //! The facts that generated scripts of state calls have to meet.
 
-use super::store;
+use super::of_stores;
 use crate::coverage::order::expected as order;
 
 /// The calls with the numbers that each can meet.
@@ -112,6 +112,6 @@ pub fn facts() -> Vec<String> {
     }
 
     facts.extend(RECORDS.map(String::from));
-    facts.extend(store::expected());
+    facts.extend(of_stores::facts());
     facts
 }

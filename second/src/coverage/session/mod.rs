@@ -1,6 +1,7 @@
 //! What generated scripts of state calls reach.
 
 mod expected;
+mod of_stores;
 mod records;
 mod store;
 
@@ -59,7 +60,7 @@ impl Coverage {
         let before = matches!(call, Call::StepBack(_)).then(|| session.book().table().clone());
         let Some(number) = session.make(call) else {
             if *call == Call::Dump {
-                self.facts.add_dump(session);
+                self.facts.add_dump(stores, session);
             }
             return;
         };

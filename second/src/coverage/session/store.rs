@@ -1,6 +1,7 @@
 //! What the stores of generated scripts reach: how they are lent, filled and shared.
 
 use super::super::Facts;
+use super::of_stores::KINDS;
 use crate::book::{Book, BYTES_ROOM, ORDERS_ROOM};
 use crate::ids::WindowId;
 use crate::number::{NO_CELL, NO_PLACE, STATE_UNFIT, WRONG_ID};
@@ -9,96 +10,6 @@ use crate::order::{judge, Order, Picture, WindowChange};
 use crate::script::parts::{places, places_of, StoreLengths};
 use crate::script::session::{Call, Session};
 use crate::table::{brings_icon, Holder, Store, MOST_PLACES, PLACE_SIZE};
-
-/// The numbers of places at which something is asked for.
-const SIZES: [usize; 4] = [12, 13, 63, 64];
-/// The kinds of holders.
-const KINDS: [&str; 4] = ["cell", "small", "big", "notification"];
-/// The calls on the state.
-const CALLS: &str = "EDUMBWNCSIHO";
-
-/// Facts of their own.
-const SINGLE: [&str; 48] = [
-    "E lent=11 1",
-    "E lent=0 1",
-    "E lent=70 0",
-    "E lent=75 0",
-    "E fixes fewer",
-    "E fixes more",
-    "E cut: a broken place",
-    "E cut: a part of no place between others",
-    "E cut: a part of one byte less than a place",
-    "E cut: a part of 65536 bytes",
-    "E cut: to the byte",
-    "L fewer, then granted again",
-    "L more places than fixed, and a call granted",
-    "T store, and a call granted",
-    "T store, and a call refused",
-    "T store, and E fixes fewer",
-    "T store, and E refused",
-    "T store, lent empty",
-    "D 17 where the room is passed too",
-    "D 17 beside the window's other icon",
-    "D 17 for an empty cell",
-    "D 17 for a filled cell",
-    "D 9 with an icon and a full store",
-    "D 11 with cache FF and a full store",
-    "D full store, own place by the cell",
-    "D full store, own place by the pointer",
-    "D full store, own place by both together",
-    "D cached icon with a full store",
-    "D cached icon of the cell that it shares",
-    "D icon over the cell that it shares",
-    "D desktop none with kept pictures",
-    "17 undone by delete window",
-    "17 undone by delete notification",
-    "17 undone by desktop none",
-    "17 undone by step back",
-    "17 undone by cached icon",
-    "W small kept, its cell has another",
-    "W big kept, its cell has another",
-    "W small and big at one place",
-    "W picture of 4224 bytes",
-    "N picture kept, its cell has another",
-    "N picture of 4224 bytes",
-    "H shared by 6 or more",
-    "H equal pictures apart",
-    "B restores pictures",
-    "B restores sharing",
-    "Z 12 places",
-    "Z 64 places",
-];
-
-/// All expected facts.
-pub fn expected() -> Vec<String> {
-    let mut facts: Vec<String> = SINGLE.map(String::from).to_vec();
-    for size in SIZES {
-        facts.push(format!("E places={size} 0"));
-        facts.push(format!("D places={size} 17"));
-        facts.push(format!("D places={size}, the last one taken"));
-    }
-    facts.extend(CALLS.chars().map(|kind| format!("{kind} lent too few 1")));
-    for sort in [
-        "small icon",
-        "big icon",
-        "new notification with icon",
-        "update notification with icon",
-    ] {
-        facts.push(format!("D {sort} 17"));
-    }
-    for one in KINDS {
-        for other in KINDS {
-            facts.push(format!("H {one} {other} shared=0"));
-            facts.push(format!("H {one} {other} shared=1"));
-        }
-        facts.push(format!("H {one} with itself shared=1"));
-        facts.push(format!("H {one} of nothing 9"));
-    }
-    for kind in ["cell outside", "window absent", "notification absent"] {
-        facts.push(format!("H {kind} 9"));
-    }
-    facts
-}
 
 /// What stood before a call.
 pub struct Before {
@@ -125,6 +36,9 @@ pub struct Stores {
     refused: Option<(Vec<u8>, Vec<&'static str>)>,
     /// The last calls were refused for the store.
     lent_too_few: bool,
+    /// How the store was lent when it was last printed, whether the book has changed
+    /// since, and the most places it had.
+    printed: Option<(StoreLengths, bool, usize)>,
 }
 
 impl Facts {
@@ -138,6 +52,10 @@ impl Facts {
         number: u8,
     ) {
         self.add_lent(stores, before, session, (kind, call), number);
+        if let Some((_, changed, most)) = &mut stores.printed {
+            *changed |= before.book != *session.book();
+            *most = (*most).max(session.book().places());
+        }
         if number == STATE_UNFIT {
             return;
         }
@@ -222,7 +140,7 @@ impl Facts {
         let counts = before.lent.map(places_of);
         let first = counts.iter().position(|&count| count > 0).unwrap_or(0);
         let last = counts.iter().rposition(|&count| count > 0).unwrap_or(0);
-        let broken = |&length: &u32| length as usize % PLACE_SIZE != 0;
+        let broken = |&length: &u32| !(length as usize).is_multiple_of(PLACE_SIZE);
         for (what, holds) in [
             ("a broken place", before.lent.iter().any(broken)),
             (
@@ -403,9 +321,20 @@ impl Facts {
     }
 
     /// A `Z` with the store lent so.
-    pub(super) fn add_dump(&mut self, session: &Session) {
-        let lent = places(&session.lengths()).min(MOST_PLACES);
+    pub(super) fn add_dump(&mut self, stores: &mut Stores, session: &Session) {
+        let lengths = session.lengths();
+        let lent = places(&lengths).min(MOST_PLACES);
         self.add(format!("Z {lent} places"));
+        match stores.printed {
+            Some((earlier, false, _)) if earlier == lengths => {
+                self.add("Z again, nothing between");
+            }
+            Some((earlier, true, most)) if earlier == lengths && most < lent => {
+                self.add("Z again, places past those fixed");
+            }
+            _ => {}
+        }
+        stores.printed = Some((lengths, false, session.book().places()));
     }
 }
 

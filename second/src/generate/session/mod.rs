@@ -408,7 +408,7 @@ impl Writer<'_> {
             9 | 10 => {
                 let mut holders = [0; 18];
                 let at = 9 * random.below(2);
-                if sort % 2 == 0 {
+                if sort.is_multiple_of(2) {
                     holders[at] = 4;
                 } else {
                     (holders[at], holders[at + 5]) = (random.pick(&[1, 2]), 1);
@@ -422,11 +422,9 @@ impl Writer<'_> {
 
 /// Whether it is a call on the state, which a shortage of memory before it is meant for.
 fn is_state_call(call: &Call<'_>) -> bool {
-    match call {
-        Call::Shorten | Call::ShortenStore(..) | Call::Fault | Call::FaultStore(..) => false,
-        Call::Lend(_) | Call::Dump | Call::ReadRecord(_) => false,
-        _ => true,
-    }
+    let is_short = matches!(call, Call::Shorten | Call::ShortenStore(..));
+    let is_fault = matches!(call, Call::Fault | Call::FaultStore(..));
+    !is_short && !is_fault && !matches!(call, Call::Lend(_) | Call::Dump | Call::ReadRecord(_))
 }
 
 fn window_lookup(id: u32) -> (u8, Vec<u8>) {
