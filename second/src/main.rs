@@ -23,7 +23,7 @@ usage:
       line `fault` on standard error and the status 3: the state here has no memory. In a
       script of control messages only a chunk taken before the change is undone, by the
       same item or by an emptying, does so. Of the memory that an item Z prints only the
-      size is known here: `Z 399314 bytes`.
+      size is known here, and printed: `Z`, the number and `bytes`.
   second gen-pdu SEED ITEMS > script
   second gen-session SEED ITEMS [--parts L0,L1,..] > script
       Generates a script. The same seed and count give the same bytes.
