@@ -95,7 +95,7 @@ fn faults_are_in_every_part() {
 }
 
 const FIRST: &str = "D 2E0700 02000004\nX 00 00000000 01\nS\nX 01 05000000 FF\n\
-                     W 01000000\nB 01000000\nT 03 0100\nM\nT 00 0100\nE\n";
+                     W 01000000\nB 01000000\nT 01 0100\nM\nT 00 0100\nE\n";
 const LAST: &str = "E\nM\nW 01000000\n";
 
 /// What may be printed for these.
