@@ -122,8 +122,30 @@ fn what_is_missing_is_named() {
     assert_eq!(facts.met().count(), 0);
 }
 
-/// The calls, and the limits of document 01's table and history rules.
-const NAMED: [&str; 62] = [
+/// The calls, the limits of document 01's table and history rules, and those of the store.
+const NAMED: [&str; 84] = [
+    "E lent=11 1",
+    "E lent=70 0",
+    "E places=12 0",
+    "E places=13 0",
+    "E places=63 0",
+    "E places=64 0",
+    "D places=12 17",
+    "D places=64 17",
+    "U 17",
+    "L fewer, then granted again",
+    "L more places than fixed, and a call granted",
+    "D full store, own place by both together",
+    "D 17 beside the window's other icon",
+    "D 17 where the room is passed too",
+    "17 undone by delete window",
+    "17 undone by step back",
+    "17 undone by desktop none",
+    "W small kept, its cell has another",
+    "W small and big at one place",
+    "H shared by 6 or more",
+    "H equal pictures apart",
+    "Z again, nothing between",
     "E 0",
     "D 0",
     "M 0",
