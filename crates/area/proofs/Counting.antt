@@ -1,12 +1,12 @@
 -- Laws of counting: sums term by term, counts of points that pass one of two tests, and the points of a rectangle. Assumes nothing.
 use mathlib.Core.Path.{_≡_, refl, sym, ap, _∙_}
 use mathlib.Core.Bool.{Bool, true, false}
-use Prim.Native.Nat.{ℕ, zero, suc, _+_, _*_, _-_, _≤_, min}
+use Prim.Native.Nat.{ℕ, zero, suc, _+_, _*_, _-_, _≤_, _<_, min}
 use native.Mathlib.Nat.{zero-mul, suc-mul, add-mul, one-mul}
 use native.Mathlib.Omega.{arith}
-use lib.Dec.{leb, ltb}
-use borrow.Author.Tests.{leb-true, leb-false, ltb-true, ltb-false}
-use Rattle.wire.specs.Tests.{both}
+use lib.Dec.{eqb, leb, ltb}
+use borrow.Author.Tests.{eqb-true, eqb-false, ne-eqb, leb-true, leb-false, ltb-true, ltb-false}
+use Rattle.wire.specs.Tests.{pick, both}
 use Rattle.area.specs.declared.Rect.{Rect}
 use Rattle.area.specs.Area.{sumBelow, one, points, within, inside}
 
@@ -17,7 +17,7 @@ unfolding sumBelow
 sum-cong zero f g e = refl
 sum-cong (suc n) f g e = omega (arith, sum-cong n f g e, e n)
 
-sum-add : (n : ℕ) (f g : ℕ → ℕ) → sumBelow n (λ k. f k + g k) ≡ sumBelow n f + sumBelow n g
+pub sum-add : (n : ℕ) (f g : ℕ → ℕ) → sumBelow n (λ k. f k + g k) ≡ sumBelow n f + sumBelow n g
 unfolding sumBelow
 sum-add zero f g = refl
 sum-add (suc n) f g = omega (arith, sum-add n f g)
@@ -31,6 +31,30 @@ sum-most : (n m : ℕ) (f : ℕ → ℕ) → ((k : ℕ) → f k ≤ m) → sumBe
 unfolding sumBelow
 sum-most zero m f e = omega (arith, zero-mul m)
 sum-most (suc n) m f e = omega (arith, suc-mul n m, sum-most n m f e, e n)
+
+-- term by term below the bound
+pub sum-same : (n : ℕ) (f g : ℕ → ℕ) → ((k : ℕ) → k < n → f k ≡ g k) → sumBelow n f ≡ sumBelow n g
+unfolding sumBelow
+sum-same zero f g e = refl
+sum-same (suc n) f g e = omega (arith, sum-same n f g (λ k h. e k (omega arith)), e n (omega arith))
+
+-- all terms but one are 0
+pub sum-one : (n k c : ℕ) → k < n → sumBelow n (λ j. pick (eqb k j) c 0) ≡ c
+unfolding sumBelow
+sum-one zero k c h = absurd (omega arith)
+sum-one (suc n) k c h = go (eqb k n) refl (sum-one n k c)
+  where
+    go : (t : Bool) → eqb k n ≡ t → (k < n → sumBelow n (λ j. pick (eqb k j) c 0) ≡ c) → sumBelow n (λ j. pick (eqb k j) c 0) + pick t c 0 ≡ c
+    go true e before =
+        let z = sum-same n (λ j. pick (eqb k j) c 0) (λ j. 0) (λ j l. ap (λ (t : Bool). pick t c 0) (ne-eqb k j (λ q. omega (arith, eqb-true k n e)))) in
+        omega (arith, z, sum-none n (λ j. 0) (λ j. refl))
+    go false e before = omega (arith, before (omega (arith, eqb-false k n e)))
+
+-- row by row or column by column
+pub sum-swap : (m n : ℕ) (g : ℕ → ℕ → ℕ) → sumBelow m (λ a. sumBelow n (λ b. g a b)) ≡ sumBelow n (λ b. sumBelow m (λ a. g a b))
+unfolding sumBelow
+sum-swap zero n g = sym (sum-none n (λ b. 0) (λ b. refl))
+sum-swap (suc m) n g = omega (arith, sum-swap m n g, sum-add n (λ b. sumBelow m (λ a. g a b)) (g m))
 
 -- the same amount for each number that passes a test
 sum-times : (n c : ℕ) (p : ℕ → Bool) → sumBelow n (λ k. one (p k) * c) ≡ sumBelow n (λ k. one (p k)) * c

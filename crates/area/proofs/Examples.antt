@@ -11,7 +11,7 @@ rect : ℕ → ℕ → ℕ → ℕ → List ℕ
 rect left top right bottom = bytesOf 2 left ++ (bytesOf 2 top ++ (bytesOf 2 right ++ bytesOf 2 bottom))
 
 -- the request's example
-two : List ℕ
+pub two : List ℕ
 two = 2 ∷ 0 ∷ rect 0 0 10 10 ++ rect 5 5 15 15
 
 two-held : (i : ℕ) → i < listed two → (rectAt two i .right ≤ 15) × (rectAt two i .bottom ≤ 15)
@@ -20,7 +20,7 @@ two-held zero h = (omega arith, omega arith)
 two-held (suc zero) h = (omega arith, omega arith)
 two-held (suc (suc i)) h = absurd (omega arith)
 
-two-are-175 : areaOf two ≡ 175
+pub two-are-175 : areaOf two ≡ 175
 unfolding two rect bytesOf listed rectAt numAt points sumBelow anyBelow inside
 two-are-175 = area-held two 15 15 (omega arith) (omega arith) two-held ∙ refl
 
