@@ -1,0 +1,4 @@
+pub mod FigureFields
+pub mod FigureSums
+pub mod FigureIds
+pub mod Examples
