@@ -49,10 +49,11 @@ use Rattle.kept_table.proofs.Past.{same-store, index-past, emptied-past
 use Rattle.kept_table.proofs.Heads.{slot-past}
 use Rattle.kept_table.proofs.Changed.{bodies-are, store-kept, pictures-are, as-many-places, desk-is}
 use Rattle.kept_table.proofs.Joined.{same-table, joined, fields-after, desktop-kept, desktop-fields, desktop-is}
-use Rattle.kept_table.proofs.Sounded.{Sound, table-has, table-is, record-sounded, desktop-sounded}
+use Rattle.kept_table.proofs.Rule.{TableSound, table-has, table-is}
+use Rattle.kept_table.proofs.Sounded.{record-sounded, desktop-sounded}
 
 module _ (x b s : List ℕ) (store : List (List ℕ)) (bytes : Bytes s) (sound : soundTable x b (placesIn store) ≡ true) where
-  good : Sound x b (placesIn store)
+  good : TableSound x b (placesIn store)
   good = table-has x b (placesIn store) sound
 
   abbrev t : Table
@@ -75,7 +76,7 @@ module _ (x b s : List ℕ) (store : List (List ℕ)) (bytes : Bytes s) (sound :
     pub pictures : pictureAt (headsOf (bodiesBy s p b)) (storeBy s p store) ≡ picturesBy s p (pictureAt (headsOf b) store)
     pub fields : (g : Family) (m n : ℕ) → fieldsIn (appliedOf x p) (bodiesBy s p b) g m n ≡ after t s .fields g m n
     pub desktop : bodyOf desktopFields (slotOf (bodiesBy s p b) 48) ≡ after t s .desktop
-    pub sounded : soundIndex (appliedOf x p) ≡ true → placesOf (appliedOf x p) ≡ placesOf x → Sound (appliedOf x p) (bodiesBy s p b) (placesIn store)
+    pub sounded : soundIndex (appliedOf x p) ≡ true → placesOf (appliedOf x p) ≡ placesOf x → TableSound (appliedOf x p) (bodiesBy s p b) (placesIn store)
     pub past : drop 45780 (bodiesBy s p b) ≡ drop 45780 b
     pub kept : StoreKept (placesOf x) store (storeBy s p store)
     pub same : (planNumber p ≡ 0 → ⊥) → (appliedOf x p ≡ x) × (bodiesBy s p b ≡ b) × (storeBy s p store ≡ store)
@@ -89,12 +90,12 @@ module _ (x b s : List ℕ) (store : List (List ℕ)) (bytes : Bytes s) (sound :
       let big = good .big in
       let ok = sound-has x (good .index) in
       record {
-        pictures = pictures-are s c b big a icon store (placesOf x) low (good .enough);
+        pictures = pictures-are s c b big a icon store (placesOf x) low (good .lends);
         fields = λ g m n. fields-after x b s store o i place ok k p fits a icon big g m n ∙ ap (λ (u : Table). u .fields g m n) (sym h);
         desktop = desktop-kept x b s store o i place ok k p fits a icon big ∙ ap (λ (u : Table). u .desktop) (sym h);
         sounded = record-sounded x b s (placesIn store) good o i place k p fits a icon;
         past = bodies-are s c b big a icon .past;
-        kept = store-kept s c b big a icon store (placesOf x) low (good .enough);
+        kept = store-kept s c b big a icon store (placesOf x) low (good .lends);
         same = λ z. absurd (z refl);
       }
     where
@@ -164,3 +165,82 @@ module _ (x b s : List ℕ) (store : List (List ℕ)) (bytes : Bytes s) (sound :
     pub delivered-done : {r : ℕ} {y u v : List ℕ} {q : List (List ℕ)} → u ≡ slotsBy s p b → v ≡ headsBy s p u → q ≡ storeBy s p store → y ≡ appliedOf x p → r ≡ planNumber p
         → Delivered x b store s r y v q
     delivered-done eu ev eq ey er = rw (er, ey, ev, eu, eq, judged) delivered
+
+-- ---- emptying
+
+fixed-few : (lent : ℕ) → 12 ≤ lent → (12 ≤ fixedBy lent) × (fixedBy lent ≤ 64) × (fixedBy lent ≤ lent)
+fixed-few lent l = go (ltb 64 lent) refl
+  where
+    go : (t : Bool) → ltb 64 lent ≡ t → (12 ≤ pick t 64 lent) × (pick t 64 lent ≤ 64) × (pick t 64 lent ≤ lent)
+    go true t = let m = ltb-true 64 lent t in (omega arith, omega arith, omega arith)
+    go false t = let m = ltb-false 64 lent t in (l, m, omega arith)
+
+module _ (x b : List ℕ) (lent : ℕ) (long : 589 ≤ length x) (big : 45780 ≤ length b) (many : 12 ≤ lent) where
+  abbrev n : ℕ
+  n = fixedBy lent
+
+  abbrev bare : List ℕ
+  bare = preparedOf true (slotOf b 48)
+
+  few : (12 ≤ n) × (n ≤ 64) × (n ≤ lent)
+  few = fixed-few lent many
+
+  small : n < 256
+  small = let f = few .1 in omega arith
+
+  desk-room : 916 * 48 + 916 ≤ length b
+  desk-room = omega arith
+
+  slot-long : length (slotOf b 48) ≡ 916
+  slot-long = length-slot b 48 desk-room
+
+  bare-long : length bare ≡ 916
+  bare-long = let l = slot-long in length-prepared true (slotOf b 48) (omega arith) ∙ l
+
+  at-desk : slotOf (splice b 43968 bare) 48 ≡ bare
+  at-desk = slot-splice b 48 bare bare-long desk-room 48
+
+  emptied-table : (p : List (List ℕ)) → decode (emptiedOf x n) (splice b 43968 bare) p ≡ emptied n
+  unfolding decode emptied shown shownOf
+  emptied-table p =
+      let e = slot-long in
+      let r = desktop-room in
+      same-table (decode (emptiedOf x n) (splice b 43968 bare) p) (emptied n)
+      (emptied-index x n long small)
+      (λ f m k. ap (λ (w : Found). onFound w [] (λ j. fieldsOf (fieldRows f) 2 (slotOf (splice b 43968 bare) j))) (none-find (emptiedOf x n) (slots-emptied x n long small) f m k))
+      (λ h. rw (pointer-emptied x n long small))
+      (ap (bodyOf desktopFields) at-desk ∙ prepared-body desktopFields (slotOf b 48) (omega arith) (omega arith))
+
+  emptied-sounded : TableSound (emptiedOf x n) (splice b 43968 bare) lent
+  emptied-sounded =
+      let f = few in
+      let e = slot-long in
+      let r = desktop-room in
+      let l = length-bodies b 48 bare bare-long desk-room in
+      let q = places-emptied x n long small in
+      record {
+        big = omega arith;
+        index = emptied-sound x n long small (f .0) (f .1);
+        lends = omega (arith, f .2);
+        records = λ g i w u. never (sym (free-is (emptiedOf x n) i (slots-emptied x n long small i (within-slots g i w))) ∙ u);
+        desktop = rw at-desk (prepared-ok desktopFields (slotOf b 48) (omega arith) (omega arith) 1 1 (placed 22 24));
+        heads = λ h ne. absurd (ne (ap (λ (r : ℕ → ℕ). r h) (pointer-emptied x n long small)));
+      }
+
+  emptied-is : Emptied x b lent (emptiedOf x n) (splice b 43968 bare)
+  emptied-is =
+      record {
+        table = emptied-table;
+        sound = table-is (emptiedOf x n) (splice b 43968 bare) lent emptied-sounded;
+        past = record { index = emptied-past x n long; bodies = slot-past b 48 bare big (omega arith) bare-long };
+      }
+
+  -- as the function leaves it, with the desktop's slot lent and come back
+  pub emptied-done : {m : ℕ} {y z : List ℕ} → m ≡ fixedBy lent → y ≡ emptiedOf x m → z ≡ preparedOf true (take 916 (drop 43968 b)) → length z ≡ length (take 916 (drop 43968 b))
+      → Emptied x b lent y (take 43968 b ++ (z ++ drop 916 (drop 43968 b)))
+  emptied-done {m} {y} {z} em ey ez l =
+      let q : take 916 (drop 43968 b) ≡ slotOf b 48 = slot-lent b 43968 916 48 refl refl in
+      let k : z ≡ bare = ez ∙ ap (preparedOf true) q in
+      let w : take 43968 b ++ (z ++ drop 916 (drop 43968 b)) ≡ splice b 43968 bare =
+      slots-back b 48 z (ap length k ∙ bare-long) desk-room 43968 916 refl refl ∙ ap (splice b 43968) k in
+      rw (ey, em, w) emptied-is

@@ -12,3 +12,4 @@ pub mod Changed
 pub mod Joined
 pub mod Sounded
 pub mod Delivered
+pub mod Ways

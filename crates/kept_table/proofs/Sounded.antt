@@ -1,29 +1,24 @@
 -- Memories that describe a table do so after the change of a plan, and after emptying. Assumes nothing.
-use mathlib.Core.Path.{_≡_, refl, sym, ap, subst, _∙_}
-use mathlib.Core.Bool.{Bool, true, false, not}
+use mathlib.Core.Path.{_≡_, refl, sym, ap, _∙_}
+use mathlib.Core.Bool.{Bool, true, false}
 use mathlib.Core.List.{List}
 use Prim.Native.Nat.{ℕ, _+_, _*_, _-_, _≤_, _<_}
 use native.Mathlib.Omega.{arith}
-use lib.Dec.{eqb, ltb, leb}
+use lib.Dec.{eqb}
 use lib.ListN.{length}
-use borrow.Author.Tests.{eqb-true, eqb-false, eq-eqb, ne-eqb, ltb-false, le-ltb, leb-true, leb-false}
+use borrow.Author.Tests.{eqb-true, eqb-false, ne-eqb}
 use Rattle.wire.specs.Tests.{pick, has}
 use Rattle.protocol.specs.Flags.{desktopNone}
 use Rattle.places.specs.declared.Family.{Family}
-use Rattle.places.specs.declared.Family.the-variants.{Windows, Notifications}
-use Rattle.places.specs.Counts.{eachBelow}
 use Rattle.places.specs.Memory.{placesOf, pointerAt}
-use Rattle.places.proofs.Counting.{each-has, each-is}
-use Rattle.places.proofs.Bytes.{outside}
 use Rattle.index.specs.declared.RecordOrder.{RecordOrder}
 use Rattle.index.specs.declared.Change.{Change}
 use Rattle.index.specs.declared.Plan.the-variants.{ChangeRecord, ChangeDesktop}
-use Rattle.index.specs.Slots.{usedAt, isUsed}
-use Rattle.index.specs.Orders.{isNew, isDelete}
+use Rattle.index.specs.Slots.{isUsed}
+use Rattle.index.specs.Orders.{isDelete}
 use Rattle.index.specs.Plans.{changeOf}
 use Rattle.index.specs.Changes.{changedOf, clearedOf, Fits}
-use Rattle.index.specs.Sound.{eachFrom, soundIndex}
-use Rattle.index.proofs.Searching.{each-ok, all-ok}
+use Rattle.index.specs.Sound.{soundIndex}
 use Rattle.index.proofs.Memory.{cleared-is}
 use Rattle.index.proofs.Soundness.{never, Within, within-slots, one-family, free-is, sound-has}
 use Rattle.index.proofs.Numbered.{Planned}
@@ -32,108 +27,21 @@ use Rattle.body.proofs.Slots.{length-slot}
 use Rattle.picture.specs.Kept.{IconThere}
 use Rattle.picture.specs.Pictures.{headOk}
 use Rattle.kept_table.specs.Table.{fieldRows}
-use Rattle.kept_table.specs.Memory.{headsOf, recordOk, recordsOk, holderOk, soundTable}
+use Rattle.kept_table.specs.Memory.{headsOf}
 use Rattle.kept_table.specs.Changes.{putsPicture, slotAfter, desktopSlot, bodiesBy, Able}
 use Rattle.kept_table.proofs.OfKinds.{OfRecord, OfDesktop}
+use Rattle.kept_table.proofs.Rule.{TableSound}
 use Rattle.kept_table.proofs.Bodied.{slot-ok, desktop-ok}
 use Rattle.kept_table.proofs.Pointed.{used-after, freed-after, was-used, pointers-after, cleared-pointers}
 use Rattle.kept_table.proofs.Changed.{bodies-are, heads-ok, head-there, desk-is}
 
--- ---- the rule as facts
-
 -- a pointer at nothing, or at a place whose head is in its sets
-abbrev pub HeadAt : List ℕ → ℕ → Type 0
+abbrev HeadAt : List ℕ → ℕ → Type 0
 HeadAt b v = (v ≡ 0 → ⊥) → headOk (headsOf b) (v - 1) ≡ true
-
-pub record Sound (x b : List ℕ) (lent : ℕ) : Type 0 where
-  pub big : 45780 ≤ length b
-  pub index : soundIndex x ≡ true
-  pub enough : placesOf x ≤ lent
-  pub records : (f : Family) (i : ℕ) → Within f i → isUsed x i ≡ true → bodyOk (fieldRows f) 0 0 (slotOf b i) ≡ true
-  pub desktop : bodyOk desktopFields 1 1 (slotOf b 48) ≡ true
-  pub holders : (h : ℕ) → HeadAt b (pointerAt x h)
-
--- a test that asks nothing of what is absent
-unless : (t b : Bool) → pick (not t) true b ≡ true → t ≡ true → b ≡ true
-unless true b e h = e
-unless false b e h = never h
-
-unless-is : (t b : Bool) → (t ≡ true → b ≡ true) → pick (not t) true b ≡ true
-unless-is true b h = h refl
-unless-is false b h = refl
-
-module _ (x b : List ℕ) (lent : ℕ) where
-  records-have : recordsOk Windows x b ≡ true → recordsOk Notifications x b ≡ true
-      → (f : Family) (i : ℕ) → Within f i → isUsed x i ≡ true → bodyOk (fieldRows f) 0 0 (slotOf b i) ≡ true
-  unfolding recordOk
-  records-have v w Windows i k u =
-      unless (isUsed x i) (bodyOk (fieldRows Windows) 0 0 (slotOf b i)) (each-ok 32 0 (recordOk (fieldRows Windows) x b) v i (k .low) (k .high)) u
-  records-have v w Notifications i k u =
-      unless (isUsed x i) (bodyOk (fieldRows Notifications) 0 0 (slotOf b i)) (each-ok 16 32 (recordOk (fieldRows Notifications) x b) w i (k .low) (k .high)) u
-
-  holders-have : eachBelow 156 (holderOk x b) ≡ true → (h : ℕ) → HeadAt b (pointerAt x h)
-  unfolding holderOk
-  holders-have e h ne = go (leb 156 h) refl
-    where
-      go : (t : Bool) → leb 156 h ≡ t → headOk (headsOf b) (pointerAt x h - 1) ≡ true
-      go true t = absurd (ne (outside x h (leb-true 156 h t)))
-      go false t = rw (ne-eqb (pointerAt x h) 0 ne) at (each-has 156 (holderOk x b) e h (leb-false 156 h t))
-
-  pub table-has : soundTable x b lent ≡ true → Sound x b lent
-  unfolding soundTable
-  table-has e =
-      go (ltb (length b) 45780) (soundIndex x) (ltb lent (placesOf x)) (recordsOk Windows x b) (recordsOk Notifications x b) (bodyOk desktopFields 1 1 (slotOf b 48))
-      refl refl refl refl refl refl e
-    where
-      go : (u v w r n d : Bool) → ltb (length b) 45780 ≡ u → soundIndex x ≡ v → ltb lent (placesOf x) ≡ w → recordsOk Windows x b ≡ r → recordsOk Notifications x b ≡ n
-          → bodyOk desktopFields 1 1 (slotOf b 48) ≡ d
-          → pick u false (pick (not v) false (pick w false (pick (not r) false (pick (not n) false (pick (not d) false (eachBelow 156 (holderOk x b))))))) ≡ true
-          → Sound x b lent
-      go true v w r n d x1 x2 x3 x4 x5 x6 e = never e
-      go false false w r n d x1 x2 x3 x4 x5 x6 e = never e
-      go false true true r n d x1 x2 x3 x4 x5 x6 e = never e
-      go false true false false n d x1 x2 x3 x4 x5 x6 e = never e
-      go false true false true false d x1 x2 x3 x4 x5 x6 e = never e
-      go false true false true true false x1 x2 x3 x4 x5 x6 e = never e
-      go false true false true true true x1 x2 x3 x4 x5 x6 e =
-          record {
-            big = ltb-false (length b) 45780 x1;
-            index = x2;
-            enough = ltb-false lent (placesOf x) x3;
-            records = records-have x4 x5;
-            desktop = x6;
-            holders = holders-have e;
-          }
-
-  module _ (s : Sound x b lent) where
-    windows-are : recordsOk Windows x b ≡ true
-    unfolding recordOk
-    windows-are =
-        all-ok 32 0 (recordOk (fieldRows Windows) x b)
-        (λ i l u. unless-is (isUsed x i) (bodyOk (fieldRows Windows) 0 0 (slotOf b i)) (s .records Windows i (record { low = l; high = u })))
-
-    notifications-are : recordsOk Notifications x b ≡ true
-    unfolding recordOk
-    notifications-are =
-        all-ok 16 32 (recordOk (fieldRows Notifications) x b)
-        (λ i l u. unless-is (isUsed x i) (bodyOk (fieldRows Notifications) 0 0 (slotOf b i)) (s .records Notifications i (record { low = l; high = u })))
-
-    holders-are : eachBelow 156 (holderOk x b) ≡ true
-    unfolding holderOk
-    holders-are = each-is 156 (holderOk x b) (λ h l. go h (eqb (pointerAt x h) 0) refl)
-      where
-        go : (h : ℕ) (t : Bool) → eqb (pointerAt x h) 0 ≡ t → pick t true (headOk (headsOf b) (pointerAt x h - 1)) ≡ true
-        go h true t = refl
-        go h false t = s .holders h (eqb-false (pointerAt x h) 0 t)
-
-  pub table-is : Sound x b lent → soundTable x b lent ≡ true
-  unfolding soundTable
-  table-is s =
-      rw (le-ltb (length b) 45780 (s .big), s .index, le-ltb lent (placesOf x) (s .enough), windows-are s, notifications-are s, s .desktop, holders-are s)
 
 -- ---- after the change of a record
 
-module _ (x b s : List ℕ) (lent : ℕ) (g : Sound x b lent) (o : RecordOrder) (i place : ℕ) (k : OfRecord s o) (p : Planned x s o i place)
+module _ (x b s : List ℕ) (lent : ℕ) (g : TableSound x b lent) (o : RecordOrder) (i place : ℕ) (k : OfRecord s o) (p : Planned x s o i place)
     (fits : Fits (changeOf s o i place)) (a : Able s (changeOf s o i place)) (icon : putsPicture (changeOf s o i place) ≡ true → IconThere s (o .icon)) where
   abbrev c : Change
   c = changeOf s o i place
@@ -175,20 +83,20 @@ module _ (x b s : List ℕ) (lent : ℕ) (g : Sound x b lent) (o : RecordOrder) 
       go false true e d h = rw h (g .records f j w (before e))
       go false false e d h = rw h (g .records f j w (before e))
 
-  pub record-sounded : soundIndex (changedOf x c) ≡ true → placesOf (changedOf x c) ≡ placesOf x → Sound (changedOf x c) all lent
+  pub record-sounded : soundIndex (changedOf x c) ≡ true → placesOf (changedOf x c) ≡ placesOf x → TableSound (changedOf x c) all lent
   record-sounded ok places =
       let l = below in
       let e = bodies-are s c b (g .big) a icon .long in
       let m = g .big in
-      let q = g .enough in
+      let q = g .lends in
       record {
         big = omega arith;
         index = ok;
-        enough = omega arith;
+        lends = omega arith;
         records = records-ok;
         desktop = rw (slots 48 (omega arith)) (desk (isDelete (o .flags)));
-        holders = pointers-after x s o i place (sound-has x (g .index)) (k .ordered) p fits (HeadAt all) (λ z. absurd (z refl))
-            (λ h ne. heads-ok s c b (g .big) a icon (pointerAt x h - 1) (g .holders h ne)) there;
+        heads = pointers-after x s o i place (sound-has x (g .index)) (k .ordered) p fits (HeadAt all) (λ z. absurd (z refl))
+            (λ h ne. heads-ok s c b (g .big) a icon (pointerAt x h - 1) (g .heads h ne)) there;
       }
     where
       desk : (d : Bool) → bodyOk desktopFields 1 1 (pick d (slotOf b 48) (pick (eqb i 48) new (slotOf b 48))) ≡ true
@@ -200,7 +108,7 @@ module _ (x b s : List ℕ) (lent : ℕ) (g : Sound x b lent) (o : RecordOrder) 
 
 -- ---- after the change of the desktop state
 
-module _ (x b s : List ℕ) (lent : ℕ) (g : Sound x b lent) (flags : ℕ) (k : OfDesktop s flags) where
+module _ (x b s : List ℕ) (lent : ℕ) (g : TableSound x b lent) (flags : ℕ) (k : OfDesktop s flags) where
   abbrev now : List ℕ
   now = bodiesBy s (ChangeDesktop flags) b
 
@@ -225,19 +133,19 @@ module _ (x b s : List ℕ) (lent : ℕ) (g : Sound x b lent) (flags : ℕ) (k :
   desk-holders h = rw (desk-is s flags b (g .big) (k .within) (k .fields) .heads) (go (has flags desktopNone))
     where
       go : (t : Bool) → HeadAt b (pointerAt (pick t (clearedOf x) x) h)
-      go true = cleared-pointers (HeadAt b) x (sound-has x (g .index) .long) (λ z. absurd (z refl)) (g .holders) h
-      go false = g .holders h
+      go true = cleared-pointers (HeadAt b) x (sound-has x (g .index) .long) (λ z. absurd (z refl)) (g .heads) h
+      go false = g .heads h
 
-  pub desktop-sounded : soundIndex index ≡ true → placesOf index ≡ placesOf x → Sound index now lent
+  pub desktop-sounded : soundIndex index ≡ true → placesOf index ≡ placesOf x → TableSound index now lent
   desktop-sounded ok places =
       let e = desk-is s flags b (g .big) (k .within) (k .fields) .long in
       let m = g .big in
-      let q = g .enough in
+      let q = g .lends in
       record {
         big = omega arith;
         index = ok;
-        enough = omega arith;
+        lends = omega arith;
         records = desk-records;
         desktop = rw (desk-slots 48) (desktop-ok flags s (slotOf b 48) (length-slot b 48 (omega arith)) (k .within) (k .fields) (g .desktop));
-        holders = desk-holders;
+        heads = desk-holders;
       }

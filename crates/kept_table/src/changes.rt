@@ -103,9 +103,8 @@ pub fn pictures(
     if g.flags & protocol::ICON == 0 {
         return;
     }
-    let end = crate::BODIES;
     picture::put(
-        &mut bodies[crate::HEADS..end],
+        &mut bodies[crate::HEADS..],
         a,
         b,
         c,

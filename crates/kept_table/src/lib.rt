@@ -8,7 +8,7 @@ ghost use lib.ListN.{length};
 ghost use Rattle.places.specs.Sizes.{fewestPlaces};
 ghost use Rattle.index.specs.Families.{indexLength};
 ghost use Rattle.store.specs.Store.{placesIn, five};
-ghost use Rattle.kept_table.specs.Memory.{bodiesLength, soundTable};
+ghost use Rattle.kept_table.specs.Memory.{bodiesLength, fixedBy, soundTable};
 ghost use Rattle.kept_table.specs.Outcome.{Emptied, Delivered};
 pub mod changes;
 pub mod sound;
@@ -21,12 +21,22 @@ pub const BODIES: usize = 45780;
 // Where the slot of the desktop state begins.
 pub const DESKTOP: usize = 43968;
 
+// The number of places that emptying fixes: those lent, at most 64.
+fn fixed(lent: usize) -> u8
+    ensures { λ r. ⌜ r ≡ fixedBy lent ⌝ }
+{
+    if (places::MOST as usize) < lent {
+        return places::MOST;
+    }
+    lent as u8
+}
+
 // Empties a table to which so many places are lent: no record, no picture, and a desktop state of zeros.
 pub fn empty(index: &mut [u8], bodies: &mut [u8], lent: usize)
     requires { ⌜ (indexLength ≤ length (now index)) × (bodiesLength ≤ length (now bodies)) × (fewestPlaces ≤ lent) ⌝ }
     ensures { λ _. ⌜ Emptied (now (index .entry)) (now (bodies .entry)) lent (now (index .exit)) (now (bodies .exit)) ⌝ }
 {
-    let n = if 64 < lent { 64u8 } else { lent as u8 };
+    let n = fixed(lent);
     index::changes::empty(index, n);
     body::prepare(&mut bodies[DESKTOP..HEADS], true);
 }

@@ -10,6 +10,7 @@ ghost use Rattle.index.specs.Sound.{eachFrom, soundIndex};
 ghost use Rattle.body.specs.Bodies.{slotOf, bodyOk};
 ghost use Rattle.kept_table.specs.Memory.{bodiesLength, recordOk, holderOk, soundTable};
 ghost use mathlib.Core.Bool.{true};
+use index::slots;
 
 // Whether slot i of the bodies holds a body of rows low to high, with marks up to m.
 fn body_ok(bodies: &[u8], i: usize, low: usize, high: usize, m: u8) -> bool
@@ -26,7 +27,7 @@ fn record_ok(index: &[u8], bodies: &[u8], i: usize, low: usize, high: usize) -> 
     requires { ⌜ (indexLength ≤ length (now index)) × (bodiesLength ≤ length (now bodies)) × (i < slotCount) × (low ≤ high) × (high ≤ 24) ⌝ }
     ensures { λ r. ⌜ r ≡ recordOk (rowsFrom low high) (now (index .entry)) (now (bodies .entry)) i ⌝ }
 {
-    if index[places::LENGTH + index::slots::SLOT * i] != 1 {
+    if index[places::LENGTH + slots::SLOT * i] != 1 {
         return true;
     }
     body_ok(bodies, i, low, high, 0)
@@ -95,10 +96,10 @@ pub fn is_sound(index: &[u8], bodies: &[u8], lent: usize) -> bool
     if lent < (index[0] as usize) {
         return false;
     }
-    if !records_ok(index, bodies, 0, 32, 1, 15) {
+    if !records_ok(index, bodies, 0, slots::WINDOWS, 1, 15) {
         return false;
     }
-    if !records_ok(index, bodies, 32, 16, 16, 22) {
+    if !records_ok(index, bodies, slots::WINDOWS, slots::NOTIFICATIONS, 16, 22) {
         return false;
     }
     if !body_ok(bodies, 48, 22, 24, 1) {

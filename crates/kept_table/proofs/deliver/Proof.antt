@@ -1,0 +1,81 @@
+-- The plan of a sound table asks what it brings, and its changes make the table after the order.
+use Rattle.store.specs.Store.{five}
+use Rattle.index.proofs.Ways.{sound-long}
+use Rattle.index.proofs.After.{judged-fits}
+use Rattle.kept_table.proofs.Rule.{table-has}
+use Rattle.kept_table.proofs.Delivered.{plan-ready, delivered-done}
+use Rattle.wire.proofs.Numbers.{Bytes}
+use mathlib.Core.List.{List}
+use Prim.Native.Nat.{ℕ}
+use native.Mathlib.Omega.{arith}
+use denote.Ref.{now}
+use borrow.Author.Needs.{needs}
+use Rattle.kept_table.proofs.deliver.Statement.{statement}
+use Rattle.kept_table.proofs.deliver.Tie as tie
+
+abbrev start : tie.After-shared-slice-known → tie.Start
+start v = v .before .before .before .before .before .before .before .before
+
+abbrev store : tie.After-shared-slice-known → List (List ℕ)
+store v = let a = start v .args in five (now (a .a)) (now (a .b)) (now (a .c)) (now (a .d)) (now (a .e))
+
+-- an order is a list of bytes
+bytes : (v : tie.After-shared-slice-known) → Bytes (now (start v .args .s))
+bytes v = record { small = λ i. omega (arith, v .shared-slice-known .given i) }
+
+judge-requires : tie.Need-judge-requires
+judge-requires c κs = let u = start (c .before) in table-has (now (u .args .index)) (now (u .args .bodies)) _ (u .pre) .index
+
+bodies-requires : tie.Need-bodies-requires
+bodies-requires c κs =
+    let j = c .before in
+    let v = j .before .before in
+    let u = start v in
+    plan-ready (now (u .args .index)) (now (u .args .bodies)) (now (u .args .s)) (store v) (bytes v) (u .pre) (j .judge .ensures)
+
+pictures-requires : tie.Need-pictures-requires
+pictures-requires c κs =
+    let f = c .before .before .before .before .before .before .before .before in
+    let j = f .before .before in
+    let v = j .before .before in
+    let u = start v in
+    let r = plan-ready (now (u .args .index)) (now (u .args .bodies)) (now (u .args .s)) (store v) (bytes v) (u .pre) (j .judge .ensures) in
+    (omega (arith, f .bodies .kept .0, r .0), r .1)
+
+apply-requires : tie.Need-apply-requires
+apply-requires c κs =
+    let f = c .before .before .before .before .before .before .before .before .before .before .before .before .before in
+    let j = f .before .before .before .before .before .before .before .before .before .before .before in
+    let v = j .before .before in
+    let u = start v in
+    let x = now (u .args .index) in
+    let ok = table-has x (now (u .args .bodies)) _ (u .pre) .index in
+    (sound-long x ok, judged-fits x (now (u .args .s)) ok (bytes v) (j .judge .ensures))
+
+returns : tie.Need-returns
+returns c =
+    let y = c .before .before .before in
+    let q = y .before .before .before .before .before .before .before .before .before .before .before .before .before .before in
+    let f = q .before .before .before .before .before .before .before .before .before in
+    let j = f .before .before in
+    let v = j .before .before in
+    let u = start v in
+    delivered-done (now (u .args .index)) (now (u .args .bodies)) (now (u .args .s)) (store v) (bytes v) (u .pre) (j .judge .ensures) (f .bodies .ensures) (q .pictures .ensures .0) (q .pictures .ensures .1) (y .apply .ensures) (c .number .ensures)
+
+pub deliver-spec : {M : Type 1} → statement M
+deliver-spec =
+    tie.close
+    (tie.spec
+    judge-requires
+    bodies-requires
+    pictures-requires
+    apply-requires
+    (λ c κs. search needs)
+    (λ c. search needs)
+    (λ c. search needs)
+    (λ c. search needs)
+    (λ c. search needs)
+    (λ c. search needs)
+    (λ c. search needs)
+    (λ c. search needs)
+    returns)

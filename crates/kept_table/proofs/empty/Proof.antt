@@ -1,0 +1,24 @@
+-- The index is emptied, and the desktop's slot is lent, cleared and given back.
+use Rattle.kept_table.proofs.Delivered.{emptied-done}
+use denote.Ref.{now}
+use borrow.Author.Needs.{needs}
+use Rattle.kept_table.proofs.empty.Statement.{statement}
+use Rattle.kept_table.proofs.empty.Tie as tie
+
+pub empty-spec : {M : Type 1} → statement M
+empty-spec =
+    tie.close
+    (tie.spec
+    (λ c κs. search needs)
+    (λ c κs. search needs)
+    (λ c. search needs)
+    (λ c. search needs)
+    (λ c. search needs)
+    (λ c κs. search needs)
+    (λ c. search needs)
+    (λ c. search needs)
+    (λ c.  -- returns
+    let e = c .before .before .before .before .before .before in
+    let u = e .before .before .before .before .before in
+    let p = c .before .before in
+    emptied-done (now (u .args .index)) (now (u .args .bodies)) (u .args .lent) (u .pre .0) (u .pre .1) (u .pre .2) (e .before .before .fixed .ensures) (e .empty .ensures) (p .prepare .ensures) (p .prepare .kept .0)))
