@@ -10,6 +10,7 @@ ghost use Rattle.index.specs.Families.{indexLength};
 ghost use Rattle.store.specs.Store.{placesIn, five};
 ghost use Rattle.kept_table.specs.Memory.{bodiesLength, fixedBy, soundTable};
 ghost use Rattle.kept_table.specs.Outcome.{Emptied, Delivered};
+
 pub mod changes;
 pub mod sound;
 
