@@ -4,6 +4,8 @@ use mathlib.Core.Path.{_≡_, refl, sym, ap, ap₂, _∙_}
 use mathlib.Core.Bool.{Bool, true, false}
 use mathlib.Core.List.{List, [], _∷_, _++_}
 use Rattle.wire.specs.Tests.{pick}
+use Rattle.store.specs.Store.{placesIn}
+use Rattle.kept_table.specs.Memory.{fixedBy}
 use Rattle.kept_journal.specs.State.{State, run}
 use Rattle.kept_journal.specs.View.{Memory, Past, tooShort, wellFormed, stateOf, unformed, formed, viewOf}
 use Rattle.kept_session.specs.Calls.{Call, reset, answer, next, answerView, nextView}
@@ -12,7 +14,7 @@ use Rattle.kept_update.specs.declared.Report.{Report}
 use Rattle.kept_update.specs.Outcome.{reportOn, nextOn, UpdateOutcome}
 use Rattle.kept_model.specs.Book.{Book, newBook, bookNext, bookAfter}
 use Rattle.kept_model.specs.Updates.{Step, single, update, Said, responds, reports, callsOf, replaced, bookSays, bookSaid}
-use Rattle.kept_model.specs.Claim.{Calls, none, more, moreAtOnce, AsBook, Demand3}
+use Rattle.kept_model.specs.Claim.{Calls, none, more, moreAtOnce, PastCalls, AsBook, Demand3}
 use Rattle.kept_model.proofs.BookState.{stateOfBook, present-book, answer-book, next-book}
 use Rattle.kept_model.proofs.BookUpdates.{report-book, next-update}
 
@@ -27,11 +29,11 @@ unfolding nextView
 moved c s = refl
 
 -- memory that is long enough describes the new book once it is emptied
-pub emptied-view : (m : Memory) → tooShort m ≡ false → nextView reset (viewOf m) ≡ formed (stateOfBook newBook)
+pub emptied-view : (k : ℕ) (m : Memory) → tooShort m ≡ false → nextView (reset k) (viewOf m) ≡ formed (stateOfBook (newBook (fixedBy k)))
 unfolding viewOf nextView next run
-emptied-view m l = rw l (go (wellFormed m))
+emptied-view k m l = rw l (go (wellFormed m))
   where
-    go : (t : Bool) → nextView reset (pick t (formed (stateOf m)) unformed) ≡ formed (stateOfBook newBook)
+    go : (t : Bool) → nextView (reset k) (pick t (formed (stateOf m)) unformed) ≡ formed (stateOfBook (newBook (fixedBy k)))
     go true = refl
     go false = refl
 
@@ -83,15 +85,15 @@ from b v (more {q = q} s k) = one-more (single-says b v s) (from (bookAfter (cal
 from b v (moreAtOnce {limit = limit} {s = s} u k) = one-more (update-says b v u) (from (bookAfter (callsOf (update limit s) b) b) (update-holds b v u) k)
 
 -- from memory that describes the new book
-pub as-book : {m e : Memory} {xs : List Step} {ys : List Said} → viewOf m ≡ formed (stateOfBook newBook) → Calls m xs ys e → AsBook xs ys e
-as-book {xs = xs} v k =
-    let f = from newBook v k in
-    let b = bookAfter (replaced xs newBook) newBook in
+pub as-book : (places : ℕ) {m e : Memory} {xs : List Step} {ys : List Said} → viewOf m ≡ formed (stateOfBook (newBook places)) → Calls m xs ys e → AsBook places xs ys e
+as-book places {xs = xs} v k =
+    let f = from (newBook places) v k in
+    let b = bookAfter (replaced xs (newBook places)) (newBook places) in
     record { answers = f .answers; holds = record { state = stateOfBook b; describes = f .holds; table = present-book b; since = refl } }
 
 pub demand-3 : Demand3
 unfolding Demand3
-demand-3 m n e r xs ys l s k = as-book (s .holds ∙ emptied-view m l) k
+demand-3 m n e r xs ys l s k = as-book (fixedBy (placesIn (m .store))) (s .holds ∙ emptied-view (placesIn (m .store)) m l) k
 
 -- ---- one call more at the end of a run of calls
 
@@ -102,13 +104,21 @@ snoc (moreAtOnce u k) o = moreAtOnce u (snoc k o)
 
 -- ---- the bytes past the needed lengths
 
-pub past-same : (m : Memory) → Past m m
-past-same m = record { dir = refl; bodies = refl; cells = refl; journal = refl }
+pub past-same : (m : Memory) → PastCalls m m
+past-same m = record { index = refl; bodies = refl; lengths = refl; store = refl; journal = refl }
 
-pub past-then : {m n e : Memory} → Past m n → Past n e → Past m e
-past-then a b = record { dir = b .dir ∙ a .dir; bodies = b .bodies ∙ a .bodies; cells = b .cells ∙ a .cells; journal = b .journal ∙ a .journal }
+-- a call, and those after it
+pub past-then : {m n e : Memory} → Past m n → PastCalls n e → PastCalls m e
+past-then a b =
+    record {
+      index = b .index ∙ a .index;
+      bodies = b .bodies ∙ a .bodies;
+      lengths = b .lengths ∙ a .store .lengths;
+      store = b .store ∙ a .store .past;
+      journal = b .journal ∙ a .journal;
+    }
 
-pub calls-past : {m e : Memory} {xs : List Step} {ys : List Said} → Calls m xs ys e → Past m e
+pub calls-past : {m e : Memory} {xs : List Step} {ys : List Said} → Calls m xs ys e → PastCalls m e
 calls-past {m = m} none = past-same m
 calls-past (more s k) = past-then (s .past) (calls-past k)
 calls-past (moreAtOnce u k) = past-then (u .past) (calls-past k)

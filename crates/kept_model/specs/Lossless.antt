@@ -32,7 +32,7 @@ pub data ValidShown : Option (List ℕ) → Type 0 where
 -- a payload of a target as memory that meets the rule holds it: fields in their sets, pictures that end where they say, lists within
 -- their room
 pub data ValidPayload : LookupTarget → Payload → Type 0 where
-  none : {target : LookupTarget} → ValidPayload target nothing
+  absent : {target : LookupTarget} → ValidPayload target nothing
   window : {w : WindowId} {fs : List (List ℕ)} {small big : Option (List ℕ)} → ValidFields windowFields fs → ValidShown small → ValidShown big
       → ValidPayload (Window w) (listed family.Windows fs (small ∷ big ∷ []))
   notification : {w : WindowId} {n : NotifyIconId} {fs : List (List ℕ)} {icon : Option (List ℕ)} → ValidFields notificationFields fs → ValidShown icon

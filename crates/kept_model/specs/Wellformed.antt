@@ -3,7 +3,7 @@
 use Prim.Native.Nat.{ℕ, _≤_}
 use mathlib.Core.Path.{_≡_}
 use mathlib.Core.Bool.{true, false}
-use mathlib.Core.List.{[]}
+use mathlib.Core.List.{List, []}
 use lib.ListN.{length, replicate}
 use Rattle.kept_table.specs.Table.{emptied}
 use Rattle.kept_table.specs.Memory.{fixedBy}

@@ -8,8 +8,7 @@ use lib.Dec.{eqb, ltb}
 use lib.ListN.{length, take, drop, length-append, length-take, length-drop}
 use borrow.Author.Tests.{eqb-true, ne-eqb, ltb-true, ltb-false}
 use Rattle.wire.specs.Tests.{pick, both}
-use Rattle.wire.specs.Numbers.{bytesOf}
-use Rattle.wire.specs.Parts.{slice, splice}
+use Rattle.wire.specs.Parts.{slice}
 use Rattle.wire.proofs.Numbers.{Bytes, bytes-slice}
 use Rattle.kept_journal.specs.declared.JournalExtent.{JournalExtent}
 use Rattle.kept_journal.specs.Limits.{logStart, mostOrders, journalLength}

@@ -1,22 +1,21 @@
 -- What a report says fits the history room, and a packed report is taken apart again. Assumes nothing.
 use Prim.Native.Nat.{ℕ, zero, suc, _+_, _*_, _/_, _%_, _≤_}
 use mathlib.Core.Path.{_≡_, refl, sym, ap, _∙_}
-use mathlib.Core.Bool.{Bool, true, false, not}
+use mathlib.Core.Bool.{Bool, true, false}
 use mathlib.Core.List.{List, [], _∷_, _++_, append-assoc, append-nil}
 use native.Mathlib.Omega.{arith}
 use lib.Dec.{eqb, ltb}
 use lib.ListN.{length, length-append}
-use borrow.Author.Tests.{eqb-true, ltb-false}
-use Rattle.wire.specs.Tests.{pick, either}
+use borrow.Author.Tests.{ltb-false}
+use Rattle.wire.specs.Tests.{pick}
 use Rattle.kept_table.specs.Table.{number}
 use Rattle.kept_journal.specs.Limits.{mostOrders, mostBytes}
 use Rattle.kept_journal.specs.State.{State, present, bytesIn}
-use Rattle.kept_journal.specs.View.{Memory, tooShort, wellFormed, stateOf, short, unformed, formed, viewOf}
+use Rattle.kept_journal.specs.View.{tooShort, wellFormed, stateOf, short, unformed, formed, viewOf}
 use Rattle.kept_journal.proofs.Runs.{bytes-append}
 use Rattle.kept_journal.proofs.Fits.{fits}
-use Rattle.kept_session.specs.Calls.{deliver, nothing, Answer, refuse, grant, overFull, answer, next}
+use Rattle.kept_session.specs.Calls.{deliver, overFull, answer, next}
 use Rattle.kept_session.specs.Packed.{packedOf}
-use Rattle.kept_update.specs.declared.Report.{Report}
 use Rattle.kept_update.specs.Update.{ordersOf, Course, stopped, grantedFirst, deliverAll}
 use Rattle.kept_update.specs.Outcome.{reportOf, unfit, reportOn}
 use Rattle.kept_update.specs.Packed.{packedReport, Fits, ReportsFit, ReportUnpacks}

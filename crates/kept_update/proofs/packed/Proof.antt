@@ -1,5 +1,4 @@
 -- The two halves, one above the other.
-use mathlib.Core.Path.{refl}
 use Rattle.kept_update.specs.Packed.{packedReport}
 use borrow.Author.Needs.{needs}
 use Rattle.kept_update.proofs.packed.Statement.{statement}

@@ -11,7 +11,7 @@ use Rattle.index.specs.Families.{indexLength}
 use Rattle.kept_journal.specs.View.{Memory, memory, InEachStore}
 use Rattle.kept_journal.proofs.Indexed.{unmet, indexed}
 use Rattle.kept_session.proofs.Lent.{a-store, a-store-lends}
-use Rattle.kept_update.proofs.Courses.{Going, unfit-outcome, going-start, going-fits, going-ready, going-end, more-granted, end-after, end-within, going-refused, going-more}
+use Rattle.kept_update.proofs.Courses.{Going, unfit-outcome, going-start, going-fits, going-ready, going-end, end-after, end-within, going-refused, going-more}
 use Rattle.kept_update.proofs.update.Statement.{statement}
 use Rattle.kept_update.proofs.update.Tie as tie
 
