@@ -19,7 +19,7 @@ use Rattle.index.proofs.Soundness.{within-slots}
 use Rattle.index.proofs.Ordered.{Ordered}
 use Rattle.index.proofs.Numbered.{Planned}
 use Rattle.picture.specs.Kept.{IconThere}
-use Rattle.kept_table.specs.Changes.{IconFits, Able, Follows}
+use Rattle.kept_table.specs.Changes.{Able, Follows}
 use Rattle.kept_table.proofs.OfKinds.{OfRecord, Planning, changes-record, changes-desktop, changes-none, planning}
 
 -- the icon that an order brings, as judging accepts it

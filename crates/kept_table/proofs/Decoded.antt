@@ -25,7 +25,7 @@ use Rattle.index.specs.Plans.{planOf, planNumber}
 use Rattle.index.specs.Changes.{appliedOf}
 use Rattle.index.specs.Sound.{soundIndex}
 use Rattle.index.proofs.After.{plan-number, plan-after}
-use Rattle.kept_table.specs.Table.{Table, number, changeRecord, changeDesktop, after}
+use Rattle.kept_table.specs.Table.{number, changeRecord, changeDesktop, after}
 use Rattle.kept_table.specs.Memory.{decode}
 use Rattle.kept_table.specs.Promises.{IndexAlone}
 

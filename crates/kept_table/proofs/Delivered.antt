@@ -2,22 +2,20 @@
 use mathlib.Core.Path.{_≡_, refl, sym, ap, _∙_}
 use mathlib.Core.Bool.{Bool, true, false}
 use mathlib.Core.List.{List, [], _∷_, _++_}
-use mathlib.Core.Option.{none}
-use Prim.Native.Nat.{ℕ, _+_, _*_, _-_, _≤_, _<_}
+use Prim.Native.Nat.{ℕ, _+_, _*_, _≤_, _<_}
 use native.Mathlib.Omega.{arith}
 use lib.Dec.{ltb}
 use lib.ListN.{length, take, drop}
 use borrow.Author.Tests.{ltb-true, ltb-false}
-use Rattle.wire.specs.Tests.{pick, has}
+use Rattle.wire.specs.Tests.{pick}
 use Rattle.wire.specs.Parts.{splice}
 use Rattle.wire.proofs.Numbers.{Bytes}
 use Rattle.places.specs.declared.Family.{Family}
 use Rattle.places.specs.declared.Found.{Found}
 use Rattle.places.specs.Counts.{onFound}
-use Rattle.places.specs.Memory.{placesOf, pointerAt, shownOf, shown}
+use Rattle.places.specs.Memory.{placesOf, shownOf, shown}
 use Rattle.places.proofs.Meaning.{found-free}
 use Rattle.index.specs.declared.RecordOrder.{RecordOrder}
-use Rattle.index.specs.declared.Change.{Change}
 use Rattle.index.specs.declared.Plan.{Plan}
 use Rattle.index.specs.declared.Plan.the-variants.{ChangeRecord, ChangeDesktop, Refuse}
 use Rattle.index.specs.Orders.{isDelete, bringsIcon, cellAt}
@@ -40,7 +38,7 @@ use Rattle.picture.specs.Kept.{IconThere}
 use Rattle.picture.specs.Pictures.{pictureAt}
 use Rattle.kept_table.specs.Table.{Table, emptied, fieldRows, changeRecord, after}
 use Rattle.kept_table.specs.Memory.{headsOf, fixedBy, fieldsIn, decode, soundTable}
-use Rattle.kept_table.specs.Changes.{putsPicture, slotsBy, headsBy, bodiesBy, storeBy, picturesBy, Able, Follows}
+use Rattle.kept_table.specs.Changes.{putsPicture, slotsBy, headsBy, bodiesBy, storeBy, picturesBy, Follows}
 use Rattle.kept_table.specs.Outcome.{StoreKept, Emptied, Delivered}
 use Rattle.kept_table.proofs.OfKinds.{OfRecord, Planning, changes-record, changes-desktop, changes-none, planning}
 use Rattle.kept_table.proofs.Able.{ordered-icon, record-able, plan-follows}

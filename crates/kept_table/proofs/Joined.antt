@@ -2,7 +2,6 @@
 use mathlib.Core.Path.{_≡_, refl, sym, ap, _∙_}
 use mathlib.Core.Bool.{Bool, true, false}
 use mathlib.Core.List.{List, []}
-use mathlib.Core.Option.{Option}
 use Prim.Native.Nat.{ℕ, _+_, _*_, _≤_, _<_}
 use native.Mathlib.Omega.{arith}
 use lib.Dec.{eqb}
@@ -18,13 +17,10 @@ use Rattle.places.specs.Counts.{onFound}
 use Rattle.places.specs.Holder.{Holder}
 use Rattle.index.specs.declared.RecordOrder.{RecordOrder}
 use Rattle.index.specs.declared.Change.{Change}
-use Rattle.index.specs.declared.Plan.{Plan}
-use Rattle.index.specs.declared.Plan.the-variants.{ChangeRecord, ChangeDesktop, Refuse}
+use Rattle.index.specs.declared.Plan.the-variants.{ChangeRecord, ChangeDesktop}
 use Rattle.index.specs.Families.{sameRecord}
 use Rattle.index.specs.Slots as slots
 use Rattle.index.specs.Orders.{isNew, isDelete}
-use Rattle.index.specs.Index.{indexAfter}
-use Rattle.index.specs.Memory.{indexOf}
 use Rattle.index.specs.Plans.{changeOf, planOf}
 use Rattle.index.specs.Changes.{changedOf, clearedOf, appliedOf, Fits}
 use Rattle.index.specs.Sound.{soundIndex}
@@ -33,13 +29,13 @@ use Rattle.index.proofs.Soundness.{within-slots, found-within, Sound}
 use Rattle.index.proofs.Listed.{none-find}
 use Rattle.index.proofs.Numbered.{Planned}
 use Rattle.index.proofs.After.{plan-after}
-use Rattle.body.specs.Bodies.{Body, desktopFields, setFlagged, slotOf, fieldsOf, bodyOf, emptyFields, emptyBody}
+use Rattle.body.specs.Bodies.{desktopFields, setFlagged, slotOf, fieldsOf, bodyOf, emptyFields}
 use Rattle.body.proofs.Slots.{length-slot}
 use Rattle.picture.specs.Kept.{IconThere}
 use Rattle.picture.specs.Pictures.{pictureAt}
-use Rattle.kept_table.specs.Table.{Table, fieldRows, fieldsAt, fieldsBefore, recordFields, fieldsAfter, changeRecord, changeDesktop, desktopAfter, after}
+use Rattle.kept_table.specs.Table.{Table, fieldRows, fieldsAt, recordFields, fieldsAfter, changeRecord, changeDesktop, after}
 use Rattle.kept_table.specs.Memory.{headsOf, fieldsIn, shownIn, decode}
-use Rattle.kept_table.specs.Changes.{putsPicture, slotAfter, bodiesBy, storeBy, picturesBy, Able}
+use Rattle.kept_table.specs.Changes.{putsPicture, slotAfter, bodiesBy, picturesBy, Able}
 use Rattle.kept_table.specs.Promises.{IndexAlone}
 use Rattle.kept_table.proofs.OfKinds.{OfRecord, OfDesktop}
 use Rattle.kept_table.proofs.Decoded.{index-alone}

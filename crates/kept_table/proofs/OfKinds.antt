@@ -3,7 +3,6 @@ use mathlib.Core.Path.{_≡_, refl, sym, ap, subst, _∙_}
 use mathlib.Core.Bool.{Bool, true, false}
 use mathlib.Core.List.{List}
 use Prim.Native.Nat.{ℕ, _≤_}
-use native.Mathlib.Omega.{arith}
 use lib.Dec.{eqb}
 use lib.ListN.{length}
 use borrow.Author.Tests.{ne-eqb}
@@ -19,9 +18,9 @@ use Rattle.order.proofs.Accepted.{a-window, a-notification, a-desktop}
 use Rattle.index.specs.declared.RecordOrder.{RecordOrder}
 use Rattle.index.specs.declared.Plan.{Plan}
 use Rattle.index.specs.declared.Plan.the-variants.{ChangeRecord, ChangeDesktop, Refuse}
-use Rattle.index.specs.Index.{Index, recordNumber, numberIn}
+use Rattle.index.specs.Index.{recordNumber, numberIn}
 use Rattle.index.specs.Memory.{indexOf}
-use Rattle.index.specs.Plans.{changeOf, planRecord, planOf, planNumber}
+use Rattle.index.specs.Plans.{changeOf, planRecord, planOf}
 use Rattle.index.specs.Sound.{soundIndex}
 use Rattle.index.proofs.Soundness.{sound-has}
 use Rattle.index.proofs.Ordered.{Ordered, windowOrder, notificationOrder, ordered-window, ordered-notification}

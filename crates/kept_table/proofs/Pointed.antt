@@ -2,7 +2,7 @@
 use mathlib.Core.Path.{_≡_, refl, sym, ap, subst, _∙_}
 use mathlib.Core.Bool.{Bool, true, false}
 use mathlib.Core.List.{List, [], _∷_}
-use Prim.Native.Nat.{ℕ, _+_, _*_, _≤_, _<_}
+use Prim.Native.Nat.{ℕ, _+_, _≤_, _<_}
 use native.Mathlib.Omega.{arith}
 use lib.Dec.{eqb, ltb}
 use lib.ListN.{length}
@@ -11,7 +11,6 @@ use Rattle.wire.specs.Tests.{pick, both, either}
 use Rattle.wire.proofs.Tests.{both-left, both-right}
 use Rattle.places.specs.declared.Family.{Family}
 use Rattle.places.specs.declared.Family.the-variants.{Windows, Notifications}
-use Rattle.places.specs.declared.Found.{Found}
 use Rattle.places.specs.declared.Found.the-variants.{At, Nothing}
 use Rattle.places.specs.Sharing.{isOne}
 use Rattle.places.specs.Memory.{pointerAt}
@@ -27,7 +26,7 @@ use Rattle.index.specs.Orders.{isNew, isDelete, bringsIcon, bringsCached}
 use Rattle.index.specs.Plans.{changeOf}
 use Rattle.index.specs.Changes.{listedOf, iconsAt, removedOf, picturedOf, changedOf, clearedOf, Fits}
 use Rattle.index.proofs.Memory.{same-used, Listed, listed-is, Slotted, slotted-self, points-slotted, share-slotted, cleared-is}
-use Rattle.index.proofs.Soundness.{never, Within, within-slots, same-family, apart, at-has, at-free, used-is, free-is, Sound}
+use Rattle.index.proofs.Soundness.{never, Within, within-slots, family-same, same-family, apart, at-has, at-free, used-is, free-is, Sound}
 use Rattle.index.proofs.Listed.{slotted-find, find-listed, find-freed}
 use Rattle.index.proofs.Ordered.{Ordered, deleted-old}
 use Rattle.index.proofs.Shared.{icons-holders, removed-freed, removed-still}
@@ -90,9 +89,12 @@ module _ (P : ℕ → Type 0) where
 
 -- ---- a record's change
 
-second-small : (f : Family) (b : ℕ) → b ≤ highest f → b < 4294967296
+pub second-small : (f : Family) (b : ℕ) → b ≤ highest f → b < 4294967296
 second-small Windows b h = omega arith
 second-small Notifications b h = omega arith
+
+pub own-record : (f : Family) (a b : ℕ) → sameRecord f a b f a b ≡ true
+own-record f a b = rw (family-same f, eq-eqb a a refl, eq-eqb b b refl)
 
 pub same-ids : (f g : Family) (a b x y : ℕ) → sameRecord f a b g x y ≡ true → (f ≡ g) × (a ≡ x) × (b ≡ y)
 same-ids f g a b x y e =

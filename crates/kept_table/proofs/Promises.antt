@@ -1,5 +1,5 @@
 -- The promises of an accepted order, from the definition of `after`. Assumes nothing.
-use mathlib.Core.Path.{_≡_, refl, sym, ap, subst, _∙_}
+use mathlib.Core.Path.{_≡_, refl, sym, ap, _∙_}
 use mathlib.Core.Bool.{Bool, true, false}
 use mathlib.Core.List.{List, [], _∷_}
 use mathlib.Core.Option.{Option, none, some}
@@ -13,10 +13,10 @@ use Rattle.order.specs.declared.Judged.the-variants.{Window, Notification, Desk
 use Rattle.order.specs.Judge.{judgeOf}
 use Rattle.places.specs.declared.Family.{Family}
 use Rattle.places.specs.Sharing.{isOne}
-use Rattle.places.specs.Holder.{Holder, cell, icon, sameFamily, sameHolder, iconsOf}
+use Rattle.places.specs.Holder.{Holder, cell, icon, sameFamily, sameHolder}
 use Rattle.index.specs.declared.RecordOrder.{RecordOrder}
 use Rattle.index.specs.Families.{sameRecord}
-use Rattle.index.specs.Orders.{onJudged, isDelete, bringsIcon, bringsCached, cellAt, whichOf, pointerOf, holdersOf}
+use Rattle.index.specs.Orders.{onJudged, bringsIcon, bringsCached, cellAt, whichOf, pointerOf, holdersOf}
 use Rattle.index.specs.Index as index
 use Rattle.index.specs.Promises.{touched}
 use Rattle.index.proofs.Soundness.{never, family-same}
@@ -25,11 +25,9 @@ use Rattle.index.proofs.Promises.{records-keep}
 use Rattle.body.specs.Bodies.{setFlagged}
 use Rattle.body.proofs.Each.{sets-flagged}
 use Rattle.cache.specs.Cells.{carriedPicture}
-use Rattle.kept_table.specs.Table.{Table, number, fieldRows, fieldsAt, fieldsBefore, recordFields, fieldsAfter, shownAfter, changeRecord, changeDesktop, after}
+use Rattle.kept_table.specs.Table.{Table, fieldRows, fieldsAt, fieldsBefore, recordFields, fieldsAfter, shownAfter, changeRecord, changeDesktop, after}
 use Rattle.kept_table.specs.Promises.{recordOrder, Updates, Updated, UpdatesKeep}
-
-own-record : (f : Family) (a b : ℕ) → sameRecord f a b f a b ≡ true
-own-record f a b = rw (family-same f, eq-eqb a a refl, eq-eqb b b refl)
+use Rattle.kept_table.proofs.Pointed.{own-record}
 
 module _ (t : Table) (s : List ℕ) (o : RecordOrder) (u : Updates t s o) where
   changed-on : (j : Judged) → recordOrder j ≡ some o → onJudged j (changeRecord t s) (changeDesktop t s) (λ n. t) ≡ changeRecord t s o

@@ -3,10 +3,10 @@ use mathlib.Core.Path.{_≡_, refl, sym, ap, _∙_}
 use mathlib.Core.Bool.{Bool, true, false, not}
 use mathlib.Core.List.{List, [], _∷_, map}
 use mathlib.Core.Option.{Option, none, some}
-use Prim.Native.Nat.{ℕ, _+_, _*_, _-_, _≤_, _<_}
+use Prim.Native.Nat.{ℕ, _+_, _*_, _-_, _<_}
 use native.Mathlib.Omega.{arith}
 use lib.Dec.{eqb, ltb}
-use borrow.Author.Tests.{eq-eqb, ne-eqb, eqb-false, ltb-true}
+use borrow.Author.Tests.{ne-eqb, eqb-false, ltb-true}
 use Rattle.wire.specs.Tests.{pick, both, either, has}
 use Rattle.wire.specs.Numbers.{Bytes}
 use Rattle.protocol.specs.Flags.{desktopNone, flagBigIcon}
@@ -14,7 +14,6 @@ use Rattle.order.specs.declared.Judged.{Judged}
 use Rattle.order.specs.declared.Judged.the-variants.{Window, Notification, Desktop, Refused}
 use Rattle.order.specs.Judge.{judgeOf}
 use Rattle.places.specs.declared.Family.{Family}
-use Rattle.places.specs.declared.Family.the-variants.{Windows, Notifications}
 use Rattle.places.specs.declared.Found.{Found}
 use Rattle.places.specs.declared.Found.the-variants.{At, Nothing}
 use Rattle.places.specs.Sharing.{isOne}
@@ -30,7 +29,7 @@ use Rattle.places.proofs.Pictures.{share-shown, records-shown}
 use Rattle.index.specs.declared.RecordOrder.{RecordOrder}
 use Rattle.index.specs.declared.Plan.{Plan}
 use Rattle.index.specs.declared.Plan.the-variants.{ChangeRecord, ChangeDesktop, Refuse}
-use Rattle.index.specs.Families.{start, capacity, highest, sameRecord}
+use Rattle.index.specs.Families.{start, capacity, sameRecord}
 use Rattle.index.specs.Slots.{isAt, slotOf}
 use Rattle.index.specs.Orders.{onJudged, isNew, isDelete, bringsIcon, bringsCached, cellAt, whichOf, pointerOf, holdersOf}
 use Rattle.index.specs.Index as index
@@ -39,7 +38,7 @@ use Rattle.index.specs.Plans.{pointerFor, changeOf, planRecord, planOf}
 use Rattle.index.specs.Changes.{listedOf, iconsAt, removedOf, picturedOf, changedOf, clearedOf, appliedOf}
 use Rattle.index.specs.Sound.{soundIndex}
 use Rattle.index.proofs.Memory.{Listed, listed-is, Slotted, points-slotted, share-slotted, Cleared, cleared-is}
-use Rattle.index.proofs.Soundness.{family-same, within-slots, Sound, sound-has, free-pointers, slots-of}
+use Rattle.index.proofs.Soundness.{within-slots, Sound, sound-has, free-pointers, slots-of}
 use Rattle.index.proofs.Listed.{slotted-find, find-listed, find-freed, none-find}
 use Rattle.index.proofs.Ordered.{Ordered, deleted-old, windowOrder, notificationOrder, ordered-window, ordered-notification}
 use Rattle.index.proofs.Shared.{listed-at, removed-freed, removed-still, icons-holders, two-holders}
@@ -48,6 +47,7 @@ use Rattle.cache.specs.Cells.{carriedPicture}
 use Rattle.kept_table.specs.Table.{Table, number, shownAfter, changeRecord, changeDesktop, after}
 use Rattle.kept_table.specs.Memory.{shownIn}
 use Rattle.kept_table.specs.Changes.{picturesBy}
+use Rattle.kept_table.proofs.Pointed.{second-small, own-record}
 
 -- ---- what a holder shows depends on its pointer alone
 
@@ -92,9 +92,6 @@ module _ (m : List ℕ) (slot : Family → ℕ → ℕ → Found) (f : Family) (
 
 -- ---- a slot whose icons let go
 
-own-record : (f : Family) (a b : ℕ) → sameRecord f a b f a b ≡ true
-own-record f a b = rw (family-same f, eq-eqb a a refl, eq-eqb b b refl)
-
 one-of : (i w : ℕ) → w < 3 → isOne eqb (iconsAt i) (12 + 3 * i + w) ≡ true
 one-of i w l =
     go (eqb (12 + 3 * i + w) (12 + 3 * i + 0)) (eqb (12 + 3 * i + w) (12 + 3 * i + 1)) (eqb (12 + 3 * i + w) (12 + 3 * i + 2)) refl refl refl
@@ -116,10 +113,6 @@ removed-pointer x i sound below g =
     (removed-still x i (sound .long) below .pointers ∙ pointAll-is (iconsAt i) x 0 (icons-holders i below) (valid-has x (sound .holders) .long))
 
 -- ---- a plan for a record
-
-second-small : (f : Family) (b : ℕ) → b ≤ highest f → b < 4294967296
-second-small Windows b h = omega arith
-second-small Notifications b h = omega arith
 
 module _ (x s : List ℕ) (o : RecordOrder) (i place : ℕ) (sound : Sound x) (h : Ordered s o) (p : Planned x s o i place) (pictures : ℕ → List ℕ) where
   abbrev f : Family

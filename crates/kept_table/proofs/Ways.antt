@@ -1,19 +1,18 @@
 -- What each function over a table's memory does, by its tests: one law for each way out. Assumes nothing.
 use mathlib.Core.Path.{_≡_, refl, sym, ap, _∙_}
-use mathlib.Core.Bool.{Bool, true, false, not}
+use mathlib.Core.Bool.{Bool, true, false}
 use mathlib.Core.List.{List, [], _∷_, _++_}
 use mathlib.Core.Logic.{inl, inr}
-use Prim.Native.Nat.{ℕ, suc, _+_, _*_, _-_, _≤_, _<_}
+use Prim.Native.Nat.{ℕ, _+_, _*_, _-_, _≤_, _<_}
 use native.Mathlib.Omega.{arith}
-use lib.Dec.{eqb, ltb}
+use lib.Dec.{eqb}
 use lib.Bits.{bitAnd}
 use lib.ListN.{length, getD, take, drop, length-take, length-drop}
 use lib.Seq.{take-all}
 use borrow.Author.Tests.{eqb-true, eqb-false, eq-eqb, ne-eqb, lt-ltb, le-ltb}
 use denote.Enum.Declared.{tagOf}
 use types.Run.{OneOf}
-use Rattle.wire.specs.Tests.{pick, both, has}
-use Rattle.wire.specs.Numbers.{numAt}
+use Rattle.wire.specs.Tests.{pick, has}
 use Rattle.wire.specs.Parts.{splice}
 use Rattle.wire.proofs.Numbers.{num1-is}
 use Rattle.wire.proofs.Parts.{part-back}
@@ -22,7 +21,7 @@ use Rattle.order.specs.Icons.{partsOf}
 use Rattle.protocol.specs.Flags.{flagIcon}
 use Rattle.places.specs.declared.Family.the-variants.{Windows, Notifications}
 use Rattle.places.specs.Counts.{eachBelow}
-use Rattle.places.specs.Memory.{placesOf, pointerAt}
+use Rattle.places.specs.Memory.{placesOf}
 use Rattle.places.proofs.Counting.{each-has, each-is}
 use Rattle.places.proofs.Bytes.{inside}
 use Rattle.places.proofs.Validity.{valid-has}

@@ -1,7 +1,6 @@
 -- The plan tells which slot is lent, changed and given back.
 use Rattle.kept_table.specs.Changes.{Able}
 use Rattle.kept_table.proofs.Ways.{plan-able, plan-desktop, slots-deleted, slots-changed, slots-desktop, slots-refused}
-use native.Mathlib.Omega.{arith}
 use denote.Ref.{now}
 use borrow.Author.Needs.{needs}
 use Rattle.kept_table.proofs.changes.bodies.Statement.{statement}

@@ -1,6 +1,5 @@
 -- The heads behind the slots are lent and come back; nothing else changes the store.
 use Rattle.store.specs.Store.{five}
-use Rattle.kept_table.specs.Changes.{Able}
 use Rattle.kept_table.proofs.Ways.{plan-able, put-deleted, put-none, put-there, put-other, icon-asks}
 use native.Mathlib.Omega.{arith}
 use lib.ListN.{length-take, length-drop}
