@@ -95,11 +95,13 @@ enum rail_numbers {
     RAIL_CHUNK_TOO_SHORT = 15, /* chunk under 8 bytes */
     RAIL_BAD_CHUNK = 16,       /* chunk compressed, not first with nothing begun, or not what its total says */
     RAIL_RECORD_CUT = 18,      /* session record: no whole count or table of contents, or a body past the end */
-    RAIL_RECORD_DIFFERS = 19   /* session record over its limits, or not laid out as one */
+    RAIL_RECORD_DIFFERS = 19,  /* session record over its limits, or not laid out as one */
+    RAIL_WRONG_END = 20,       /* counter profile: a kind from the wrong end */
+    RAIL_NOT_PERMITTED = 21    /* counter profile: a program not permitted */
 };
 
 /* ---- Answers, all in one packing: the number; where that is 0, a state call's count of orders that stand after the mark and their
- * bytes in all, or the bytes that rail_pdu_write wrote. What a call does not answer is 0. */
+ * bytes in all, or the bytes that rail_pdu_write or rail_counter_write wrote. What a call does not answer is 0. */
 
 static inline uint32_t rail_number(uint32_t answer) { return answer & 255u; }
 static inline uint32_t rail_count(uint32_t answer) { return answer >> 8 & 255u; }
@@ -130,6 +132,10 @@ static inline const char *rail_number_words(uint32_t number) {
         return "fewer than 2 bytes, or than 2 plus 8 for each counted order, or an offset plus size past the end";
     if (number == RAIL_RECORD_DIFFERS)
         return "count over 128, sizes over 32,768 in all, offsets not those of the layout, or bytes left over";
+    if (number == RAIL_WRONG_END)
+        return "a kind from the wrong end";
+    if (number == RAIL_NOT_PERMITTED)
+        return "a program not permitted";
     return number < sizeof words / sizeof words[0] ? words[number] : "no number of this library";
 }
 
@@ -251,6 +257,7 @@ uint32_t rail_pdu_write(const uint32_t words[12], const uint8_t *strings, size_t
 #endif
 
 #include "rail/chunk.h"
+#include "rail/counter.h"
 #include "rail/session_record.h"
 #include "rail/messages.h"
 #include "rail/records.h"

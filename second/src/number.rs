@@ -36,3 +36,7 @@ pub const BAD_CHUNK: u8 = 16;
 pub const RECORD_CUT: u8 = 18;
 /// A session record is over its limits, or not laid out as one.
 pub const RECORD_DIFFERS: u8 = 19;
+/// In the counter profile: a kind from the wrong end.
+pub const WRONG_END: u8 = 20;
+/// In the counter profile: a program that is not permitted.
+pub const NOT_PERMITTED: u8 = 21;

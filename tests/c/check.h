@@ -68,6 +68,7 @@ void test_wrappers(void);
 void test_decoders(void);
 void test_reading(void);
 void test_writing(void);
+void test_counter(void);
 void test_chunks(void);
 void test_session_record(void);
 void test_lists(void);

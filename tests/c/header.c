@@ -184,6 +184,7 @@ int main(void) {
     test_decoders();
     test_reading();
     test_writing();
+    test_counter();
     test_chunks();
     test_session_record();
     test_lists();

@@ -216,5 +216,7 @@ void test_decoders(void) {
     CHECK(strcmp(rail_number_words(17), rail_number_words(UINT32_MAX)) == 0);
     CHECK(strcmp(rail_number_words(RAIL_RECORD_CUT), rail_number_words(17)) != 0);
     CHECK(strcmp(rail_number_words(RAIL_RECORD_DIFFERS), rail_number_words(17)) != 0);
-    CHECK(strcmp(rail_number_words(20), rail_number_words(17)) == 0);
+    CHECK(strcmp(rail_number_words(RAIL_WRONG_END), "a kind from the wrong end") == 0);
+    CHECK(strcmp(rail_number_words(RAIL_NOT_PERMITTED), "a program not permitted") == 0);
+    CHECK(strcmp(rail_number_words(22), rail_number_words(17)) == 0);
 }

@@ -379,6 +379,62 @@ void test_reading(void) {
     settings();
 }
 
+/* The counter profile: whether a server and whether a client sends each kind, in the order above. */
+static const char senders[KINDS + 1] = "ccceccssccc" "sscccs";
+
+/* Kind `k` in the profile: its message is read and its words are written by their end only. */
+static void counter_kind(int k) {
+    const uint32_t number = senders[k] == 'c' ? RAIL_WRONG_END : RAIL_DONE;
+    uint32_t w[RAIL_WORDS], words[RAIL_WORDS], plain, answer;
+    uint8_t out[RAIL_MESSAGE_MAX];
+    build(k, w);
+    memset(words, 0, sizeof words);
+    CHECK(rail_counter_read(order.at, order.size, words) == number);
+    CHECK(number == RAIL_DONE ? memcmp(words, w, sizeof w) == 0 : words[0] == 0);
+    memset(out, 0xEE, sizeof out);
+    plain = rail_pdu_write(w, order.at, order.size, out, sizeof out);
+    memset(out, 0xEE, sizeof out);
+    answer = rail_counter_write(w, order.at, order.size, out, sizeof out);
+    if (k == 0 || senders[k] == 's') {
+        CHECK(refused(answer, k == 0 ? RAIL_NOT_PERMITTED : RAIL_WRONG_END) && filled(out, sizeof out, 0xEE));
+    } else {
+        CHECK(answer == plain && memcmp(out, order.at, order.size) == 0 && out[order.size] == 0xEE);
+    }
+    memset(out, 0xEE, sizeof out);
+    CHECK(refused(rail_counter_write(w, order.at, order.size, out, order.size - 1), RAIL_OUTPUT_TOO_SMALL)); /* before 20 and 21 */
+    CHECK(filled(out, sizeof out, 0xEE));
+}
+
+/* The number that an Execute with these flags of the first `size` bytes of a name meets. */
+static uint32_t counter_execute(uint32_t flags, const char *name, uint32_t size) {
+    const uint32_t w[RAIL_WORDS] = {TS_RAIL_ORDER_EXEC, flags, 0, size, 0, 0, 0, 0, 0, 0, 0, 0};
+    uint8_t out[64];
+    uint32_t answer;
+    memset(out, 0xEE, sizeof out);
+    answer = rail_counter_write(w, (const uint8_t *)name, size, out, sizeof out);
+    CHECK(rail_number(answer) == RAIL_DONE ? rail_bytes(answer) == 12 + size && memcmp(out + 12, name, size) == 0 : filled(out, sizeof out, 0xEE));
+    return rail_number(answer);
+}
+
+void test_counter(void) {
+    static const char name[] = "|\0|\0a\0";
+    const uint32_t barred = TS_RAIL_EXEC_FLAG_TRANSLATE_FILES | TS_RAIL_EXEC_FLAG_FILE | TS_RAIL_EXEC_FLAG_APP_USER_MODEL_ID;
+    uint32_t flags;
+    int k;
+    for (k = 0; k < KINDS; k++)
+        counter_kind(k);
+    for (flags = 0; flags < 0x20; flags++) {
+        const int lone = (flags & TS_RAIL_EXEC_FLAG_TRANSLATE_FILES) != 0 && (flags & TS_RAIL_EXEC_FLAG_FILE) == 0;
+        CHECK(counter_execute(flags, name, 6) == (lone ? RAIL_BAD_VALUE : (flags & barred) != 0 ? RAIL_NOT_PERMITTED : RAIL_DONE));
+    }
+    CHECK(counter_execute(0x20, name, 6) == RAIL_BAD_VALUE);
+    CHECK(counter_execute(0, name, 4) == RAIL_NOT_PERMITTED && counter_execute(0, name, 2) == RAIL_NOT_PERMITTED);
+    CHECK(counter_execute(0, name, 5) == RAIL_BAD_VALUE);
+    CHECK(counter_execute(0, "}\0|\0a\0", 6) == RAIL_NOT_PERMITTED && counter_execute(0, "|\1|\0a\0", 6) == RAIL_NOT_PERMITTED);
+    CHECK(counter_execute(0, "|\0{\0a\0", 6) == RAIL_NOT_PERMITTED && counter_execute(0, "|\0|\1a\0", 6) == RAIL_NOT_PERMITTED);
+    CHECK(counter_execute(0, "|\0|\0\0\0", 6) == RAIL_DONE && counter_execute(0, "|\0|\0|\0|\0", 8) == RAIL_DONE);
+}
+
 /* These words are no record. */
 static void refuse_words(const uint32_t *w) {
     uint8_t out[RAIL_MESSAGE_MAX];

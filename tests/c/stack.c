@@ -8,7 +8,7 @@
 
 #define STACK 524288
 #define STACK_MAX 16384 /* rail.h says so */
-#define CALLS 16
+#define CALLS 18
 
 static uint8_t *out;
 
@@ -31,6 +31,8 @@ static void *call(void *argument) {
     case 12: rail_record_write(NOW, out, RAIL_CHUNK_SIZE); break;
     case 13: rail_windows(NOW, out, RAIL_PICTURE_SIZE); break;
     case 14: rail_notifications(NOW, out, RAIL_PICTURE_SIZE); break;
+    case 15: rail_counter_read(order.at, order.size, words); break;
+    case 16: rail_counter_write(handshake, order.at, 0, out, RAIL_PICTURE_SIZE); break;
     default: rail_pdu_write(handshake, order.at, 0, out, RAIL_PICTURE_SIZE);
     }
     return NULL;

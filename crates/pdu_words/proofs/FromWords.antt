@@ -128,7 +128,7 @@ module _ (w : List ℕ) where
   unfolding stand
   not-standing u = rw u
 
-  known-type : stand w ≡ true → known (getD w 0 0) ≡ true
+  pub known-type : stand w ≡ true → known (getD w 0 0) ≡ true
   unfolding stand
   known-type h = both-left (known (getD w 0 0)) (fitting (getD w 0 0) w) h
 
@@ -140,7 +140,7 @@ module _ (w : List ℕ) where
   within-of : (k : ℕ) → fitting k w ≡ true → within w (limits k (getD w 1 0)) ≡ true
   within-of k h = first-of (within w (limits k (getD w 1 0))) (map (isPosition w) (positionWords k)) h
 
-  within-type : stand w ≡ true → within w (limits (getD w 0 0) (getD w 1 0)) ≡ true
+  pub within-type : stand w ≡ true → within w (limits (getD w 0 0) (getD w 1 0)) ≡ true
   within-type h = within-of (getD w 0 0) (fitting-type h)
 
 -- words that stand and have none of the other types have the last
@@ -285,7 +285,7 @@ record-again (SystemParameters e) t =
 record-again (HandshakeEx e) t = refl
 
 -- the first word is the type, which is known
-kind-word : (p : Pdu) → (getD (wordsOf p) 0 0 ≡ kindOf p) × (known (kindOf p) ≡ true)
+pub kind-word : (p : Pdu) → (getD (wordsOf p) 0 0 ≡ kindOf p) × (known (kindOf p) ≡ true)
 unfolding kindOf wordsOf known
 kind-word (Execute e) = (refl, refl)
 kind-word (Activate e) = (refl, refl)

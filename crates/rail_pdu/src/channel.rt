@@ -29,7 +29,7 @@ fn chunk_call(memory: &mut [u8], s: &[u8], out: &mut [u8]) -> bool {
     if end > memory.len() {
         return false;
     }
-    item::read_line(b"K", &memory[0..end], out)
+    item::read_line(b'K', &memory[0..end], out)
 }
 
 // E: empties the chunk memory.

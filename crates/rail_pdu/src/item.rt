@@ -37,20 +37,35 @@ pub(crate) fn number_line(out: &mut [u8], at: usize, number: u8) -> bool {
     print::end_line(out, n)
 }
 
-fn record_line(out: &mut [u8], at: usize, s: &[u8], p: Pdu) -> bool {
+// The line of a granted read: the record that words stand for, its strings in s.
+fn record_line(out: &mut [u8], at: usize, s: &[u8], words: &[u32; 12]) -> bool {
     let n = print::text(out, at, b" 0 type=");
-    let n = show::message(out, n, s, p);
+    let n = show::record(out, n, s, words);
     print::end_line(out, n)
 }
 
 // Reads the message s and prints its record, or the refusal, after the kind of its item.
-pub(crate) fn read_line(kind: &[u8], s: &[u8], out: &mut [u8]) -> bool {
-    let n = print::text(out, 0, kind);
+pub(crate) fn read_line(kind: u8, s: &[u8], out: &mut [u8]) -> bool {
+    let n = print::byte(out, 0, kind);
     let answer = pdu_read::read_pdu(s);
     let Read::Message(p) = answer else {
         return number_line(out, n, number_of(answer));
     };
-    record_line(out, n, s, p)
+    let mut words = [0u32; 12];
+    pdu_words::words_of(&mut words, p);
+    record_line(out, n, s, &words)
+}
+
+// r: the same in the counter profile.
+fn counter_line(s: &[u8], out: &mut [u8]) -> bool {
+    let n = print::byte(out, 0, b'r');
+    let mut words = [0u32; 12];
+    let number = profile::read_words(s, &mut words);
+    if number != 0 {
+        let n = print::field(out, n, b" ", number as u64);
+        return print::end_line(out, n);
+    }
+    record_line(out, n, s, &words)
 }
 
 // Whether each byte from index at on is EE still.
@@ -66,37 +81,47 @@ fn is_kept(memory: &[u8], at: usize) -> bool {
 }
 
 // The line of a refused write, which has to leave the memory as it was.
-fn refused(memory: &[u8], number: u8, out: &mut [u8]) -> bool {
+fn refused(kind: u8, memory: &[u8], number: u8, out: &mut [u8]) -> bool {
     if !is_kept(memory, 0) {
         return memory_changed();
     }
-    let n = print::text(out, 0, b"P");
+    let n = print::byte(out, 0, kind);
     number_line(out, n, number)
 }
 
 // The line of a granted write of n bytes, which has to leave the memory past them as it was.
-fn granted(memory: &[u8], n: usize, out: &mut [u8]) -> bool {
+fn granted(kind: u8, memory: &[u8], n: usize, out: &mut [u8]) -> bool {
     if n > memory.len() {
         return memory_changed();
     }
     if !is_kept(memory, n) {
         return memory_changed();
     }
-    let at = print::text(out, 0, b"P 0 ");
+    let at = print::byte(out, 0, kind);
+    let at = print::text(out, at, b" 0 ");
     let at = print::hex(out, at, &memory[0..n]);
     print::end_line(out, at)
 }
 
-// Writes the record p, whose strings stand in s, to the memory lent.
-fn write_to(p: Pdu, s: &[u8], memory: &mut [u8], out: &mut [u8]) -> bool {
-    match pdu_write::write_pdu(p, s, memory) {
-        Written::Bytes(n) => granted(memory, n, out),
-        Written::Refused(number) => refused(memory, number, out),
+// Writes the record p, whose strings stand in s, to the memory lent: for P by the plain rules, for p in the counter profile.
+fn write(kind: u8, p: Pdu, s: &[u8], memory: &mut [u8]) -> Written {
+    if kind == b'P' {
+        return pdu_write::write_pdu(p, s, memory);
+    }
+    let mut words = [0u32; 12];
+    pdu_words::words_of(&mut words, p);
+    profile::write_words(&words, s, memory)
+}
+
+fn write_line(kind: u8, p: Pdu, s: &[u8], memory: &mut [u8], out: &mut [u8]) -> bool {
+    match write(kind, p, s, memory) {
+        Written::Bytes(n) => granted(kind, memory, n, out),
+        Written::Refused(number) => refused(kind, memory, number, out),
     }
 }
 
-// P: writes the record of the payload s.
-fn write_call(s: &[u8], out: &mut [u8]) -> bool {
+// P, p: writes the record of the payload s.
+fn write_call(kind: u8, s: &[u8], out: &mut [u8]) -> bool {
     let Record::Whole(p) = record::read(s) else {
         return bad_item();
     };
@@ -105,13 +130,15 @@ fn write_call(s: &[u8], out: &mut [u8]) -> bool {
         return bad_item();
     }
     let mut memory = [0xEEu8; SIZE_MAX];
-    write_to(p, s, &mut memory[0..size], out)
+    write_line(kind, p, s, &mut memory[0..size], out)
 }
 
 pub(crate) fn call(kind: u8, s: &[u8], out: &mut [u8]) -> bool {
     match kind {
-        b'R' => read_line(b"R", s, out),
-        b'P' => write_call(s, out),
+        b'R' => read_line(kind, s, out),
+        b'r' => counter_line(s, out),
+        b'P' => write_call(kind, s, out),
+        b'p' => write_call(kind, s, out),
         _ => bad_item(),
     }
 }

@@ -1,4 +1,4 @@
-// The record of a P item. Its payload s has the size of the output memory at 0, the type at 2 and
+// The record of an item P or p. Its payload s has the size of the output memory at 0, the type at 2 and
 // the fields from 4 on; the strings stand after the fields.
 use pdu::Activate;
 use pdu::ApplicationIdResponse;

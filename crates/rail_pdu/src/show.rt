@@ -1,6 +1,5 @@
 // A record as text: a template for each type, in which `#` stands for the next word of the record as a decimal, `~` for it as a signed
 // decimal, `%` for it as eight hex digits, and `$` for the bytes in hex of the string whose place in s and length the next two words are.
-use pdu::Pdu;
 
 // Word k, if there is one.
 fn word(words: &[u32; 12], k: usize) -> u32 {
@@ -109,7 +108,8 @@ fn of_a_setting(out: &mut [u8], at: usize, s: &[u8], words: &[u32; 12]) -> usize
     fill(out, at, s, words, b"0003 setting=% flags=# string=$")
 }
 
-fn by_type(out: &mut [u8], at: usize, s: &[u8], words: &[u32; 12]) -> usize {
+// Lays the record that words stand for, its strings in s, and answers the index after it.
+pub(crate) fn record(out: &mut [u8], at: usize, s: &[u8], words: &[u32; 12]) -> usize {
     match words[0] {
         0x01 => fill(
             out,
@@ -127,11 +127,4 @@ fn by_type(out: &mut [u8], at: usize, s: &[u8], words: &[u32; 12]) -> usize {
         0x80 => fill(out, at, s, words, b"0080 flags=# result=# raw=# string=$"),
         _ => of_a_window(out, at, s, words),
     }
-}
-
-// Lays the record p of the message s and answers the index after it.
-pub(crate) fn message(out: &mut [u8], at: usize, s: &[u8], p: Pdu) -> usize {
-    let mut words = [0u32; 12];
-    pdu_words::words_of(&mut words, p);
-    by_type(out, at, s, &words)
 }

@@ -55,6 +55,10 @@ pub enum Refusal {
     RecordCut = 18,
     /// 19: a session record over its limits, or not laid out as one.
     RecordDiffers = 19,
+    /// 20: in the counter profile, a kind from the wrong end.
+    WrongEnd = 20,
+    /// 21: in the counter profile, a program that is not permitted.
+    NotPermitted = 21,
 }
 
 impl Refusal {
@@ -78,6 +82,8 @@ impl Refusal {
         Refusal::BadChunk,
         Refusal::RecordCut,
         Refusal::RecordDiffers,
+        Refusal::WrongEnd,
+        Refusal::NotPermitted,
     ];
 
     /// Its number in documents 01 and 02.
@@ -119,6 +125,8 @@ impl Refusal {
                 "count over 128, sizes over 32,768 in all, offsets not those of the layout, \
                  or bytes left over"
             }
+            Refusal::WrongEnd => "a kind from the wrong end",
+            Refusal::NotPermitted => "a program not permitted",
         }
     }
 }
@@ -241,12 +249,12 @@ mod tests {
     #[test]
     fn numbers_of_refusals() {
         let numbers = Refusal::ALL.iter().map(|refusal| refusal.number());
-        assert!(numbers.eq((1..=16).chain([18, 19])));
+        assert!(numbers.eq((1..=16).chain(18..=21)));
         for &refusal in Refusal::ALL {
             assert_eq!(Refusal::try_from(refusal.number()), Ok(refusal));
             assert_eq!(u8::from(refusal), refusal.number());
         }
-        for number in (20..=255).chain([0, 17]) {
+        for number in (22..=255).chain([0, 17]) {
             assert_eq!(Refusal::try_from(number), Err(UnknownNumber(number)));
         }
     }

@@ -4,8 +4,9 @@ use alloc::boxed::Box;
 use core::fmt;
 
 use crate::answer::{refused, Refusal};
-use crate::ffi;
+use crate::ffi::{self, Words};
 use crate::message::{message_of, Message};
+use crate::profile::Profile;
 
 /// The bytes of memory that an unfinished message is kept in.
 pub const CHUNK_SIZE: usize = 17_060;
@@ -48,6 +49,22 @@ impl Channel {
         assert_eq!(number, 0, "the memory has the measure");
     }
 
+    /// As [`take`](Self::take), with the message read by the rules of this profile.
+    ///
+    /// # Errors
+    /// As [`take`](Self::take); in the counter profile then [`Refusal::WrongEnd`], after
+    /// which nothing is begun.
+    pub fn take_in(
+        &mut self,
+        profile: Profile,
+        chunk: &[u8],
+    ) -> Result<Option<Message<'_>>, Refusal> {
+        let Some(length) = self.join(chunk)?.1 else {
+            return Ok(None);
+        };
+        profile.read(&self.memory[..length]).map(Some)
+    }
+
     /// Takes the next chunk: the message where it was the last of one, none where more
     /// is awaited. The message's strings lie in the channel's memory, so that it has to
     /// be done with before the next chunk is taken.
@@ -59,15 +76,18 @@ impl Channel {
     /// which drops it; and what [`Message::read`] refuses a whole message with, after
     /// which nothing is begun.
     pub fn take(&mut self, chunk: &[u8]) -> Result<Option<Message<'_>>, Refusal> {
+        let (words, length) = self.join(chunk)?;
+        Ok(length.map(|length| message_of(&words, &self.memory[..length])))
+    }
+
+    /// The words of a whole message and its length, if there is one.
+    fn join(&mut self, chunk: &[u8]) -> Result<(Words, Option<usize>), Refusal> {
         let mut words = [0; 12];
         let answer = ffi::chunk(&mut self.memory[..], chunk, &mut words);
         let [number, messages, bytes @ ..] = answer.to_le_bytes();
         refused(number)?;
-        if messages == 0 {
-            return Ok(None);
-        }
-        let message = &self.memory[..u16::from_le_bytes(bytes).into()];
-        Ok(Some(message_of(&words, message)))
+        let whole = messages != 0;
+        Ok((words, whole.then(|| u16::from_le_bytes(bytes).into())))
     }
 }
 

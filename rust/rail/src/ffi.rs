@@ -190,6 +190,14 @@ extern "C" {
         out: *mut u8,
         out_length: usize,
     ) -> u32;
+    fn rail_counter_read(message: *const u8, length: usize, words: *mut u32) -> u32;
+    fn rail_counter_write(
+        words: *const u32,
+        strings: *const u8,
+        strings_length: usize,
+        out: *mut u8,
+        out_length: usize,
+    ) -> u32;
     #[cfg(test)]
     fn rail_size(what: u32) -> u32;
 }
@@ -489,6 +497,24 @@ pub(crate) fn pdu_write(words: &Words, strings: &[u8], out: &mut [u8]) -> u32 {
     // `out` is written with its own, which is borrowed mutably and so apart from both.
     unsafe {
         rail_pdu_write(
+            words.as_ptr(),
+            strings.as_ptr(),
+            strings.len(),
+            out.as_mut_ptr(),
+            out.len(),
+        )
+    }
+}
+
+pub(crate) fn counter_read(message: &[u8], words: &mut Words) -> u32 {
+    // SAFETY: as `pdu_read`.
+    unsafe { rail_counter_read(message.as_ptr(), message.len(), words.as_mut_ptr()) }
+}
+
+pub(crate) fn counter_write(words: &Words, strings: &[u8], out: &mut [u8]) -> u32 {
+    // SAFETY: as `pdu_write`.
+    unsafe {
+        rail_counter_write(
             words.as_ptr(),
             strings.as_ptr(),
             strings.len(),

@@ -4,8 +4,8 @@
 //! they make: windows, notification icons, the icon cache and the desktop. An order
 //! is used whole or refused whole, and a [`Refusal`] says why. Orders since the last
 //! checkpoint can be taken back. A [`Message`] is one of the 15 control messages,
-//! read from bytes and written to bytes; a [`Channel`] hands them out of the chunks that
-//! they arrive in.
+//! read from bytes and written to bytes, in the counter profile where a [`Profile`] says so;
+//! a [`Channel`] hands them out of the chunks that they arrive in.
 //!
 //! ```
 //! use rail::{Refusal, Session, WindowId};
@@ -52,6 +52,7 @@ mod ids;
 mod memory;
 mod message;
 mod order;
+mod profile;
 pub mod protocol;
 mod record;
 mod run;
@@ -68,6 +69,7 @@ pub use memory::{
 };
 pub use message::{Message, Setting, MESSAGE_LIMIT};
 pub use order::{orders, Change, Changed, Orders};
+pub use profile::Profile;
 pub use record::{
     CacheCell, Desktop, NotificationIcon, Picture, Point, Rectangle, ShowState, Size, Window,
 };

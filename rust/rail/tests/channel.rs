@@ -1,7 +1,7 @@
 //! Messages in chunks: any cutting reads as the uncut message, and scripts of chunks answer
 //! as the second program's do.
 
-use rail::{Channel, Message, Refusal, MESSAGE_LIMIT};
+use rail::{Channel, Message, Profile, Refusal, MESSAGE_LIMIT};
 use second::generate::pdu::script;
 use second::generate::random::Random;
 use second::pdu::chunk::{flag, Assembly, Head};
@@ -130,6 +130,34 @@ fn chunks_as_the_second_program_takes_them() {
     for number in [0, 2, 3, 4, 7, 8, 15, 16] {
         assert!(counts[number] > 50, "{number}: {}", counts[number]);
     }
+}
+
+/// In the counter profile a message of a client is refused once it is whole, and dropped.
+#[test]
+fn chunks_at_a_counter() {
+    let mut channel = Channel::new();
+    let both = flag::FIRST | flag::LAST;
+    let chunk = |length, flags, piece: &[u8]| Head { length, flags }.with(piece);
+    let activate = [2, 0, 9, 0, 1, 0, 0, 0, 1];
+    let first = chunk(9, flag::FIRST, &activate[..5]);
+    let last = chunk(9, flag::LAST, &activate[5..]);
+    assert_eq!(channel.take_in(Profile::Counter, &first), Ok(None));
+    assert_eq!(
+        channel.take_in(Profile::Counter, &last),
+        Err(Refusal::WrongEnd)
+    );
+    assert_eq!(
+        channel.take_in(Profile::Counter, &last),
+        Err(Refusal::BadChunk)
+    );
+    assert_eq!(
+        channel.take_in(Profile::Plain, &chunk(9, both, &activate)),
+        Message::read(&activate).map(Some)
+    );
+    assert_eq!(
+        channel.take_in(Profile::Counter, &chunk(8, both, &[5, 0, 8, 0, 9, 0, 0, 0])),
+        Ok(Some(Message::Handshake { build_number: 9 }))
+    );
 }
 
 #[test]

@@ -1,10 +1,10 @@
 //! Control messages are read and written as the second program does it.
 
-use rail::{Message, NotifyIconId, Rectangle, Refusal, Setting, WindowId};
+use rail::{Message, NotifyIconId, Profile, Rectangle, Refusal, Setting, WindowId};
 use second::generate::pdu::script;
 use second::pdu::setting::{self, Body};
 use second::pdu::{self, Record, SystemParameters};
-use second::script::pdu::{run, run_with};
+use second::script::pdu::{run, run_with, Writers};
 use second::script::take_item;
 
 /// Scripts and the items of each, about half of them messages to be read.
@@ -190,21 +190,53 @@ fn messages_are_read_alike() {
     assert!([0, 2, 3, 4, 7, 8].iter().all(|&number| read[number] > 100));
 }
 
-/// Writing by this crate, in the second program's terms.
-fn write(record: &Record<'_>, out: &mut [u8]) -> Result<usize, u8> {
-    let message = message(record).ok_or(Refusal::OutsideSet.number())?;
-    message.write(out).map_err(Refusal::number)
+/// The same in the counter profile, of the messages that are to be read in it.
+#[test]
+fn messages_are_read_alike_at_a_counter() {
+    let mut read = [0; 21];
+    for seed in 0..SCRIPTS {
+        let script = script(seed, ITEMS);
+        let mut rest = script.as_slice();
+        while let Some((item, tail)) = take_item(rest) {
+            rest = tail;
+            if item.kind == b'r' {
+                let expected = pdu::counter::read(item.payload);
+                let read_here = Profile::Counter.read(item.payload);
+                assert_eq!(
+                    read_here.map_err(Refusal::number).map(Some),
+                    expected.map(|record| message(&record)),
+                    "seed {seed}"
+                );
+                read[usize::from(expected.err().unwrap_or(0))] += 1;
+            }
+        }
+    }
+    println!("read at a counter: numbers {read:?}");
+    assert!([0, 2, 3, 4, 7, 8, 20]
+        .iter()
+        .all(|&number| read[number] > 20));
 }
+
+/// Writing by this crate, in the second program's terms.
+fn write(profile: Profile, record: &Record<'_>, out: &mut [u8]) -> Result<usize, u8> {
+    let message = message(record).ok_or(Refusal::OutsideSet.number())?;
+    profile.write(&message, out).map_err(Refusal::number)
+}
+
+const WRITERS: Writers = Writers {
+    plain: |record, out| write(Profile::Plain, record, out),
+    counter: |record, out| write(Profile::Counter, record, out),
+};
 
 /// The lines are the same, and no byte changes that must not.
 #[test]
 fn messages_are_written_alike() {
-    let mut written = 0;
+    let mut written = [0; 3];
     for seed in 0..SCRIPTS {
         let script = script(seed, ITEMS);
         let (mut expected, mut printed) = (Vec::new(), Vec::new());
         run(&script, &mut expected).expect("memory takes all that is written");
-        run_with(write, &script, &mut printed).expect("memory takes all that is written");
+        run_with(WRITERS, &script, &mut printed).expect("memory takes all that is written");
         if printed != expected {
             let lines = |text: &[u8]| -> Vec<String> {
                 let text = String::from_utf8_lossy(text);
@@ -215,10 +247,12 @@ fn messages_are_written_alike() {
             }
             panic!("seed {seed}: not as many lines");
         }
-        written += printed.windows(4).filter(|line| line == b"P 0 ").count();
+        for (count, line) in written.iter_mut().zip([b"P 0 ", b"p 0 ", b"p 21"]) {
+            *count += printed.windows(4).filter(|part| part == line).count();
+        }
     }
-    println!("written: {written}");
-    assert!(written > 1_000);
+    println!("written: {written:?}");
+    assert!(written.iter().all(|&count| count > 300));
 }
 
 /// Memory of the very length is enough, and one byte less is not.

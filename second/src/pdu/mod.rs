@@ -1,6 +1,7 @@
 //! Control messages (PDUs): records, reading and writing.
 
 pub mod chunk;
+pub mod counter;
 mod read;
 pub mod rules;
 pub mod setting;

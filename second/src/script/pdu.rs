@@ -1,5 +1,5 @@
-//! Scripts of control messages: items `R` (read) and `P` (write), and those of
-//! [`chunk`].
+//! Scripts of control messages: items `R` (read) and `P` (write), `r` and `p` (the same in
+//! the counter profile), and those of [`chunk`].
 
 use std::io;
 
@@ -8,7 +8,7 @@ use super::print::{push_hex, push_record};
 use super::{take_item, End, Item};
 use crate::ids::{NotifyIconId, WindowId};
 use crate::pdu::setting::{self, Area, Body, Contrast, Form};
-use crate::pdu::{self, order_type, Record};
+use crate::pdu::{self, counter, order_type, Record};
 use crate::pdu::{
     Activate, ApplicationIdResponse, ClientInformation, Execute, ExecuteResult, GetApplicationId,
     Handshake, HandshakeEx, MinMaxInfo, MoveSize, NotifyEvent, SystemCommand, SystemMenu,
@@ -16,7 +16,10 @@ use crate::pdu::{
 };
 
 /// The kinds of items.
-pub const KINDS: &[u8] = b"RPKETX";
+pub const KINDS: &[u8] = b"RPrpKETX";
+
+/// The line of an item without a listed form.
+const BAD_ITEM: &[u8] = b"bad item\n";
 
 /// The most output memory that an item can ask for.
 pub const MEMORY_LIMIT: usize = 17_408;
@@ -26,6 +29,21 @@ const FILL: u8 = 0xEE;
 
 /// A function that writes a record, as [`pdu::write`] does.
 pub type WriteFn = fn(&Record<'_>, &mut [u8]) -> Result<usize, u8>;
+
+/// The functions that write the records of items `P` and `p`.
+#[derive(Clone, Copy, Debug)]
+pub struct Writers {
+    /// By the plain rules.
+    pub plain: WriteFn,
+    /// In the counter profile.
+    pub counter: WriteFn,
+}
+
+/// Those of this program.
+const OWN: Writers = Writers {
+    plain: pdu::write,
+    counter: counter::write,
+};
 
 /// What an item comes to.
 #[derive(Debug, PartialEq, Eq)]
@@ -42,12 +60,12 @@ pub enum Answer<'a> {
 
 /// Runs a script and prints one line for each item.
 pub fn run(script: &[u8], out: &mut (impl io::Write + ?Sized)) -> io::Result<End> {
-    run_with(pdu::write, script, out)
+    run_with(OWN, script, out)
 }
 
-/// As [`run`], with the writing function given.
+/// As [`run`], with the writing functions given.
 pub fn run_with(
-    write: WriteFn,
+    write: Writers,
     script: &[u8],
     out: &mut (impl io::Write + ?Sized),
 ) -> io::Result<End> {
@@ -58,8 +76,7 @@ pub fn run_with(
     while !rest.is_empty() {
         line.clear();
         let Some((item, tail)) = take_item(rest) else {
-            push_answer(&mut line, &Answer::BadItem);
-            out.write_all(&line)?;
+            out.write_all(BAD_ITEM)?;
             break;
         };
         let ends = match chunk::call(item).map(|call| chunks.make(call)) {
@@ -68,7 +85,10 @@ pub fn run_with(
                 push_outcome(&mut line, item.kind, &outcome);
                 false
             }
-            None => push_answer(&mut line, &answer_with(write, item, &mut memory)),
+            None => {
+                let answer = answer_with(write, item, &mut memory);
+                push_answer(&mut line, item.kind, &answer)
+            }
         };
         out.write_all(&line)?;
         if ends {
@@ -108,17 +128,23 @@ fn push_number(line: &mut Vec<u8>, kind: u8, number: u8) {
 
 /// Makes the call of one item. `memory` has at least [`MEMORY_LIMIT`] bytes.
 pub fn answer<'a>(item: Item<'a>, memory: &'a mut [u8]) -> Answer<'a> {
-    answer_with(pdu::write, item, memory)
+    answer_with(OWN, item, memory)
 }
 
-fn answer_with<'a>(write: WriteFn, item: Item<'a>, memory: &'a mut [u8]) -> Answer<'a> {
+fn answer_with<'a>(write: Writers, item: Item<'a>, memory: &'a mut [u8]) -> Answer<'a> {
     match item.kind {
         b'R' => Answer::Read(pdu::read(item.payload)),
-        b'P' => match write_call(item.payload) {
-            Some((size, record)) => written(write, &record, &mut memory[..size]),
-            None => Answer::BadItem,
-        },
+        b'r' => Answer::Read(counter::read(item.payload)),
+        b'P' => write_answer(write.plain, item.payload, memory),
+        b'p' => write_answer(write.counter, item.payload, memory),
         _ => Answer::BadItem,
+    }
+}
+
+fn write_answer<'a>(write: WriteFn, payload: &[u8], memory: &'a mut [u8]) -> Answer<'a> {
+    match write_call(payload) {
+        Some((size, record)) => written(write, &record, &mut memory[..size]),
+        None => Answer::BadItem,
     }
 }
 
@@ -140,23 +166,30 @@ fn written<'a>(write: WriteFn, record: &Record<'_>, memory: &'a mut [u8]) -> Ans
 }
 
 /// Adds the answer's line; says whether the run ends with it.
-fn push_answer(line: &mut Vec<u8>, answer: &Answer<'_>) -> bool {
+fn push_answer(line: &mut Vec<u8>, kind: u8, answer: &Answer<'_>) -> bool {
     match answer {
-        Answer::Read(result) => push_read(line, b'R', result),
-        Answer::Written(Ok(bytes)) => {
-            line.extend_from_slice(b"P 0 ");
-            push_hex(line, bytes);
+        Answer::Read(result) => {
+            push_read(line, kind, result);
+            line.push(b'\n');
         }
-        Answer::Written(Err(number)) => line.extend_from_slice(format!("P {number}").as_bytes()),
-        Answer::BadItem => line.extend_from_slice(b"bad item"),
-        Answer::MemoryChanged => line.extend_from_slice(b"output memory changed"),
+        Answer::Written(Ok(bytes)) => {
+            push_number(line, kind, 0);
+            line.push(b' ');
+            push_hex(line, bytes);
+            line.push(b'\n');
+        }
+        Answer::Written(Err(number)) => {
+            push_number(line, kind, *number);
+            line.push(b'\n');
+        }
+        Answer::BadItem => line.extend_from_slice(BAD_ITEM),
+        Answer::MemoryChanged => line.extend_from_slice(b"output memory changed\n"),
     }
-    line.push(b'\n');
     matches!(answer, Answer::BadItem | Answer::MemoryChanged)
 }
 
-/// The size of the memory lent and the record of a `P` item, or none if it has
-/// no listed form.
+/// The size of the memory lent and the record of an item `P` or `p`, or none if it
+/// has no listed form.
 fn write_call(payload: &[u8]) -> Option<(usize, Record<'_>)> {
     let mut fields = Fields { rest: payload };
     let size = usize::from(fields.u16()?);

@@ -26,7 +26,7 @@ pub fn second(arguments: &[&str], input: &[u8]) -> Output {
 /// The lines that a text script expects, after `# => ` in each of its items.
 pub fn expected_lines(text: &str) -> Vec<&str> {
     text.lines()
-        .filter(|line| line.starts_with(|first: char| first.is_ascii_uppercase()))
+        .filter(|line| line.starts_with(|first: char| first.is_ascii_alphabetic()))
         .map(|line| line.split_once("# => ").expect("an expected line").1)
         .collect()
 }

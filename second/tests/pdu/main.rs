@@ -5,6 +5,7 @@ mod common;
 
 mod chunks;
 mod command_line;
+mod counter;
 mod generator;
 mod layout;
 mod output;

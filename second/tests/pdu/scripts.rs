@@ -3,7 +3,7 @@
 use super::{hex, run, run_text, script_of};
 use second::compare::difference;
 use second::pdu::{write, Record};
-use second::script::pdu::run_with;
+use second::script::pdu::{run_with, WriteFn, Writers};
 
 const HANDSHAKE: &str = "52 0800 0500 0800 B11D0000";
 const GRANTED: &str = "R 0 type=0005 build=7601\n";
@@ -30,7 +30,7 @@ fn cut_items_are_bad() {
 
 #[test]
 fn unknown_kinds_are_bad() {
-    for kind in (0..=u8::MAX).filter(|kind| !b"RPKE".contains(kind)) {
+    for kind in (0..=u8::MAX).filter(|kind| !b"RPrpKE".contains(kind)) {
         let script = [&[kind, 0, 0][..], &hex(HANDSHAKE)].concat();
         assert_eq!(run(&script), "bad item\n");
     }
@@ -118,9 +118,13 @@ fn says_too_much(_: &Record<'_>, out: &mut [u8]) -> Result<usize, u8> {
 fn changed_output_memory_ends_the_run() {
     let text = "P 0800 0500 00000000\nP 0900 0500 00000000\nR\nR";
     let script = script_of(text).expect("a text form");
-    let print = |write| {
+    let print = |plain: WriteFn| {
         let mut output = Vec::new();
-        run_with(write, &script, &mut output).expect("memory takes all");
+        let writers = Writers {
+            plain,
+            counter: says_too_much,
+        };
+        run_with(writers, &script, &mut output).expect("memory takes all");
         String::from_utf8(output).expect("a text")
     };
     let granted = "P 0 0500080000000000\n";
@@ -131,6 +135,18 @@ fn changed_output_memory_ends_the_run() {
         print(touches_past_the_end),
         format!("{granted}output memory changed\n")
     );
+}
+
+#[test]
+fn both_writers_are_called() {
+    let script = script_of("P 0800 0500 00000000\np 0800 0500 00000000").expect("a text form");
+    let mut output = Vec::new();
+    let writers = Writers {
+        plain: |_, _| Err(8),
+        counter: |_, _| Err(20),
+    };
+    run_with(writers, &script, &mut output).expect("memory takes all");
+    assert_eq!(output, b"P 8\np 20\n");
 }
 
 #[test]
@@ -150,7 +166,7 @@ fn faults_in_the_text_form_are_told_with_their_line() {
         ("R 00\nZ 00", 2),
         ("\n\nR 0g", 3),
         ("R00", 1),
-        ("r 00", 1),
+        ("k 00", 1),
         ("é", 1),
     ] {
         let fault = script_of(text).expect_err("a fault");

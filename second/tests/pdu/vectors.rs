@@ -20,6 +20,11 @@ fn document_01() {
 }
 
 #[test]
+fn counter() {
+    check(include_str!("../../vectors/counter.txt"), 60);
+}
+
+#[test]
 fn settings() {
     check(include_str!("../../vectors/settings.txt"), 50);
 }

@@ -5,7 +5,7 @@
 
 #define MEMORY_MAX 17408
 
-/* A kind: its type, and with system parameters the setting; its fields by name, each with its width in a P item. s is a string, b a
+/* A kind: its type, and with system parameters the setting; its fields by name, each with its width in an item P or p. s is a string, b a
  * byte that stands for no or yes, x a number of 4 that is printed in hex, p a position of 2 bytes, signed. */
 struct field {
     const char *name;
@@ -118,7 +118,7 @@ static int bad_item(void) {
     return 0;
 }
 
-/* P: writes a record. Whether the run goes on. */
+/* P: writes a record; p: in the counter profile. Whether the run goes on. */
 static int write_record(const struct item *item) {
     static uint8_t memory[MEMORY_MAX];
     uint32_t words[RAIL_WORDS] = {0}, answer, n;
@@ -130,26 +130,33 @@ static int write_record(const struct item *item) {
         return bad_item();
     words[RAIL_WORD_TYPE] = kind->type;
     memset(memory, 0xEE, sizeof memory);
-    answer = rail_pdu_write(words, item->payload, item->size, memory, size);
+    answer = (item->kind == 'P' ? rail_pdu_write : rail_counter_write)(words, item->payload, item->size, memory, size);
     n = rail_number(answer) == RAIL_DONE ? rail_bytes(answer) : 0;
     if (n > size || !untouched(memory, n)) {
         puts("output memory changed");
         return 0;
     }
-    printf("P %u", rail_number(answer));
+    printf("%c %u", item->kind, rail_number(answer));
     if (rail_number(answer) == RAIL_DONE)
         print_hex(" ", memory, n);
     putchar('\n');
     return 1;
 }
 
+/* R: reads a message; r: in the counter profile. A refusal writes no word. */
 static int read_message(const struct item *item) {
-    uint32_t words[RAIL_WORDS] = {0};
-    const uint32_t number = rail_pdu_read(item->payload, item->size, words);
+    uint32_t words[RAIL_WORDS] = {0}, w, written = 0;
+    const uint32_t number = (item->kind == 'R' ? rail_pdu_read : rail_counter_read)(item->payload, item->size, words);
+    for (w = 0; w < RAIL_WORDS; w++)
+        written |= words[w];
+    if (number != RAIL_DONE && written != 0) {
+        puts("words changed");
+        return 0;
+    }
     if (number == RAIL_DONE)
-        print_record('R', item->payload, words);
+        print_record(item->kind, item->payload, words);
     else
-        printf("R %u", number);
+        printf("%c %u", item->kind, number);
     putchar('\n');
     return 1;
 }
@@ -211,8 +218,10 @@ static int fault(const struct item *item) {
 /* Runs an item. Whether the run goes on. */
 static int run(const struct item *item) {
     switch (item->kind) {
-    case 'R': return read_message(item);
-    case 'P': return write_record(item);
+    case 'R':
+    case 'r': return read_message(item);
+    case 'P':
+    case 'p': return write_record(item);
     case 'K': return take_chunk(item);
     case 'E': return empty(item);
     case 'T': return shorten(item);

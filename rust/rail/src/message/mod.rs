@@ -7,12 +7,11 @@ mod words;
 
 use alloc::vec::Vec;
 
-use crate::answer::{refused, written_answer, Refusal};
-use crate::ffi;
+use crate::answer::Refusal;
 use crate::ids::{NotifyIconId, WindowId};
+use crate::profile::Profile;
 pub use setting::Setting;
-pub(crate) use words::message_of;
-use words::words_of;
+pub(crate) use words::{message_of, words_of};
 
 /// The most bytes of a message that can be written or read.
 pub const MESSAGE_LIMIT: usize = 12 + 520 + 520 + 16_000;
@@ -196,10 +195,7 @@ impl<'a> Message<'a> {
     /// # Errors
     /// The first of the numbers 2, 3, 4, 7 and 8 that applies.
     pub fn read(bytes: &'a [u8]) -> Result<Self, Refusal> {
-        let mut words = [0; 12];
-        let number = ffi::pdu_read(bytes, &mut words);
-        refused(u8::try_from(number).expect("the library answers listed numbers only"))?;
-        Ok(message_of(&words, bytes))
+        Profile::Plain.read(bytes)
     }
 
     /// Writes the message into the first bytes of `out` and answers how many they are.
@@ -209,8 +205,7 @@ impl<'a> Message<'a> {
     /// [`Refusal::OutsideSet`] where a number or the length of a string is not allowed,
     /// then [`Refusal::OutputTooSmall`].
     pub fn write(&self, out: &mut [u8]) -> Result<usize, Refusal> {
-        let (words, strings) = words_of(self)?;
-        written_answer(ffi::pdu_write(&words, &strings, out))
+        Profile::Plain.write(self, out)
     }
 
     /// The message's bytes.

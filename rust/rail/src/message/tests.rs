@@ -94,7 +94,7 @@ fn changed_words() {
         while let Some((item, tail)) = take_item(rest) {
             rest = tail;
             let mut words = [0; 12];
-            if item.kind != b'R' || pdu_read(item.payload, &mut words) != 0 {
+            if !b"Rr".contains(&item.kind) || pdu_read(item.payload, &mut words) != 0 {
                 continue;
             }
             for _ in 0..5 {

@@ -171,7 +171,7 @@ impl<'a> Fields<'_, 'a> {
 
 /// The words of a message, and the bytes that its strings are parts of. A string of
 /// more bytes than its length can tell is outside its set.
-pub(super) fn words_of<'a>(message: &Message<'a>) -> Result<(Words, Cow<'a, [u8]>), Refusal> {
+pub(crate) fn words_of<'a>(message: &Message<'a>) -> Result<(Words, Cow<'a, [u8]>), Refusal> {
     let strings = strings_of(message);
     if strings.iter().any(|string| string.len() > STRING_LIMIT) {
         return Err(Refusal::OutsideSet);

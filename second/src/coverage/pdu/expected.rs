@@ -61,6 +61,7 @@ pub fn facts() -> Vec<String> {
     }
     facts.extend(limit_facts());
     facts.extend(super::chunks::expected());
+    facts.extend(super::counter::expected());
     facts
 }
 

@@ -1,6 +1,7 @@
 //! What generated scripts of control messages reach.
 
 mod chunks;
+mod counter;
 mod expected;
 mod limits;
 
@@ -40,7 +41,7 @@ impl Coverage {
                 return;
             };
             match watch.facts(item) {
-                Some(facts) => facts.into_iter().for_each(|fact| self.add(fact)),
+                Some(facts) => self.add_all(facts),
                 None => self.add_item(item),
             }
             rest = tail;
@@ -49,8 +50,16 @@ impl Coverage {
 
     fn add_item(&mut self, item: Item<'_>) {
         let mut memory = [0; MEMORY_LIMIT];
+        let payload = item.payload;
         match answer(item, &mut memory) {
-            Answer::Read(result) => self.add_read(item.payload, result.err().unwrap_or(0)),
+            Answer::Read(result) if item.kind == b'r' => {
+                self.add_all(counter::read_facts(payload, result.err().unwrap_or(0)));
+            }
+            Answer::Read(result) => self.add_read(payload, result.err().unwrap_or(0)),
+            Answer::Written(result) if item.kind == b'p' => {
+                let number = result.err().unwrap_or(0);
+                self.add_all(counter::write_facts(payload, number, needed(payload)));
+            }
             Answer::Written(result) => self.add_write(item, result.map(<[u8]>::len)),
             Answer::BadItem => self.add(format!("{}: bad item", item.kind.escape_ascii())),
             Answer::MemoryChanged => self.add("output memory changed".into()),
@@ -165,12 +174,16 @@ impl Coverage {
         }
     }
 
+    fn add_all(&mut self, facts: Vec<String>) {
+        facts.into_iter().for_each(|fact| self.add(fact));
+    }
+
     fn add(&mut self, fact: String) {
         self.facts.add(fact);
     }
 }
 
-/// The bytes that a `P` item's message takes, if its record is allowed.
+/// The bytes that the message of an item `P` or `p` takes, if its record is allowed.
 fn needed(payload: &[u8]) -> Option<usize> {
     let mut roomy = payload.to_vec();
     roomy[..2].copy_from_slice(&(MEMORY_LIMIT as u16).to_le_bytes());

@@ -215,6 +215,15 @@ impl Draft {
         Self::new(kind, slots, &fixed, random)
     }
 
+    /// An Execute of the program of this name.
+    pub fn program(flags: u32, name: Vec<u8>, random: &mut Random) -> Self {
+        let (kind, slots) = KINDS[0];
+        let fixed = [(Flags, flags), (Program, name.len() as u32)];
+        let mut draft = Self::new(kind, slots, &fixed, random);
+        draft.strings[0] = name;
+        draft
+    }
+
     fn new(kind: u16, slots: &[Slot], fixed: &[(Slot, u32)], random: &mut Random) -> Self {
         let mut draft = Self {
             kind,

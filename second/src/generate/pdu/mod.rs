@@ -31,13 +31,22 @@ pub fn script(seed: u64, items: usize) -> Vec<u8> {
             push_bad_end(&mut script, seed / BAD_END_EVERY, &mut random);
         } else if random.chance(40) {
             planner.push_next(&mut script, &mut random);
-        } else if random.chance(50) {
-            push_item(&mut script, b'R', &read_payload(&mut random));
         } else {
-            push_item(&mut script, b'P', &write_payload(&mut random));
+            let (kind, payload) = call(&mut random);
+            push_item(&mut script, kind, &payload);
         }
     }
     script
+}
+
+/// A call on a message or a record; one in four is in the counter profile.
+fn call(random: &mut Random) -> (u8, Vec<u8>) {
+    match random.below(8) {
+        0 => (b'r', read_payload(random)),
+        1 => (b'p', counter_payload(random)),
+        2..=4 => (b'R', read_payload(random)),
+        _ => (b'P', write_payload(random)),
+    }
 }
 
 /// A message to be read, good or not.
@@ -211,6 +220,51 @@ fn write_payload(random: &mut Random) -> Vec<u8> {
         1..=360 => (Draft::usual(random), 25),
         _ => (Draft::at_edge(random), 70),
     };
+    lent(&draft, roomy, random)
+}
+
+/// The same in the counter profile: any kind, or an Execute with a name that is
+/// published or nearly so.
+fn counter_payload(random: &mut Random) -> Vec<u8> {
+    let (draft, roomy) = match random.below(8) {
+        0..=2 => (Draft::usual(random), 25),
+        3 => (Draft::at_edge(random), 70),
+        _ => (program(random), 70),
+    };
+    lent(&draft, roomy, random)
+}
+
+/// An Execute whose name begins with two bars, or differs from that in a byte, in
+/// length or at all, with flags up to the first that is none.
+fn program(random: &mut Random) -> Draft {
+    let mut name = b"|\0|\0".to_vec();
+    let flags = if random.chance(50) {
+        random.pick(&[0, 1, 8, 9])
+    } else {
+        random.below(0x21) as u32
+    };
+    match random.below(12) {
+        0 => {}
+        1 => name.truncate(random.below(4)),
+        2 | 3 => {
+            let at = random.below(4);
+            name[at] ^= 1 << random.below(8);
+            name.extend(random.bytes(2));
+        }
+        4 => name.push(random.bits() as u8),
+        5 => name.extend_from_within(..),
+        6 => name.extend([0, 0]),
+        _ => {
+            let length = 2 + 2 * random.below(20);
+            name.extend(random.bytes(length));
+        }
+    }
+    Draft::program(flags, name, random)
+}
+
+/// The payload of a record with the memory lent for it, which has room in `roomy` of
+/// a hundred, else as much as is needed, a byte less or any.
+fn lent(draft: &Draft, roomy: usize, random: &mut Random) -> Vec<u8> {
     let needed = draft.message().len() as u16;
     let size = if random.chance(roomy) {
         MOST_MEMORY
@@ -238,7 +292,7 @@ fn push_bad_end(script: &mut Vec<u8>, sort: u64, random: &mut Random) {
             push_item(script, b'P', &good);
             script.truncate(script.len() - 1 - random.below(good.len()));
         }
-        2 => push_item(script, random.pick(b"ABrpkZ\0\xff"), &draft.message()),
+        2 => push_item(script, random.pick(b"ABkeZ\0\xff"), &draft.message()),
         3 => {
             let mut payload = good;
             payload[2..4].copy_from_slice(&random.pick(&OTHER_TYPES).to_le_bytes());

@@ -1,0 +1,4 @@
+pub mod Ends
+pub mod Programs
+pub mod Counter
+pub mod Plain
