@@ -4,7 +4,7 @@
 use crate::ids::{NotifyIconId, WindowId};
 use crate::number::{ROOM_PASSED, TOO_MANY_STEPS, WRONG_ID};
 use crate::order::{judge, CellPlace};
-use crate::table::{number, Cell, Desktop, NotificationIcon, Table, Window};
+use crate::table::{brings_icon, number, Cell, Desktop, Holder, NotificationIcon, Table, Window};
 
 /// The most orders after the mark.
 pub const ORDERS_ROOM: usize = 128;
@@ -30,14 +30,36 @@ pub struct Standing {
 }
 
 impl Book {
-    /// An emptied book.
+    /// An emptied book with the most places for pictures.
     pub fn new() -> Self {
         Self::default()
     }
 
-    /// Empties the book; it then counts as marked.
-    pub fn empty(&mut self) {
-        *self = Self::new();
+    /// An emptied book with so many places for pictures.
+    pub fn with_places(places: usize) -> Self {
+        let table = Table::with_places(places);
+        Self {
+            at_mark: table.clone(),
+            table,
+            ..Self::default()
+        }
+    }
+
+    /// Empties the book and fixes how many places it has; it then counts as marked.
+    pub fn empty(&mut self, places: usize) {
+        *self = Self::with_places(places);
+    }
+
+    /// How many places emptying fixed.
+    pub fn places(&self) -> usize {
+        self.table.places()
+    }
+
+    /// Whether the table, or one that steps back can bring, has a picture.
+    pub fn has_pictures(&self) -> bool {
+        let brings =
+            |order: &Vec<u8>| judge(order).is_ok_and(|order| brings_icon(&order).is_some());
+        self.at_mark.store().used() > 0 || self.after_mark.iter().any(brings)
     }
 
     /// Delivers an order, which joins the end if it is granted.
@@ -95,6 +117,11 @@ impl Book {
     /// Looks up a cell.
     pub fn cell(&self, place: CellPlace) -> Result<&Cell, u8> {
         self.table.cell(place).ok_or(WRONG_ID)
+    }
+
+    /// Looks up whether two holders share a place.
+    pub fn shared(&self, one: Holder, other: Holder) -> Result<bool, u8> {
+        self.table.store().shared(one, other).ok_or(WRONG_ID)
     }
 
     /// Looks up the desktop state.

@@ -13,9 +13,14 @@ pub struct Scripts<'a> {
     pub make: &'a (dyn Fn(u64) -> Vec<u8> + Sync),
     /// What a script has to print.
     pub expected: &'a (dyn Fn(&[u8]) -> Vec<u8> + Sync),
+    /// What another program printed for a script, in the terms of what is expected.
+    pub told: &'a Told<'a>,
     /// The kinds of items that print nothing.
     pub silent: &'a [u8],
 }
+
+/// Tells what was printed for a script.
+pub type Told<'a> = dyn Fn(&[u8], Vec<u8>) -> Vec<u8> + Sync + 'a;
 
 /// What a comparison came to.
 #[derive(Clone, Copy, Debug, Default, PartialEq, Eq)]
@@ -48,7 +53,7 @@ pub fn compare(
     each_seed(from, to, |seed| {
         let script = (scripts.make)(seed);
         let ours = (scripts.expected)(&script);
-        let theirs = run_program(program, &script)?;
+        let theirs = (scripts.told)(&script, run_program(program, &script)?);
         let difference = difference(&script, scripts.silent, &ours, &theirs);
         let mut tally = tally.lock().expect("no worker panics");
         tally.scripts += 1;

@@ -19,10 +19,11 @@ usage:
   second pdu < script > output
   second session [--parts L0,L1,..] < script > output
       Runs a script of control messages or of state calls, and prints a line for
-      each call. An item X, which changes state memory, ends a run with the line
-      `fault` on standard error and the status 3: the state here has no memory. In a
+      each call. An item X, which changes state memory or the store, ends a run with the
+      line `fault` on standard error and the status 3: the state here has no memory. In a
       script of control messages only a chunk taken before the change is undone, by the
-      same item or by an emptying, does so.
+      same item or by an emptying, does so. Of the memory that an item Z prints only the
+      size is known here, and printed: `Z`, the number and `bytes`.
   second gen-pdu SEED ITEMS > script
   second gen-session SEED ITEMS [--parts L0,L1,..] > script
       Generates a script. The same seed and count give the same bytes.
@@ -35,16 +36,19 @@ usage:
   second compare-pdu PROGRAM FROM TO ITEMS
   second compare-session PROGRAM FROM TO ITEMS [--parts L0,L1,..]
       Runs PROGRAM on the same scripts and compares what it prints, two at a time.
-      The status is 0 only if scripts were compared and none differs.
+      Of an item Z the size is compared, and those bytes with the Z before that no call
+      between them may change. The status is 0 only if scripts were compared and none
+      differs.
   second fault-pdu PROGRAM FROM TO ITEMS
       The same with scripts of control messages and faults in the memory of chunks.
       Once a first chunk is taken, a message is whole or 16 is answered, what is begun
       is known again, and each line must be that of `second pdu`.
   second fault-session PROGRAM FROM TO ITEMS [--parts L0,L1,..]
       Runs PROGRAM on scripts with items X strewn in, each followed by an emptying
-      and the script of the next seed. Each call must answer a number listed for it,
-      and from that emptying on each line must be that of `second session`.
-      The status is 0 only if nothing is wrong, and of the calls on memory with
+      and the script of the next seed. Each call must answer a number listed for it;
+      up to the first X, and from each emptying to the next X, each line must be that
+      of `second session`, and after an X in the store too, the bytes of pictures
+      aside. The status is 0 only if nothing is wrong, and of the calls on memory with
       faults some answered 1 and some were granted.
   second hex-pdu < text > script
   second hex-session < text > script
@@ -76,7 +80,8 @@ usage:
 A script that ends a run with `bad item` is told on standard error: which item, at
 which byte, and why.
 --parts gives the lengths of the parts of state memory that PROGRAM lends, by
-default 444,44884,50880,32770. It only tells which items T and X name a part.
+default PARTS. It only tells which items T and X name a part, those
+of the store coming after them, and how many bytes an item Z prints.
 ";
 
 fn main() -> ExitCode {
@@ -137,9 +142,15 @@ fn dispatch(arguments: &[&str]) -> Result<ExitCode, String> {
             let text = support::diff::diff(&input()?, count(from)?, count(to)?)?;
             print(text.as_bytes())
         }
-        ["--help"] | ["-h"] => print(HELP.as_bytes()),
+        ["--help"] | ["-h"] => print(help().as_bytes()),
         _ => Err("unknown arguments, see --help".into()),
     }
+}
+
+fn help() -> String {
+    let lengths = Parts::default().lengths().to_vec();
+    let lengths: Vec<String> = lengths.iter().map(u32::to_string).collect();
+    HELP.replace("PARTS", &lengths.join(","))
 }
 
 fn number(text: &str) -> Result<u64, String> {
@@ -253,6 +264,7 @@ fn compare_pdu(program: &str, from: u64, to: u64, items: usize) -> Result<ExitCo
     let scripts = Scripts {
         make: &|seed| generate::pdu::script(seed, items),
         expected: &|script| written(|out| script::pdu::run(script, out)),
+        told: &|_, printed| printed,
         silent: script::chunk::SILENT,
     };
     compare_scripts(program, from, to, &scripts)
@@ -268,6 +280,7 @@ fn compare_session(
     let scripts = Scripts {
         make: &|seed| generate::session::script(seed, items, parts),
         expected: &|script| written(|out| script::session::run(script, parts, out)),
+        told: &|script, printed| script::dump::told(script, parts, &printed),
         silent: script::session::SILENT,
     };
     compare_scripts(program, from, to, &scripts)
@@ -324,6 +337,12 @@ fn told(tally: &Tally) -> ExitCode {
         met.unfit, met.lent_short
     );
     println!("calls granted after a fault: {}", met.granted_after_fault);
+    if met.store_faults > 0 {
+        println!(
+            "faults in the store: {}, calls granted after such alone: {}",
+            met.store_faults, met.granted_after_store_fault
+        );
+    }
     println!(
         "ran {} scripts, {} items, {} faults: {} wrong",
         tally.scripts, met.items, met.faults, tally.wrong

@@ -32,6 +32,8 @@ pub const OUTPUT_TOO_SMALL: u8 = 14;
 pub const CHUNK_TOO_SHORT: u8 = 15;
 /// A chunk is compressed, out of place, or not what its message promised.
 pub const BAD_CHUNK: u8 = 16;
+/// An icon is brought and every place is pointed at.
+pub const NO_PLACE: u8 = 17;
 /// A session record is cut: fewer bytes than its count and table of contents say.
 pub const RECORD_CUT: u8 = 18;
 /// A session record is over its limits, or not laid out as one.

@@ -1,4 +1,4 @@
-//! Runs another program on scripts with faults in its state memory.
+//! Runs another program on scripts with faults in the memory that it lends.
 
 mod check;
 pub mod chunk;
@@ -27,6 +27,10 @@ pub struct Met {
     pub unfit: u64,
     /// Calls granted after a fault and before the next emptying.
     pub granted_after_fault: u64,
+    /// Items that change the store.
+    pub store_faults: u64,
+    /// Calls granted after faults in the store alone and before the next emptying.
+    pub granted_after_store_fault: u64,
 }
 
 impl AddAssign for Met {
@@ -36,6 +40,8 @@ impl AddAssign for Met {
         self.lent_short += other.lent_short;
         self.unfit += other.unfit;
         self.granted_after_fault += other.granted_after_fault;
+        self.store_faults += other.store_faults;
+        self.granted_after_store_fault += other.granted_after_store_fault;
     }
 }
 
@@ -51,9 +57,12 @@ pub struct Tally {
 }
 
 impl Tally {
-    /// Whether nothing is wrong, and faults were found out as well as lived with.
+    /// Whether nothing is wrong, and faults were found out as well as lived with, those in
+    /// a store too if there were any.
     pub fn holds(&self) -> bool {
-        self.wrong == 0 && self.met.unfit > 0 && self.met.granted_after_fault > 0
+        let met = &self.met;
+        let store_holds = met.store_faults == 0 || met.granted_after_store_fault > 0;
+        self.wrong == 0 && met.unfit > 0 && met.granted_after_fault > 0 && store_holds
     }
 }
 

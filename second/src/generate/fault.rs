@@ -1,14 +1,20 @@
-//! Scripts with faults in the state memory: those of state calls with `X` items
-//! strewn in, then an emptying and calls without faults.
+//! Scripts with faults in the state memory and in the store: those of state calls with
+//! `X` items strewn in, then the store as it is lent at first, an emptying, and calls
+//! without faults.
 
 use super::random::Random;
 use super::session;
-use crate::script::parts::Parts;
-use crate::script::session::{call, Call};
+use crate::script::parts::{Parts, StoreLengths, FIRST_LENGTHS, STORE_PARTS};
+use crate::script::session::{call, Call, Session};
 use crate::script::{push_item, take_item, Item};
+use crate::table::PLACE_SIZE;
 
 /// One item in this many is followed by a fault.
 const FAULT_EVERY: usize = 10;
+/// In so many of a hundred cases faults are in the store alone up to the next emptying.
+const STORE_ALONE: usize = 35;
+/// Of the other faults so many of a hundred are in the store.
+const IN_STORE: usize = 15;
 /// Faults that are aimed stand below this offset, where the memory is in use.
 const AIMED_BELOW: usize = 500;
 /// Sets the numbers drawn here apart from those that made the calls.
@@ -19,12 +25,12 @@ const APART: u64 = 0x5851_F42D_4C95_7F2D;
 pub struct Faulty {
     /// The script.
     pub script: Vec<u8>,
-    /// Where in it the last part begins, whose first item is the emptying.
+    /// Where in it the last part begins, whose first items are `L` and the emptying.
     pub last_part: usize,
 }
 
-/// The script of a seed: its state calls with faults strewn in, an emptying, and
-/// the state calls of the next seed. No item of it is bad.
+/// The script of a seed: its state calls with faults strewn in, the store as it is at
+/// first, an emptying, and the state calls of the next seed. No item of it is bad.
 pub fn script(seed: u64, items: usize, parts: &Parts) -> Faulty {
     let mut strewer = Strewer {
         random: Random::new(seed ^ APART),
@@ -32,21 +38,29 @@ pub fn script(seed: u64, items: usize, parts: &Parts) -> Faulty {
         standing: Vec::new(),
     };
     let mut script = Vec::new();
-    let mut is_short = false;
+    let mut session = Session::default();
+    // Between some emptyings there are faults in the store alone.
+    let mut in_store = strewer.random.chance(STORE_ALONE);
     let calls = session::script(seed, items, parts);
     for (item, call) in good_items(&calls, parts) {
         push_item(&mut script, item.kind, item.payload);
-        if call == Call::Empty && !is_short {
+        let number = session.make(&call);
+        if call == Call::Empty && number == Some(0) {
             strewer.standing.clear();
-        }
-        if !matches!(call, Call::ReadRecord(_)) {
-            is_short = call == Call::Shorten;
+            in_store = strewer.random.chance(STORE_ALONE);
         }
         if strewer.random.below(FAULT_EVERY) == 0 {
-            push_item(&mut script, b'X', &strewer.fault());
+            if let Some(fault) = strewer.fault(in_store, &session.lengths()) {
+                push_item(&mut script, b'X', &fault);
+            }
         }
     }
     let last_part = script.len();
+    push_item(
+        &mut script,
+        b'L',
+        &FIRST_LENGTHS.map(u32::to_le_bytes).concat(),
+    );
     push_item(&mut script, b'E', &[]);
     let calls = session::script(seed.wrapping_add(1), items, parts);
     for (item, _) in good_items(&calls, parts) {
@@ -67,8 +81,9 @@ fn good_items<'a>(script: &'a [u8], parts: &Parts) -> Vec<(Item<'a>, Call<'a>)> 
     }
     let is_waiting = |items: &[(Item<'_>, Call<'_>)]| {
         let mut last = items.iter().rev().map(|&(_, call)| call);
-        let call = last.find(|call| !matches!(call, Call::ReadRecord(_) | Call::Fault));
-        call == Some(Call::Shorten)
+        let call =
+            last.find(|call| !matches!(call, Call::ReadRecord(_) | Call::Lend(_) | Call::Dump));
+        matches!(call, Some(Call::Shorten | Call::ShortenStore(..)))
     };
     while is_waiting(&items) {
         items.pop();
@@ -84,16 +99,39 @@ struct Strewer<'a> {
 }
 
 impl Strewer<'_> {
-    /// A fault, or the last one again, which takes it back.
-    fn fault(&mut self) -> [u8; 6] {
+    /// A fault, or the last one again, which takes it back. The store has these lengths;
+    /// a byte past them is left alone, as is all where a fault in the store is due and
+    /// none of it is lent.
+    fn fault(&mut self, in_store: bool, lengths: &StoreLengths) -> Option<[u8; 6]> {
         if self.random.chance(50) {
-            if let Some(fault) = self.standing.pop() {
-                return fault;
+            let parts = self.parts;
+            let again = self.standing.pop_if(|fault| is_lent(fault, parts, lengths));
+            if again.is_some() {
+                return again;
             }
         }
-        let fault = self.new_fault();
+        let fault = match in_store || self.random.chance(IN_STORE) {
+            true => self.store_fault(lengths)?,
+            false => self.new_fault(),
+        };
         self.standing.push(fault);
-        fault
+        Some(fault)
+    }
+
+    /// A fault in the store as it is lent, most of them at the beginning of a place.
+    fn store_fault(&mut self, lengths: &StoreLengths) -> Option<[u8; 6]> {
+        let lent: Vec<usize> = (0..STORE_PARTS).filter(|&part| lengths[part] > 0).collect();
+        if lent.is_empty() {
+            return None;
+        }
+        let part = self.random.pick(&lent);
+        let length = lengths[part] as usize;
+        let offset = match self.random.chance(60) {
+            true => self.random.below(length / PLACE_SIZE + 1) * PLACE_SIZE + self.random.below(40),
+            false => self.random.below(length),
+        };
+        let part = self.parts.first_of_store() + part as u8;
+        Some(self.item(part, offset.min(length - 1)))
     }
 
     /// Half of them are aimed at the beginning of the first or the last part.
@@ -112,8 +150,19 @@ impl Strewer<'_> {
         } else {
             length
         });
+        self.item(part as u8, offset)
+    }
+
+    fn item(&mut self, part: u8, offset: usize) -> [u8; 6] {
         let value = 1 + self.random.below(255);
         let [a, b, c, d] = (offset as u32).to_le_bytes();
-        [part as u8, a, b, c, d, value as u8]
+        [part, a, b, c, d, value as u8]
     }
+}
+
+/// Whether a fault is in state memory, or in the store as it is lent.
+fn is_lent(&[part, a, b, c, d, _]: &[u8; 6], parts: &Parts, lengths: &StoreLengths) -> bool {
+    let part = part.checked_sub(parts.first_of_store());
+    let length = part.map(|part| lengths[usize::from(part)]);
+    length.is_none_or(|length| u32::from_le_bytes([a, b, c, d]) < length)
 }

@@ -2,11 +2,10 @@
 
 use std::fmt::Display;
 
-use super::print::Fields;
+use super::print::{push_hex, Fields};
 use super::session::Call;
 use crate::ids::{NotifyIconId, WindowId};
-use crate::order::CellPlace;
-use crate::table::{Cell, Desktop, NotificationIcon, Rect, Table, Window};
+use crate::table::{Cell, Desktop, Holder, NotificationIcon, Rect, Table, Window};
 
 /// Adds the fields of what a lookup finds in a table; of another call nothing.
 pub fn push_found(line: &mut Vec<u8>, table: &Table, call: &Call<'_>) {
@@ -14,11 +13,15 @@ pub fn push_found(line: &mut Vec<u8>, table: &Table, call: &Call<'_>) {
         Call::Window(id) => {
             if let Some(window) = table.window(id) {
                 push_window(line, id, window);
+                push_picture(line, "small", table.shown(Holder::Small(id)));
+                push_picture(line, "big", table.shown(Holder::Big(id)));
             }
         }
         Call::Icon(window, icon) => {
             if let Some(found) = table.icon(window, icon) {
                 push_icon(line, (window, icon), found);
+                let picture = table.shown(Holder::Notification(window, icon));
+                push_picture(line, "picture", picture);
             }
         }
         Call::Cell(place) => {
@@ -28,6 +31,11 @@ pub fn push_found(line: &mut Vec<u8>, table: &Table, call: &Call<'_>) {
         }
         Call::Desktop => push_desktop(line, table.desktop()),
         Call::Lists => push_lists(line, table),
+        Call::Shared(one, other) => {
+            if let Some(shared) = table.store().shared(one, other) {
+                Fields { line }.number("shared", shared);
+            }
+        }
         _ => {}
     }
 }
@@ -44,7 +52,7 @@ fn push_lists(line: &mut Vec<u8>, table: &Table) {
         .text("icons", &icons.join(","));
 }
 
-/// Adds the fields of a window.
+/// Adds the fields of a window, its pictures aside.
 fn push_window(line: &mut Vec<u8>, id: WindowId, window: &Window) {
     Fields { line }
         .number("id", id.0)
@@ -62,12 +70,10 @@ fn push_window(line: &mut Vec<u8>, id: WindowId, window: &Window) {
         .text("size", &pair(window.window_size))
         .text("rects", &rects(&window.window_rects))
         .text("visible", &pair(window.visible_offset))
-        .text("vis_rects", &rects(&window.visibility_rects))
-        .text("small", &place(window.small_icon))
-        .text("big", &place(window.big_icon));
+        .text("vis_rects", &rects(&window.visibility_rects));
 }
 
-/// Adds the fields of a notification icon.
+/// Adds the fields of a notification icon, its picture aside.
 fn push_icon(line: &mut Vec<u8>, ids: (WindowId, NotifyIconId), icon: &NotificationIcon) {
     Fields { line }
         .number("window", ids.0 .0)
@@ -78,8 +84,7 @@ fn push_icon(line: &mut Vec<u8>, ids: (WindowId, NotifyIconId), icon: &Notificat
         .number("flags", icon.balloon_flags)
         .string("text", &icon.balloon_text)
         .string("title", &icon.balloon_title)
-        .number("state", icon.state)
-        .text("picture", &place(icon.picture));
+        .number("state", icon.state);
 }
 
 /// Adds the fields of a cell.
@@ -123,8 +128,16 @@ fn rects(list: &[Rect]) -> String {
     texts.join(";")
 }
 
-fn place(place: Option<CellPlace>) -> String {
-    place.map_or("none".into(), |CellPlace { cache, entry }| {
-        format!("{cache}/{entry}")
-    })
+/// Adds a picture as one field, or that there is none.
+fn push_picture(line: &mut Vec<u8>, name: &str, picture: Option<&Cell>) {
+    let Some(picture) = picture else {
+        Fields { line }.text(name, "none");
+        return;
+    };
+    let (bits, width, height) = (picture.bits_per_pixel, picture.width, picture.height);
+    Fields { line }.text(name, &format!("{bits},{width},{height}"));
+    for bytes in [&picture.mask, &picture.color_table, &picture.color] {
+        line.push(b',');
+        push_hex(line, bytes);
+    }
 }

@@ -1,6 +1,7 @@
 //! Call scripts: a run of items, each a kind letter, a length of 2 and a payload.
 
 pub mod chunk;
+pub mod dump;
 pub(crate) mod lookup;
 pub mod parts;
 pub mod pdu;

@@ -1,18 +1,53 @@
-//! The measure of the state memory: its parts and their lengths. The book keeps
-//! no memory; the measure only tells which `T` and `X` items are bad.
+//! The memory that a program lends: parts of state memory, whose lengths are its own, and
+//! after them in number the parts of the store. The book keeps no memory; lengths only
+//! tell which `T` and `X` items are bad, how many places are lent, and how long `Z` is.
+
+use crate::table::PLACE_SIZE;
 
 /// The most bytes of a part.
-const PART_LIMIT: u32 = 65_536;
+pub const PART_LIMIT: u32 = 65_536;
 /// The most parts that an item can name.
 const PARTS_LIMIT: usize = 256;
+/// The parts of state memory that the program compared has, if no others are named.
+const STATE_PARTS: [u32; 3] = [589, 45_780, 32_770];
 
-/// The lengths of the parts.
+/// The parts of the store.
+pub const STORE_PARTS: usize = 5;
+
+/// The lengths of the parts of the store.
+pub type StoreLengths = [u32; STORE_PARTS];
+
+/// Their lengths at first: 15, 15, 15, 15 and 4 places, to the byte.
+pub const FIRST_LENGTHS: StoreLengths = [63_360, 63_360, 63_360, 63_360, 16_896];
+
+/// The places that fit a part whole.
+pub fn places_of(length: u32) -> usize {
+    length as usize / PLACE_SIZE
+}
+
+/// The places of a store, each part counted by itself.
+pub fn places(lengths: &StoreLengths) -> usize {
+    lengths.iter().map(|&length| places_of(length)).sum()
+}
+
+/// Where the first `count` places lie: the part of each, and which of that part it is.
+pub fn first_places(lengths: &StoreLengths, count: usize) -> Vec<(usize, usize)> {
+    let in_part = |(part, &length): (usize, &u32)| (0..places_of(length)).map(move |at| (part, at));
+    lengths
+        .iter()
+        .enumerate()
+        .flat_map(in_part)
+        .take(count)
+        .collect()
+}
+
+/// The lengths of the parts of state memory.
 #[derive(Clone, Debug, PartialEq, Eq)]
 pub struct Parts(Vec<u32>);
 
 impl Default for Parts {
     fn default() -> Self {
-        Self(vec![444, 44_884, 50_880, 32_770])
+        Self(STATE_PARTS.to_vec())
     }
 }
 
@@ -24,7 +59,7 @@ impl Parts {
             .map(|length| length.parse().ok().filter(|&n| n <= PART_LIMIT && n > 0))
             .collect::<Option<_>>()
             .ok_or_else(|| format!("not the lengths of parts: {text}"))?;
-        if lengths.len() > PARTS_LIMIT {
+        if lengths.len() + STORE_PARTS > PARTS_LIMIT {
             return Err("too many parts".into());
         }
         Ok(Self(lengths))
@@ -33,6 +68,22 @@ impl Parts {
     /// The lengths, from part 0 on.
     pub fn lengths(&self) -> &[u32] {
         &self.0
+    }
+
+    /// The number of the first part of the store.
+    pub fn first_of_store(&self) -> u8 {
+        self.0.len() as u8
+    }
+
+    /// The bytes of all of them.
+    pub fn size(&self) -> usize {
+        self.0.iter().map(|&length| length as usize).sum()
+    }
+
+    /// Which part of the store an item's number names.
+    pub(super) fn of_store(&self, part: u8) -> Option<usize> {
+        let part = usize::from(part).checked_sub(self.0.len())?;
+        (part < STORE_PARTS).then_some(part)
     }
 
     /// Whether a part can be lent that many bytes shorter.

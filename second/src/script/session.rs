@@ -1,9 +1,15 @@
 //! Scripts of state calls, made on the plain book.
+//!
+//! The book has pictures and no places, so it goes on showing them where a script lends a
+//! store that is cut otherwise (`L`, `T`) while pictures are in play; a program whose
+//! places then lie elsewhere need not. The papers leave that case open, and no generated
+//! script has it.
 
 use std::io;
 
+use super::dump::push_size;
 use super::lookup::push_found;
-use super::parts::Parts;
+use super::parts::{places, Parts, StoreLengths, FIRST_LENGTHS, PART_LIMIT, STORE_PARTS};
 use super::print::push_hex;
 pub use super::End;
 use super::{take_item, Item};
@@ -12,13 +18,14 @@ use crate::ids::{NotifyIconId, WindowId};
 use crate::number::{OUTPUT_TOO_SMALL, STATE_UNFIT};
 use crate::order::CellPlace;
 use crate::record;
+use crate::table::{Holder, FEWEST_PLACES, MOST_PLACES, PLACE_SIZE};
 use crate::update::{self, Report};
 
 /// The kinds of items.
-pub const KINDS: &[u8] = b"EDUMBWNCSIOVTX";
+pub const KINDS: &[u8] = b"EDUMBWNCSIHOVTXLZ";
 
 /// The kinds of items that print nothing.
-pub const SILENT: &[u8] = b"TX";
+pub const SILENT: &[u8] = b"TXL";
 
 /// What an item asks for.
 #[derive(Clone, Copy, Debug, PartialEq, Eq)]
@@ -43,14 +50,24 @@ pub enum Call<'a> {
     Desktop,
     /// The ids of the windows and of the notification icons are looked up.
     Lists,
+    /// Whether two holders share a place is looked up.
+    Shared(Holder, Holder),
     /// The session record is written to so many bytes of output memory.
     WriteRecord(u16),
     /// A session record is read.
     ReadRecord(&'a [u8]),
-    /// No call: the next one is lent memory that is too short.
+    /// No call: the next one is lent state memory that is too short.
     Shorten,
-    /// No call: a byte of the memory changes.
+    /// No call: the next one is lent this part of the store so many bytes shorter.
+    ShortenStore(usize, u16),
+    /// No call: a byte of the state memory changes.
     Fault,
+    /// No call: a byte of a part of the store changes, which may be past what is lent.
+    FaultStore(usize, u32),
+    /// No call: from now on the store is lent with these lengths.
+    Lend(StoreLengths),
+    /// No call: the memory is printed.
+    Dump,
 }
 
 /// What an item asks for, or none if it has no listed form.
@@ -77,47 +94,157 @@ pub fn call<'a>(item: Item<'a>, parts: &Parts) -> Option<Call<'a>> {
         (b'I', []) => Call::Lists,
         (b'O', &[low, high]) => Call::WriteRecord(u16::from_le_bytes([low, high])),
         (b'V', record) => Call::ReadRecord(record),
-        (b'T', &[part, low, high]) if parts.can_lack(part, u16::from_le_bytes([low, high])) => {
-            Call::Shorten
+        (b'H', _) => {
+            let (one, other) = payload.split_first_chunk::<HOLDER_SIZE>()?;
+            Call::Shared(holder(one)?, holder(other.try_into().ok()?)?)
         }
-        (b'X', &[part, a, b, c, d, _])
-            if parts.has_byte(part, u32::from_le_bytes([a, b, c, d])) =>
-        {
-            Call::Fault
+        (b'T', &[part, low, high]) => {
+            let missing = u16::from_le_bytes([low, high]);
+            match parts.of_store(part) {
+                Some(part) if missing > 0 => Call::ShortenStore(part, missing),
+                None if parts.can_lack(part, missing) => Call::Shorten,
+                _ => return None,
+            }
         }
+        (b'X', &[part, a, b, c, d, _]) => {
+            let offset = u32::from_le_bytes([a, b, c, d]);
+            match parts.of_store(part) {
+                Some(part) if offset < PART_LIMIT => Call::FaultStore(part, offset),
+                None if parts.has_byte(part, offset) => Call::Fault,
+                _ => return None,
+            }
+        }
+        (b'L', _) => {
+            let lengths: [[u8; 4]; STORE_PARTS] = array(payload)?;
+            let lengths = lengths.map(u32::from_le_bytes);
+            if lengths.iter().any(|&length| length > PART_LIMIT) {
+                return None;
+            }
+            Call::Lend(lengths)
+        }
+        (b'Z', []) => Call::Dump,
         _ => return None,
     })
 }
 
+/// The bytes of a holder in an item.
+const HOLDER_SIZE: usize = 9;
+
+/// A holder: a kind and two numbers; none if it is no listed one.
+fn holder(&[kind, ref numbers @ ..]: &[u8; HOLDER_SIZE]) -> Option<Holder> {
+    let [one, other]: [[u8; 4]; 2] = array(numbers)?;
+    let (one, other) = (u32::from_le_bytes(one), u32::from_le_bytes(other));
+    Some(match (kind, other) {
+        (0, _) => Holder::Cell(one, other),
+        (1, 0) => Holder::Small(WindowId(one)),
+        (2, 0) => Holder::Big(WindowId(one)),
+        (3, _) => Holder::Notification(WindowId(one), NotifyIconId(other)),
+        _ => return None,
+    })
+}
+
+/// The bytes of a holder in an item, as [`call`] reads them.
+pub fn holder_bytes(holder: Holder) -> [u8; HOLDER_SIZE] {
+    let (kind, one, other) = match holder {
+        Holder::Cell(cache, entry) => (0, cache, entry),
+        Holder::Small(id) => (1, id.0, 0),
+        Holder::Big(id) => (2, id.0, 0),
+        Holder::Notification(window, icon) => (3, window.0, icon.0),
+    };
+    let mut bytes = [kind; HOLDER_SIZE];
+    bytes[1..5].copy_from_slice(&one.to_le_bytes());
+    bytes[5..].copy_from_slice(&other.to_le_bytes());
+    bytes
+}
+
+/// Bytes as numbers of 4, if they are so many.
+fn array<const N: usize>(bytes: &[u8]) -> Option<[[u8; 4]; N]> {
+    let (numbers, rest) = bytes.as_chunks::<4>();
+    rest.is_empty().then(|| numbers.try_into().ok())?
+}
+
+/// What the next call is not lent.
+#[derive(Clone, Copy, Debug, PartialEq, Eq)]
+enum Short {
+    State,
+    Store(usize, u16),
+}
+
 /// A run of calls on a book.
-#[derive(Default)]
 pub struct Session {
     book: Book,
-    short: bool,
+    lengths: StoreLengths,
+    short: Option<Short>,
     /// What the last update granted.
     report: Report,
 }
 
+impl Default for Session {
+    fn default() -> Self {
+        Self {
+            book: Book::new(),
+            lengths: FIRST_LENGTHS,
+            short: None,
+            report: Report::default(),
+        }
+    }
+}
+
 impl Session {
-    /// Makes a call. Its number, or none if it is no call.
+    /// Makes a call. Its number, or none if it is no call. A second item `T` before the
+    /// call takes the place of the first.
     pub fn make(&mut self, call: &Call<'_>) -> Option<u8> {
-        if matches!(call, Call::Shorten | Call::Fault) {
-            self.short |= *call == Call::Shorten;
-            return None;
-        }
-        if let Call::ReadRecord(bytes) = call {
+        match *call {
+            Call::Shorten => self.short = Some(Short::State),
+            Call::ShortenStore(part, missing) => self.short = Some(Short::Store(part, missing)),
+            Call::Lend(lengths) => self.lengths = lengths,
+            Call::Fault | Call::FaultStore(..) | Call::Dump => {}
             // no state memory is lent: the call that lacks some is still to come
-            return Some(record::read(bytes).err().unwrap_or(0));
+            Call::ReadRecord(bytes) => return Some(record::read(bytes).err().unwrap_or(0)),
+            _ => {
+                let (fits, places) = (self.fits(call), places(&self.lent()));
+                self.short = None;
+                return Some(match fits {
+                    false => STATE_UNFIT,
+                    true => self.result(call, places).err().unwrap_or(0),
+                });
+            }
         }
-        if std::mem::take(&mut self.short) {
-            return Some(STATE_UNFIT);
-        }
-        Some(self.result(call).err().unwrap_or(0))
+        None
     }
 
-    fn result(&mut self, call: &Call<'_>) -> Result<(), u8> {
+    /// Whether enough is lent to a call: to an emptying the fewest places, to another as
+    /// many as the last emptying fixed.
+    fn fits(&self, call: &Call<'_>) -> bool {
+        let needed = match call {
+            Call::Empty => FEWEST_PLACES,
+            _ => self.book.places(),
+        };
+        self.short != Some(Short::State) && places(&self.lent()) >= needed
+    }
+
+    /// The lengths of the store that the next call is lent.
+    pub fn lent(&self) -> StoreLengths {
+        let mut lengths = self.lengths;
+        if let Some(Short::Store(part, missing)) = self.short {
+            lengths[part] = lengths[part].saturating_sub(missing.into());
+        }
+        lengths
+    }
+
+    /// The lengths of the store as the last item `L` said.
+    pub fn lengths(&self) -> StoreLengths {
+        self.lengths
+    }
+
+    /// The bytes that an item `Z` prints.
+    pub fn dump_size(&self, parts: &Parts) -> usize {
+        parts.size() + PLACE_SIZE * places(&self.lengths).min(MOST_PLACES)
+    }
+
+    fn result(&mut self, call: &Call<'_>, places: usize) -> Result<(), u8> {
         match *call {
-            Call::Empty => self.book.empty(),
+            Call::Empty => self.book.empty(places.min(MOST_PLACES)),
             Call::Deliver(order) => self.book.deliver(order)?,
             Call::Update(limit, orders) => {
                 self.report = update::deliver(&mut self.book, limit, orders);
@@ -130,12 +257,15 @@ impl Session {
             Call::Window(id) => self.book.window(id).map(drop)?,
             Call::Icon(window, icon) => self.book.icon(window, icon).map(drop)?,
             Call::Cell(place) => self.book.cell(place).map(drop)?,
+            Call::Shared(one, other) => self.book.shared(one, other).map(drop)?,
             Call::WriteRecord(room) => {
                 if record::write(self.book.orders()).len() > usize::from(room) {
                     return Err(OUTPUT_TOO_SMALL);
                 }
             }
-            Call::Desktop | Call::Lists | Call::ReadRecord(_) | Call::Shorten | Call::Fault => {}
+            Call::Desktop | Call::Lists => {}
+            Call::ReadRecord(_) | Call::Lend(_) | Call::Dump => {}
+            Call::Shorten | Call::ShortenStore(..) | Call::Fault | Call::FaultStore(..) => {}
         }
         Ok(())
     }
@@ -148,6 +278,25 @@ impl Session {
     /// The book as the calls have left it.
     pub fn book(&self) -> &Book {
         &self.book
+    }
+
+    /// Makes a call and adds the line that it prints, with its end; says whether it has one.
+    pub fn make_line(
+        &mut self,
+        kind: u8,
+        call: &Call<'_>,
+        parts: &Parts,
+        line: &mut Vec<u8>,
+    ) -> bool {
+        match self.make(call) {
+            Some(number) => {
+                self.push_line(line, kind, call, number);
+                line.push(b'\n');
+            }
+            None if *call == Call::Dump => push_size(line, self.dump_size(parts)),
+            None => return false,
+        }
+        true
     }
 
     /// Adds the line of a call just made, without its end.
@@ -188,7 +337,8 @@ fn push_bodies(line: &mut Vec<u8>, bytes: &[u8]) {
     }
 }
 
-/// Runs a script and prints one line for each call.
+/// Runs a script and prints one line for each call. Of the memory that `Z` prints nothing
+/// is known here but its size, which is printed in its place (see [`super::dump`]).
 pub fn run(script: &[u8], parts: &Parts, out: &mut (impl io::Write + ?Sized)) -> io::Result<End> {
     let mut session = Session::default();
     let mut line = Vec::new();
@@ -200,13 +350,11 @@ pub fn run(script: &[u8], parts: &Parts, out: &mut (impl io::Write + ?Sized)) ->
             out.write_all(b"bad item\n")?;
             break;
         };
-        if call == Call::Fault {
+        if matches!(call, Call::Fault | Call::FaultStore(..)) {
             return Ok(End::Fault);
         }
-        if let Some(number) = session.make(&call) {
-            line.clear();
-            session.push_line(&mut line, kind, &call, number);
-            line.push(b'\n');
+        line.clear();
+        if session.make_line(kind, &call, parts, &mut line) {
             out.write_all(&line)?;
         }
         rest = tail;

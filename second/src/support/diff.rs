@@ -30,7 +30,9 @@ pub fn diff(script: &[u8], from: usize, to: usize) -> Result<String, String> {
         let (item, tail) = take_item(rest).ok_or(format!("the script has {number} items"))?;
         match call(item, &Parts::default()) {
             None => return Err(format!("item {} is a bad one", number + 1)),
-            Some(Call::Fault) => return Err(format!("item {} is a fault", number + 1)),
+            Some(Call::Fault | Call::FaultStore(..)) => {
+                return Err(format!("item {} is a fault", number + 1))
+            }
             Some(call) => session.make(&call),
         };
         rest = tail;

@@ -3,14 +3,17 @@
 use super::order::{outside, told};
 use super::words::{condition, quoted};
 use crate::hex;
-use crate::script::parts::Parts;
+use crate::script::parts::{places, Parts};
 use crate::script::session::{call, Call, SILENT};
 use crate::script::take_item;
+use crate::table::Holder;
 use crate::update::first;
 
-/// Fields whose bytes are texts, and those whose bytes are parts of a picture.
+/// Fields whose bytes are texts, those whose bytes are parts of a picture, and those that
+/// are a picture or none.
 const TEXTS: [&str; 3] = ["title", "tip", "text"];
-const PICTURES: [&str; 3] = ["mask", "table", "color"];
+const PARTS_OF_PICTURES: [&str; 3] = ["mask", "table", "color"];
+const PICTURES: [&str; 3] = ["small", "big", "picture"];
 /// Fields that are two's complement numbers.
 const OFFSETS: [&str; 4] = ["client", "offset", "delta", "visible"];
 
@@ -44,6 +47,7 @@ pub fn explain(script: &[u8], output: &str) -> Result<String, String> {
             .and_then(|(_, line)| line.strip_prefix(char::from(kind))?.strip_prefix(' '))
             .and_then(|line| match call {
                 Call::Update(..) => reported(line),
+                Call::Dump => dumped(line),
                 _ => answered(&call, line),
             });
         match answer {
@@ -94,11 +98,48 @@ fn asked(call: &Call<'_>) -> String {
         Call::Cell(place) => format!("look up cell {}/{}", place.cache, place.entry),
         Call::Desktop => "look up the desktop".into(),
         Call::Lists => "list windows and notification icons".into(),
+        Call::Shared(one, other) => {
+            let (one, other) = (holder(one), holder(other));
+            format!("look up whether {one} and {other} share a place")
+        }
         Call::WriteRecord(room) => format!("write the session record to {room} bytes"),
         Call::ReadRecord(record) => format!("read a session record of {} bytes", record.len()),
         Call::Shorten => "lend the next call too little".into(),
+        Call::ShortenStore(part, missing) => {
+            format!("lend the next call part {part} of the store {missing} bytes shorter")
+        }
         Call::Fault => "change a byte of the state memory".into(),
+        Call::FaultStore(part, offset) => {
+            format!("change byte {offset} of part {part} of the store")
+        }
+        Call::Lend(lengths) => {
+            let places = places(&lengths);
+            let lengths = lengths.map(|length| length.to_string()).join(", ");
+            format!("lend a store of {places} places, in parts of {lengths} bytes")
+        }
+        Call::Dump => "print the state memory and the store".into(),
     }
+}
+
+/// A holder in words.
+fn holder(holder: Holder) -> String {
+    match holder {
+        Holder::Cell(cache, entry) => format!("cell {cache}/{entry}"),
+        Holder::Small(id) => format!("the small icon of window {}", id.0),
+        Holder::Big(id) => format!("the big icon of window {}", id.0),
+        Holder::Notification(window, icon) => {
+            format!("notification icon {}/{}", window.0, icon.0)
+        }
+    }
+}
+
+/// The memory that was printed, or its size.
+fn dumped(line: &str) -> Option<String> {
+    let size = match line.strip_suffix(" bytes") {
+        Some(size) => size.parse().ok()?,
+        None => hex::bytes(line.as_bytes()).ok()?.len(),
+    };
+    Some(format!("{size} bytes"))
 }
 
 /// An update's orders, each on a line of its own.
@@ -121,7 +162,7 @@ fn reported(line: &str) -> Option<String> {
         .collect::<Option<_>>()?;
     match *numbers {
         [1] => Some(format!("refused, 1: {}", condition(1))),
-        [last @ (0 | 2..=12), granted, bytes, orders, all] => {
+        [last @ (0 | 2..=12 | 17), granted, bytes, orders, all] => {
             let end = match last {
                 0 => String::new(),
                 _ => format!("; the next is refused, {last}: {}", condition(last as u8)),
@@ -140,7 +181,7 @@ fn answered(call: &Call<'_>, line: &str) -> Option<String> {
     let number: u8 = words.next()?.parse().ok()?;
     if number != 0 {
         let text = format!("refused, {number}: {}", condition(number));
-        let is_known = matches!(number, 1..=14 | 18 | 19);
+        let is_known = matches!(number, 1..=14 | 17..=19);
         return (words.next().is_none() && is_known).then_some(text);
     }
     if let Call::ReadRecord(_) = call {
@@ -168,8 +209,11 @@ pub(super) fn field(word: &str) -> Option<String> {
     let (name, value) = word.split_once('=')?;
     let value = if TEXTS.contains(&name) {
         quoted(&hex::bytes(value.as_bytes()).ok()?)
-    } else if PICTURES.contains(&name) {
-        format!("{} bytes", hex::bytes(value.as_bytes()).ok()?.len())
+    } else if PARTS_OF_PICTURES.contains(&name) {
+        let bytes = hex::bytes(value.as_bytes()).ok()?;
+        format!("{} bytes{}", bytes.len(), sum(&bytes))
+    } else if PICTURES.contains(&name) && value != "none" {
+        picture(value)?
     } else if OFFSETS.contains(&name) {
         let (x, y) = value.split_once(',')?;
         format!("{},{}", signed(x)?, signed(y)?)
@@ -177,6 +221,37 @@ pub(super) fn field(word: &str) -> Option<String> {
         value.into()
     };
     Some(format!("{name}={value}"))
+}
+
+/// A picture in words: its sides, its bits, its bytes and their sum; none where it is no
+/// picture.
+fn picture(text: &str) -> Option<String> {
+    let parts: Vec<&str> = text.split(',').collect();
+    let [bits, width, height, mask, table, color] = parts[..] else {
+        return None;
+    };
+    for number in [bits, width, height] {
+        number.parse::<u16>().ok()?;
+    }
+    let mut bytes = Vec::new();
+    for part in [mask, table, color] {
+        bytes.extend(hex::bytes(part.as_bytes()).ok()?);
+    }
+    let (count, sum) = (bytes.len(), sum(&bytes));
+    Some(format!(
+        "({width} by {height}, {bits} bits, {count} bytes{sum})"
+    ))
+}
+
+/// A sum by which the bytes of pictures are told apart (FNV-1a); of no bytes nothing.
+fn sum(bytes: &[u8]) -> String {
+    if bytes.is_empty() {
+        return String::new();
+    }
+    let sum = bytes.iter().fold(0x811C_9DC5_u32, |sum, &byte| {
+        (sum ^ u32::from(byte)).wrapping_mul(0x0100_0193)
+    });
+    format!(" #{sum:08x}")
 }
 
 /// A number of 32 bits as a signed one, whether it was printed so or not.

@@ -59,7 +59,7 @@ fn book_after(script: &[u8]) -> Result<Book, String> {
         }
         let taken = take_item(rest).and_then(|(item, tail)| Some((call(item, &parts)?, tail)));
         let (call, tail) = taken.ok_or_else(|| format!("item {number} of the script is bad"))?;
-        if call == Call::Fault {
+        if matches!(call, Call::Fault | Call::FaultStore(..)) {
             return Err(format!(
                 "item {number} changes state memory, which is not kept here"
             ));

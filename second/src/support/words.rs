@@ -1,6 +1,6 @@
 //! Numbers and strings in words.
 
-/// The condition of a number, as document 01 has it.
+/// The condition of a number, as document 01 and its change requests have it.
 pub fn condition(number: u8) -> &'static str {
     match number {
         0 => "done",
@@ -21,6 +21,7 @@ pub fn condition(number: u8) -> &'static str {
         12 => "history room would be passed",
         13 => "more steps back than stand after the mark",
         14 => "output memory too small",
+        17 => "every place is pointed at",
         18 => {
             "fewer than 2 bytes, or than 2 plus 8 for each counted order, or an offset \
              plus size past the end"

@@ -1,45 +1,74 @@
 //! What an order meets on a table, and what it makes of it.
 
-use super::{Cell, Desktop, NotificationIcon, Rect, Table, Window, NOTIFICATION_ICONS, WINDOWS};
+use super::{Cell, Desktop, NotificationIcon, Rect, Table, Window};
+use super::{Holder, NOTIFICATION_ICONS, WINDOWS};
 use crate::ids::WindowId;
-use crate::number::{NO_CELL, TABLE_FULL, WRONG_ID};
+use crate::number::{NO_CELL, NO_PLACE, TABLE_FULL, WRONG_ID};
 use crate::order::rules::{ID_SIZE, NO_CACHE, RECT_SIZE};
-use crate::order::{CellPlace, DesktopFields, DesktopOrder, Icon, Order, Picture};
+use crate::order::{DesktopFields, DesktopOrder, Icon, Order, Picture};
 use crate::order::{NotificationChange, NotificationFields, NotificationOrder};
 use crate::order::{WindowChange, WindowFields, WindowOrder};
 
-/// The number that a judged order meets on a table: 9, 10, 11, else 0.
+/// The number that a judged order meets on a table: 9, 10, 11, 17, else 0.
 pub fn number(table: &Table, order: &Order<'_>) -> u8 {
-    let (listed, new, full, picture) = match order {
+    let (listed, new, full) = match order {
         Order::Window(order) => {
-            let (new, picture) = match order.change {
-                WindowChange::New(_) => (true, None),
-                WindowChange::Update(_) | WindowChange::Delete => (false, None),
-                WindowChange::Picture { picture, .. } => (false, Some(picture)),
-            };
             let listed = table.windows.contains_key(&order.window_id);
-            (listed, new, table.windows.len() >= WINDOWS, picture)
+            let new = matches!(order.change, WindowChange::New(_));
+            (listed, new, table.windows.len() >= WINDOWS)
         }
         Order::Notification(order) => {
-            let (new, picture) = match order.change {
-                NotificationChange::New(fields) => (true, fields.picture),
-                NotificationChange::Update(fields) => (false, fields.picture),
-                NotificationChange::Delete => (false, None),
-            };
             let ids = (order.window_id, order.notify_icon_id);
+            let new = matches!(order.change, NotificationChange::New(_));
             let full = table.icons.len() >= NOTIFICATION_ICONS;
-            (table.icons.contains_key(&ids), new, full, picture)
+            (table.icons.contains_key(&ids), new, full)
         }
         Order::Desktop(_) => return 0,
     };
+    let given = given(order);
     if listed == new {
         WRONG_ID
     } else if new && full {
         TABLE_FULL
-    } else if picture.is_some_and(|picture| !has_cell(table, &picture)) {
+    } else if given.is_some_and(|(_, picture)| !has_cell(table, &picture)) {
         NO_CELL
+    } else if brings_icon(order).is_some_and(|setting| table.is_full_for(&setting)) {
+        NO_PLACE
     } else {
         0
+    }
+}
+
+/// The cell and the pointer that an order sets, if it brings an icon for a cell.
+pub fn brings_icon(order: &Order<'_>) -> Option<[Holder; 2]> {
+    match given(order)? {
+        (holder, Picture::Icon(icon)) => Some([icon.place.into(), holder]),
+        (_, Picture::Cached(_)) => None,
+    }
+}
+
+/// Who is given a picture by an order, and which.
+fn given<'a>(order: &Order<'a>) -> Option<(Holder, Picture<'a>)> {
+    match order {
+        Order::Window(order) => match order.change {
+            WindowChange::Picture { big: true, picture } => {
+                Some((Holder::Big(order.window_id), picture))
+            }
+            WindowChange::Picture { picture, .. } => {
+                Some((Holder::Small(order.window_id), picture))
+            }
+            WindowChange::New(_) | WindowChange::Update(_) | WindowChange::Delete => None,
+        },
+        Order::Notification(order) => {
+            let holder = Holder::Notification(order.window_id, order.notify_icon_id);
+            match order.change {
+                NotificationChange::New(fields) | NotificationChange::Update(fields) => {
+                    fields.picture.map(|picture| (holder, picture))
+                }
+                NotificationChange::Delete => None,
+            }
+        }
+        Order::Desktop(_) => None,
     }
 }
 
@@ -52,6 +81,11 @@ fn has_cell(table: &Table, picture: &Picture<'_>) -> bool {
 }
 
 impl Table {
+    /// Whether every place is pointed at once these have let go.
+    pub fn is_full_for(&self, setting: &[Holder]) -> bool {
+        self.store.used_without(setting) >= self.places
+    }
+
     /// Changes the table by an order whose [`number`] is 0.
     ///
     /// # Panics
@@ -64,29 +98,29 @@ impl Table {
             Order::Desktop(DesktopOrder::None) => {
                 self.windows.clear();
                 self.icons.clear();
+                self.store
+                    .retain(|holder| matches!(holder, Holder::Cell(..)));
                 self.desktop = Desktop::default();
             }
             Order::Desktop(DesktopOrder::Monitored(fields)) => self.desktop.set(fields),
         }
+        if let Some((holder, picture)) = given(order) {
+            self.give(holder, &picture);
+        }
     }
 
     fn apply_window(&mut self, order: &WindowOrder<'_>) {
+        let id = order.window_id;
         match &order.change {
             WindowChange::New(fields) | WindowChange::Update(fields) => {
-                self.windows.entry(order.window_id).or_default().set(fields);
+                self.windows.entry(id).or_default().set(fields);
             }
             WindowChange::Delete => {
-                self.windows.remove(&order.window_id);
+                self.windows.remove(&id);
+                let own = [Holder::Small(id), Holder::Big(id)];
+                self.store.retain(|holder| !own.contains(holder));
             }
-            WindowChange::Picture { big, picture } => {
-                let place = self.place(picture);
-                let window = self.windows.entry(order.window_id).or_default();
-                if *big {
-                    window.big_icon = Some(place);
-                } else {
-                    window.small_icon = Some(place);
-                }
-            }
+            WindowChange::Picture { .. } => {}
         }
     }
 
@@ -94,27 +128,25 @@ impl Table {
         let ids = (order.window_id, order.notify_icon_id);
         match &order.change {
             NotificationChange::New(fields) | NotificationChange::Update(fields) => {
-                let place = fields.picture.map(|picture| self.place(&picture));
-                let icon = self.icons.entry(ids).or_default();
-                icon.set(fields);
-                icon.picture = place.or(icon.picture);
+                self.icons.entry(ids).or_default().set(fields);
             }
             NotificationChange::Delete => {
                 self.icons.remove(&ids);
+                let own = Holder::Notification(ids.0, ids.1);
+                self.store.retain(|&holder| holder != own);
             }
         }
     }
 
-    /// Where a picture is found; one that is carried is put there.
-    fn place(&mut self, picture: &Picture<'_>) -> CellPlace {
+    /// Gives a picture to a holder: one that is carried goes to a place of its own, for
+    /// its cell and the holder; of a cell, its place is shared.
+    fn give(&mut self, holder: Holder, picture: &Picture<'_>) {
         match picture {
             Picture::Icon(icon) => {
-                let place = icon.place;
-                self.cells[usize::from(place.cache)][usize::from(place.entry)] =
-                    Some(Cell::of(icon));
-                place
+                let setting = [icon.place.into(), holder];
+                self.store.take(&setting, Cell::of(icon));
             }
-            Picture::Cached(place) => *place,
+            Picture::Cached(place) => self.store.share(holder, (*place).into()),
         }
     }
 }

@@ -1,13 +1,15 @@
-//! The table that orders change: windows, notification icons, cells, desktop.
+//! The table that orders change: windows, notification icons, pictures, desktop.
 
 mod change;
+mod store;
 
-pub use change::number;
+pub use change::{brings_icon, number};
+pub use store::{Holder, Store, FEWEST_PLACES, MOST_PLACES, PLACE_SIZE};
 
 use std::collections::BTreeMap;
 
 use crate::ids::{NotifyIconId, WindowId};
-use crate::order::rules::{cell, CACHES, CELLS};
+use crate::order::rules::{CACHES, CELLS};
 use crate::order::CellPlace;
 
 /// The most windows.
@@ -15,16 +17,23 @@ pub const WINDOWS: usize = 32;
 /// The most notification icons.
 pub const NOTIFICATION_ICONS: usize = 16;
 
-/// A table. The default is an emptied one.
-#[derive(Clone, Debug, Default, PartialEq, Eq)]
+/// A table. The default is an emptied one, with the most places.
+#[derive(Clone, Debug, PartialEq, Eq)]
 pub struct Table {
     windows: BTreeMap<WindowId, Window>,
     icons: BTreeMap<(WindowId, NotifyIconId), NotificationIcon>,
-    cells: [[Option<Cell>; CELLS]; CACHES],
+    store: Store,
+    places: usize,
     desktop: Desktop,
 }
 
-/// A window. The default has all fields zero or empty and no icons.
+impl Default for Table {
+    fn default() -> Self {
+        Self::with_places(MOST_PLACES)
+    }
+}
+
+/// A window. The default has all fields zero or empty. Its pictures are in the store.
 #[derive(Clone, Debug, Default, PartialEq, Eq)]
 #[allow(missing_docs)]
 pub struct Window {
@@ -43,8 +52,6 @@ pub struct Window {
     pub window_rects: Vec<Rect>,
     pub visible_offset: (i32, i32),
     pub visibility_rects: Vec<Rect>,
-    pub small_icon: Option<CellPlace>,
-    pub big_icon: Option<CellPlace>,
 }
 
 /// A rectangle, its sides in any relation.
@@ -57,7 +64,8 @@ pub struct Rect {
     pub bottom: u16,
 }
 
-/// A notification icon. The default has all fields zero or empty, no picture.
+/// A notification icon. The default has all fields zero or empty. Its picture is in the
+/// store.
 #[derive(Clone, Debug, Default, PartialEq, Eq)]
 #[allow(missing_docs)]
 pub struct NotificationIcon {
@@ -68,10 +76,9 @@ pub struct NotificationIcon {
     pub balloon_text: Vec<u8>,
     pub balloon_title: Vec<u8>,
     pub state: u32,
-    pub picture: Option<CellPlace>,
 }
 
-/// What a filled cell holds.
+/// A picture, as a filled cell holds it.
 #[derive(Clone, Debug, PartialEq, Eq)]
 #[allow(missing_docs)]
 pub struct Cell {
@@ -94,6 +101,32 @@ pub struct Desktop {
 }
 
 impl Table {
+    /// An emptied table whose pictures have so many places.
+    pub fn with_places(places: usize) -> Self {
+        Self {
+            windows: BTreeMap::new(),
+            icons: BTreeMap::new(),
+            store: Store::default(),
+            places,
+            desktop: Desktop::default(),
+        }
+    }
+
+    /// How many places its pictures have.
+    pub fn places(&self) -> usize {
+        self.places
+    }
+
+    /// Its pictures.
+    pub fn store(&self) -> &Store {
+        &self.store
+    }
+
+    /// The picture that a holder shows, if it points at one.
+    pub fn shown(&self, holder: Holder) -> Option<&Cell> {
+        self.store.shown(holder)
+    }
+
     /// A window, if its id is in the table.
     pub fn window(&self, id: WindowId) -> Option<&Window> {
         self.windows.get(&id)
@@ -106,10 +139,7 @@ impl Table {
 
     /// What a cell holds, if it exists and is filled.
     pub fn cell(&self, place: CellPlace) -> Option<&Cell> {
-        if !cell(place) {
-            return None;
-        }
-        self.cells[usize::from(place.cache)][usize::from(place.entry)].as_ref()
+        self.shown(place.into())
     }
 
     /// The desktop state.

@@ -1,8 +1,9 @@
 //! The book: counts, room, marks, steps back.
 
-use super::{book_of, deliver, icon, order, place, window, ICON, ID, IDS, WINDOW};
+use super::{book_of, deliver, icon, order, place, shown};
+use super::{BIG, ICON, ID, IDS, SMALL, WINDOW};
 use second::book::{Book, Standing};
-use second::table::Table;
+use second::table::{Table, MOST_PLACES};
 
 fn standing(book: &Book) -> (usize, usize) {
     let Standing { orders, bytes } = book.standing();
@@ -33,7 +34,7 @@ fn counts_and_bytes_are_those_after_the_mark() {
     assert_eq!(book.step_back(1), Ok(()));
     assert_eq!(standing(&book), (0, 0));
     assert_eq!(deliver(&mut book, 0x0400_0002, ""), 0);
-    book.empty();
+    book.empty(MOST_PLACES);
     assert_eq!(standing(&book), (0, 0));
 }
 
@@ -163,11 +164,12 @@ fn a_step_back_restores_an_overwritten_cell() {
     assert_eq!(mask(&book), Ok(vec![0xA2]));
     assert_eq!(book.step_back(1), Ok(()));
     assert_eq!(mask(&book), Ok(vec![0xA1]));
-    assert_eq!(window(&book).small_icon, Some(place(1, 3)));
-    assert_eq!(window(&book).big_icon, None);
+    assert_eq!(shown(&book, SMALL), [0xA1]);
+    assert_eq!(book.shared(SMALL, place(1, 3).into()), Ok(true));
+    assert_eq!(book.table().shown(BIG), None);
     assert_eq!(book.step_back(1), Ok(()));
     assert_eq!(mask(&book), Err(9));
-    assert_eq!(window(&book).small_icon, None);
+    assert_eq!(book.table().shown(SMALL), None);
 }
 
 #[test]
@@ -192,7 +194,7 @@ fn a_step_back_over_desktop_none() {
 #[test]
 fn emptying_ends_the_history() {
     let mut book = book_of(&[(0x1100_0000, ID)]);
-    book.empty();
+    book.empty(MOST_PLACES);
     assert_eq!(book, Book::new());
     assert_eq!(book.step_back(1), Err(13));
     assert_eq!(book.step_back(0), Ok(()));

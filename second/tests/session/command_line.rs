@@ -54,11 +54,12 @@ fn what_changed_between_two_items() {
 
 #[test]
 fn parts_are_an_option() {
-    let script = second(&["hex-session"], b"T 04 0500\nM\n").stdout;
+    let script = second(&["hex-session"], b"T 09 0500\nM\n").stdout;
     let run = |arguments: &[&str]| second(arguments, &script).stdout;
     assert_eq!(run(&["session"]), b"bad item\n");
-    assert_eq!(run(&["session", "--parts", "1,1,1,1,5"]), b"M 1\n");
-    assert_eq!(run(&["session", "--parts", "1,1,1,1,4"]), b"bad item\n");
+    let ten = |last: u8| format!("1,1,1,1,1,1,1,1,1,{last}");
+    assert_eq!(run(&["session", "--parts", &ten(5)]), b"M 1\n");
+    assert_eq!(run(&["session", "--parts", &ten(4)]), b"bad item\n");
 }
 
 #[test]

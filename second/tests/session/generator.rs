@@ -50,7 +50,7 @@ fn each_script_has_its_items_and_a_line_for_each_call() {
             let ends_badly = seed % 20 == 19 && items > 0;
             assert_eq!(bad, usize::from(ends_badly), "seed {seed}");
             let good = &kinds[..items - bad];
-            let silent = good.iter().filter(|&&kind| kind == b'T').count();
+            let silent = good.iter().filter(|kind| b"TL".contains(kind)).count();
             assert_eq!(output.lines().count(), items - silent);
             assert!(!good.contains(&b'X'));
         }
@@ -83,21 +83,26 @@ fn parts_are_those_given() {
 #[test]
 fn bad_ends_differ() {
     let mut sorts = std::collections::BTreeSet::new();
+    let past = Parts::default().first_of_store() + 5;
     for seed in (19..400).step_by(20) {
         let script = script(seed, 1);
         sorts.insert(match take_item(&script) {
             None if script.len() < 3 => "cut header",
             None => "cut payload",
-            Some((item, _)) if !b"EDUMBWNCSIOVTX".contains(&item.kind) => "unknown kind",
+            Some((item, _)) if !b"EDUMBWNCSIHOVTXLZ".contains(&item.kind) => "unknown kind",
             Some((item, _)) => match (item.kind, item.payload) {
-                (b'T', [0, 0, 0]) => "nothing missing",
-                (b'T', [4, 1, 0]) => "part of T",
-                (b'X', [4, 0, 0, 0, 0, 1]) => "part of X",
+                (b'T', [_, 0, 0]) => "nothing missing",
+                (b'T', &[part, 1, 0]) if part == past => "part of T",
+                (b'X', &[part, 0, 0, 0, 0, 1]) if part == past => "part of X",
+                (b'X', [_, 0, 0, 1, 0, 1]) => "offset of X",
+                (b'L', lengths) if lengths.len() == 20 => "length of a part",
+                (b'H', holders) if holders.len() == 18 && holders.contains(&4) => "kind of H",
+                (b'H', holders) if holders.len() == 18 => "second number of H",
                 _ => "length",
             },
         });
     }
-    assert_eq!(sorts.len(), 7, "{sorts:?}");
+    assert_eq!(sorts.len(), 11, "{sorts:?}");
 }
 
 #[test]
@@ -109,7 +114,7 @@ fn nothing_expected_is_missing() {
 fn what_is_missing_is_named() {
     let facts = of_seeds(0, 0, 0);
     let missing = facts.missing();
-    let numbers = (1..=12).map(|number| format!("D {number}"));
+    let numbers = (1..=12).chain([17]).map(|number| format!("D {number}"));
     let facts_named = numbers.chain(NAMED.map(String::from));
     for fact in facts_named {
         assert!(missing.contains(&fact.as_str()), "{fact}");
@@ -117,8 +122,30 @@ fn what_is_missing_is_named() {
     assert_eq!(facts.met().count(), 0);
 }
 
-/// The calls, and the limits of document 01's table and history rules.
-const NAMED: [&str; 62] = [
+/// The calls, the limits of document 01's table and history rules, and those of the store.
+const NAMED: [&str; 84] = [
+    "E lent=11 1",
+    "E lent=70 0",
+    "E places=12 0",
+    "E places=13 0",
+    "E places=63 0",
+    "E places=64 0",
+    "D places=12 17",
+    "D places=64 17",
+    "U 17",
+    "L fewer, then granted again",
+    "L more places than fixed, and a call granted",
+    "D full store, own place by both together",
+    "D 17 beside the window's other icon",
+    "D 17 where the room is passed too",
+    "17 undone by delete window",
+    "17 undone by step back",
+    "17 undone by desktop none",
+    "W small kept, its cell has another",
+    "W small and big at one place",
+    "H shared by 6 or more",
+    "H equal pictures apart",
+    "Z again, nothing between",
     "E 0",
     "D 0",
     "M 0",

@@ -23,7 +23,7 @@ W 57000100";
             "W 0 3 165 id=65624 owner=1 style=2 ext=3 show=5 title=41004200 client=4,5 \
              client_size=6,7 rp=1 root=8 offset=9,10 delta=11,12 size=13,14 \
              rects=1,2,3,4;65535,6,7,8 visible=15,-1 \
-             vis_rects=9,8,7,6;5,4,3,2;1,0,0,32768 small=1/5 big=1/5",
+             vis_rects=9,8,7,6;5,4,3,2;1,0,0,32768 small=24,2,3,99,, big=24,2,3,99,,",
             "W 9",
         ]
     );
@@ -43,7 +43,10 @@ W 58000100";
         .filter_map(|line| line.split_once("vis_rects= "))
         .map(|(_, end)| end)
         .collect();
-    assert_eq!(ends, ["small=0/2 big=none", "small=0/2 big=1/4"]);
+    assert_eq!(
+        ends,
+        ["small=32,1,1,,, big=none", "small=32,1,1,,, big=32,1,1,,,"]
+    );
 }
 
 #[test]
@@ -62,7 +65,7 @@ N 58000100 06000000";
         [
             "D 0 1 70",
             "N 0 1 70 window=65624 icon=7 version=3 tip=4100 timeout=4 flags=5 text=42004300 \
-             title=440045004600 state=6 picture=0/3",
+             title=440045004600 state=6 picture=8,2,3,aa,bbbbbbbb,ccdd",
             "C 0 1 70 bpp=8 width=2 height=3 mask=aa table=bbbbbbbb color=ccdd",
             "N 9",
             "N 9",

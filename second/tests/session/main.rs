@@ -10,9 +10,12 @@ mod faults;
 mod generator;
 mod judging;
 mod lookups;
+mod memory;
+mod places;
 mod scripts;
 mod sets;
 mod side_by_side;
+mod store;
 mod table_rules;
 mod updates;
 mod vectors;
@@ -23,7 +26,7 @@ use second::ids::{NotifyIconId, WindowId};
 use second::order::{judge, CellPlace};
 use second::script::parts::Parts;
 use second::script::session::{run, End, KINDS};
-use second::table::{NotificationIcon, Window};
+use second::table::{Holder, NotificationIcon, Window};
 
 /// The id of the documents' cases, as hex.
 const ID: &str = "58000100";
@@ -31,6 +34,9 @@ const ID: &str = "58000100";
 const IDS: &str = "58000100 07000000";
 const WINDOW: WindowId = WindowId(0x0001_0058);
 const ICON: NotifyIconId = NotifyIconId(7);
+const SMALL: Holder = Holder::Small(WINDOW);
+const BIG: Holder = Holder::Big(WINDOW);
+const NOTIFICATION: Holder = Holder::Notification(WINDOW, ICON);
 
 /// An order with these flags and, in hex, what follows them.
 fn order(flags: u32, rest: &str) -> Vec<u8> {
@@ -70,6 +76,11 @@ fn icon(book: &Book) -> &NotificationIcon {
     book.icon(WINDOW, ICON).expect("a listed icon")
 }
 
+/// The mask of the picture that a holder shows.
+fn shown(book: &Book, holder: Holder) -> &[u8] {
+    &book.table().shown(holder).expect("a picture").mask
+}
+
 fn place(cache: u8, entry: u16) -> CellPlace {
     CellPlace { cache, entry }
 }
@@ -90,4 +101,9 @@ fn run_script(script: &[u8]) -> String {
 /// What the script written as text prints.
 fn run_text(text: &str) -> String {
     run_script(&script_of(text))
+}
+
+/// The number of a part of the store in an item, as hex.
+fn store_part(part: u8) -> String {
+    format!("{:02X}", Parts::default().first_of_store() + part)
 }

@@ -1,6 +1,6 @@
 //! The script format: items, bad items, memory that is lent too short.
 
-use super::{common::hex, run_script, run_text, script_of};
+use super::{common::hex, run_script, run_text, script_of, store_part};
 use second::compare::difference;
 use second::script::parts::Parts;
 use second::script::session::{run, End, KINDS, SILENT};
@@ -46,8 +46,11 @@ fn payloads_have_their_lengths() {
         ('S', 0),
         ('T', 3),
         ('X', 6),
+        ('H', 18),
+        ('L', 20),
+        ('Z', 0),
     ] {
-        for other in (0..12).filter(|&other| other != length) {
+        for other in (0..24).filter(|&other| other != length) {
             let text = format!("{kind} {}", "01".repeat(other));
             assert_eq!(run_text(&text), "bad item\n", "{text}");
         }
@@ -95,27 +98,29 @@ fn memory_too_short() {
 
 #[test]
 fn parts_and_missing_bytes() {
-    for (item, good) in [
-        ("T 00 0100", true),
-        ("T 00 BC01", true),
-        ("T 00 BD01", false),
-        ("T 01 54AF", true),
-        ("T 01 55AF", false),
-        ("T 02 C0C6", true),
-        ("T 02 C1C6", false),
-        ("T 03 0280", true),
-        ("T 03 0380", false),
-        ("T 00 0000", false),
-        ("T 04 0100", false),
-        ("T FF 0100", false),
-        ("X 04 00000000 01", false),
-        ("X 00 BC010000 01", false),
-        ("X 01 54AF0000 01", false),
-        ("X 02 C0C60000 01", false),
-        ("X 03 02800000 01", false),
-        ("X 00 00000100 01", false),
-        ("X 00 FFFFFFFF 01", false),
-    ] {
+    let parts = Parts::default();
+    let past = parts.first_of_store() + 5;
+    let lack =
+        |part: u8, missing: u32| format!("T {part:02X} {:04X}", (missing as u16).swap_bytes());
+    let fault = |part: u8, offset: u32| format!("X {part:02X} {:08X} 01", offset.swap_bytes());
+    let mut items = vec![
+        (lack(0, 0), false),
+        (lack(parts.first_of_store(), 0), false),
+        (lack(past, 1), false),
+        (lack(255, 1), false),
+        (fault(past, 0), false),
+        (fault(parts.first_of_store(), 65_536), false),
+        (fault(0, 65_536), false),
+        (fault(0, u32::MAX), false),
+    ];
+    for (part, &length) in parts.lengths().iter().enumerate() {
+        let part = part as u8;
+        items.push((lack(part, 1), true));
+        items.push((lack(part, length), true));
+        items.push((lack(part, length + 1), false));
+        items.push((fault(part, length), false));
+    }
+    for (item, good) in items {
         let expected = if good { "M 1\n" } else { "bad item\n" };
         assert_eq!(run_text(&format!("{item}\nM")), expected, "{item}");
     }
@@ -123,16 +128,18 @@ fn parts_and_missing_bytes() {
 
 #[test]
 fn a_fault_ends_the_run() {
-    for item in [
-        "X 00 00000000 00",
-        "X 00 BB010000 01",
-        "X 01 53AF0000 FF",
-        "X 02 BFC60000 80",
-        "X 03 01800000 01",
-    ] {
+    let parts = Parts::default();
+    let last = |(part, length): (usize, &u32)| {
+        format!("X {part:02X} {:08X} 80", (length - 1).swap_bytes())
+    };
+    let mut items: Vec<String> = parts.lengths().iter().enumerate().map(last).collect();
+    items.push("X 00 00000000 00".into());
+    items.push(format!("X {} 00000000 01", store_part(0)));
+    items.push(format!("X {} FFFF0000 01", store_part(4)));
+    for item in items {
         let script = script_of(&format!("M\n{item}\nE"));
         let mut output = Vec::new();
-        let end = run(&script, &Parts::default(), &mut output).expect("memory takes all");
+        let end = run(&script, &parts, &mut output).expect("memory takes all");
         assert_eq!((end, &output[..]), (End::Fault, &b"M 0 0 0\n"[..]));
     }
 }
@@ -149,13 +156,14 @@ fn parts_can_be_given() {
     assert_eq!(print("T 00 0A00\nM"), "M 1\n");
     assert_eq!(print("T 00 0B00\nM"), "bad item\n");
     assert_eq!(print("T 01 FFFF\nM"), "M 1\n");
-    assert_eq!(print("T 02 0100\nM"), "bad item\n");
+    assert_eq!(print("T 02 0100\nM"), "M 1\n");
+    assert_eq!(print("T 07 0100\nM"), "bad item\n");
     assert_eq!(print("X 01 00000100 01\nM"), "bad item\n");
     for text in ["", "0", "1,", ",1", "65537", "x", "1 2", "-1"] {
         assert!(Parts::parse(text).is_err(), "{text}");
     }
-    assert!(Parts::parse(&["1"; 256].join(",")).is_ok());
-    assert!(Parts::parse(&["1"; 257].join(",")).is_err());
+    assert!(Parts::parse(&["1"; 251].join(",")).is_ok());
+    assert!(Parts::parse(&["1"; 252].join(",")).is_err());
 }
 
 /// The item told is the one whose line differs, silent ones aside.

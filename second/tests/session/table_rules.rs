@@ -1,9 +1,10 @@
 //! The table rules, one by one.
 
-use super::{book_of, deliver, icon, place, window, ICON, ID, IDS, WINDOW};
+use super::{book_of, deliver, icon, place, shown, window};
+use super::{BIG, ICON, ID, IDS, NOTIFICATION, SMALL, WINDOW};
 use second::book::Book;
 use second::ids::{NotifyIconId, WindowId};
-use second::table::{Desktop, NotificationIcon, Table, Window};
+use second::table::{Desktop, NotificationIcon, Table, Window, MOST_PLACES};
 
 const NEW_WINDOW: u32 = 0x1100_0000;
 const NEW_ICON: u32 = 0x1200_0000;
@@ -99,7 +100,7 @@ fn an_update_of_a_notification_icon_sets_only_what_it_carries() {
     ]);
     let mut expected = icon(&book).clone();
     assert_eq!((expected.version, expected.state), (3, 4));
-    assert_eq!(expected.picture, Some(place(1, 2)));
+    assert_eq!(shown(&book, NOTIFICATION), [0xA1]);
     assert_eq!(deliver(&mut book, 0x0200_0000, IDS), 0);
     assert_eq!(*icon(&book), expected);
     assert_eq!(deliver(&mut book, 0x0200_0001, &format!("{IDS} 0000")), 0);
@@ -154,18 +155,18 @@ fn new_resets_what_it_does_not_carry() {
 fn an_icon_fills_its_cell_and_points() {
     let mut book = book_of(&[(NEW_WINDOW, ID), (NEW_ICON, IDS)]);
     assert_eq!(deliver(&mut book, 0x4100_0000, &picture(ID, 0, 3, 0xA1)), 0);
-    assert_eq!(window(&book).small_icon, Some(place(0, 3)));
-    assert_eq!(window(&book).big_icon, None);
+    assert_eq!(shown(&book, SMALL), [0xA1]);
+    assert_eq!(book.table().shown(BIG), None);
     assert_eq!(deliver(&mut book, 0x4100_2000, &picture(ID, 1, 4, 0xA2)), 0);
-    assert_eq!(window(&book).small_icon, Some(place(0, 3)));
-    assert_eq!(window(&book).big_icon, Some(place(1, 4)));
-    // Another filling of the cell shows in both, which keep their pointers.
+    assert_eq!(shown(&book, SMALL), [0xA1]);
+    assert_eq!(shown(&book, BIG), [0xA2]);
+    // Another filling of the cell shows in neither: they keep what they were given.
     assert_eq!(
         deliver(&mut book, 0x4200_0000, &picture(IDS, 0, 3, 0xA3)),
         0
     );
-    assert_eq!(icon(&book).picture, Some(place(0, 3)));
-    assert_eq!(window(&book).small_icon, Some(place(0, 3)));
+    assert_eq!(shown(&book, NOTIFICATION), [0xA3]);
+    assert_eq!(shown(&book, SMALL), [0xA1]);
     assert_eq!(mask(&book, 0, 3), [0xA3]);
     assert_eq!(mask(&book, 1, 4), [0xA2]);
 }
@@ -179,9 +180,9 @@ fn a_cached_icon_only_points() {
     ]);
     let cells = book.cell(place(1, 2)).cloned();
     assert_eq!(deliver(&mut book, 0x8100_2000, &cached(ID, 1, 2)), 0);
-    assert_eq!(window(&book).big_icon, Some(place(1, 2)));
+    assert_eq!(book.shared(BIG, place(1, 2).into()), Ok(true));
     assert_eq!(deliver(&mut book, 0x8200_0000, &cached(IDS, 1, 2)), 0);
-    assert_eq!(icon(&book).picture, Some(place(1, 2)));
+    assert_eq!(book.shared(NOTIFICATION, place(1, 2).into()), Ok(true));
     assert_eq!(book.cell(place(1, 2)).cloned(), cells);
     assert_eq!(book.table().filled_cells().count(), 1);
     for (cache, entry) in [(0, 2), (1, 1), (1, 3), (0, 0)] {
@@ -210,7 +211,7 @@ fn the_new_bit_is_ignored_on_window_icons() {
     assert_eq!(deliver(&mut book, 0x5100_0000, &picture(ID, 0, 0, 1)), 0);
     assert_eq!(deliver(&mut book, 0x9100_2000, &cached(ID, 0, 0)), 0);
     assert_eq!(window(&book).show_state, 3);
-    assert_eq!(window(&book).small_icon, window(&book).big_icon);
+    assert_eq!(book.shared(SMALL, BIG), Ok(true));
 }
 
 #[test]
@@ -220,7 +221,7 @@ fn the_new_bit_counts_on_notification_icons() {
     assert_eq!(deliver(&mut book, 0x9200_0000, &cached(IDS, 0, 0)), 11);
     assert_eq!(deliver(&mut book, 0x5200_0000, &picture(IDS, 0, 0, 1)), 0);
     assert_eq!(deliver(&mut book, 0x5200_0000, &picture(IDS, 0, 0, 1)), 9);
-    assert_eq!(icon(&book).picture, Some(place(0, 0)));
+    assert_eq!(shown(&book, NOTIFICATION), [1]);
 }
 
 #[test]
@@ -341,7 +342,7 @@ fn desktop_none_empties_all_but_the_cells() {
     assert_eq!(book.table().icon_ids().count(), 0);
     assert_eq!(*book.desktop(), Desktop::default());
     assert_eq!(mask(&book, 0, 0), [0xA1]);
-    book.empty();
+    book.empty(MOST_PLACES);
     assert_eq!(*book.table(), Table::default());
     assert_eq!(book.table().filled_cells().count(), 0);
 }

@@ -33,6 +33,21 @@ fn session_record() {
 }
 
 #[test]
+fn store() {
+    check(include_str!("../../vectors/session-store.txt"), 52);
+}
+
+/// The script that is stored with rail_session; in it items that print nothing expect none.
+#[test]
+fn stored_script() {
+    let text = include_str!("../../scripts/session.txt");
+    let expected = text.lines().filter_map(|line| line.split_once("# => "));
+    let expected: Vec<&str> = expected.map(|(_, line)| line).collect();
+    assert_eq!(expected.len(), 511);
+    assert_lines(&run_text(text), &expected);
+}
+
+#[test]
 fn demo() {
     check(include_str!("../../vectors/session.txt"), 23);
 }

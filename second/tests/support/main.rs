@@ -145,7 +145,7 @@ fn all_kinds_in_words() {
         "    refused, 1: lent state memory is shorter than needed, or not well formed",
         "9: deliver 19 bytes: window 7 new offset=-100,-2147483648",
         "12: deliver 32 bytes: window 7 small icon into cell 1/2, 2 by 1, 32 bits",
-        "    bpp=32 width=2 height=1 mask=1 bytes table=0 bytes color=8 bytes",
+        "    bpp=32 width=2 height=1 mask=1 bytes #450b2edf table=0 bytes color=8 bytes #2804678d",
         "16: deliver 15 bytes: notification icon 7/9 deleted",
         "17: deliver 11 bytes: window 7 deleted",
         "19: deliver 7 bytes: desktop none",
@@ -160,6 +160,81 @@ fn all_kinds_in_words() {
     let notification = "notification icon 7/9 new version=4 tip=\"\u{FFFD}A\" timeout=1 flags=2 \
         text=\"B\" title=\"\u{FFFD}\" state=3 picture=icon of cell 1/2";
     assert!(text.contains(notification), "{text}");
+}
+
+/// What lends and looks at the store, and pictures.
+#[test]
+fn the_store_in_words() {
+    let first = second::script::parts::Parts::default().first_of_store();
+    let text = format!(
+        "L 00c60000 7f100000 00000000 00000000 00000000\nE\n\
+         D 2E0B000000001107000000\n\
+         D 2E20000000004107000000 02000120 0200 0100 0100 0800 C0 0102030405060708\n\
+         W 07000000\n\
+         H 01 07000000 00000000 00 01000000 02000000\n\
+         H 02 07000000 00000000 03 07000000 09000000\n\
+         Z\nT {first:02X} 0100\nM\n"
+    );
+    let script = second(&["hex-session"], text.as_bytes()).stdout;
+    let told = explained(&script).expect("an explanation");
+    let lines: Vec<&str> = told.lines().collect();
+    for line in [
+        "1: lend a store of 12 places, in parts of 50688, 4223, 0, 0, 0 bytes",
+        "6: look up whether the small icon of window 7 and cell 1/2 share a place",
+        "    shared=1",
+        "7: look up whether the big icon of window 7 and notification icon 7/9 share a place",
+        "8: print the state memory and the store",
+        "9: lend the next call part 0 of the store 1 bytes shorter",
+    ] {
+        assert!(lines.contains(&line), "{line}\n{told}");
+    }
+    let small = " small=(2 by 1, 32 bits, 9 bytes #13b396cf) big=none";
+    assert!(told.contains(small), "{told}");
+    // What rail_session prints for Z is told as its size too.
+    let output = second(&["session"], &script).stdout;
+    let output = String::from_utf8(output).expect("a text");
+    let own = output
+        .lines()
+        .find(|line| line.starts_with("Z "))
+        .expect("a line");
+    let size = own.strip_prefix("Z ").expect("a size");
+    let theirs = output.replace(own, "Z 00a1ff");
+    assert!(told.contains(&format!("    {size}\n")));
+    let told = explain(&script, &theirs).expect("an explanation");
+    assert!(told.contains("\n    3 bytes\n"), "{told}");
+    assert!(explain(&script, &output.replace(own, "Z 0")).is_err());
+}
+
+/// 17 has its words, alone and as the last number of an update.
+#[test]
+fn no_place_in_words() {
+    let script = second(&["hex-session"], b"D\nU 01000000 2E\n").stdout;
+    let told = explain(&script, "D 17\nU 17 1 11 1 11\n").expect("an explanation");
+    assert!(told.contains("    refused, 17: every place is pointed at\n"));
+    assert!(told.contains("; the next is refused, 17: every place is pointed at; "));
+    for output in ["D 15\nU 0 0 0 0 0\n", "D 2\nU 16 0 0 0 0\n"] {
+        assert!(explain(&script, output).is_err());
+    }
+}
+
+/// Pictures of one form are told apart.
+#[test]
+fn pictures_that_changed() {
+    let icon =
+        |byte: &str| format!("D 2E18000000004107000000 02000120 0100 0100 0100 0000 {byte}\n");
+    let text = format!("D 2E0B000000001107000000\n{}{}", icon("A1"), icon("A2"));
+    let script = second(&["hex-session"], text.as_bytes()).stdout;
+    let diff = second(&["diff", "2", "3"], &script).stdout;
+    let diff = String::from_utf8(diff).expect("a text");
+    let lines: Vec<&str> = diff.lines().collect();
+    assert_eq!(lines.len(), 2, "{diff}");
+    assert!(
+        lines[0].starts_with("cell 1/2: mask=1 bytes #") && lines[0].contains(" became 1 bytes #")
+    );
+    assert!(
+        lines[1].starts_with("window 7: small=(1 by 1, 32 bits, 1 bytes #"),
+        "{diff}"
+    );
 }
 
 /// Every refusal 8 of a delivery names a field, and of granted orders none is named.
@@ -240,7 +315,7 @@ fn explaining_by_command_line() {
 fn unfit_input_is_named() {
     let usage = "usage: second session < script (second --help)\n";
     for (input, fault) in [
-        (&update()[..], "item 1, at byte 0: 2E is no kind of item (E D U M B W N C S I O V T X). It may be a raw update: second update-to-script makes a script of it"),
+        (&update()[..], "item 1, at byte 0: 2E is no kind of item (E D U M B W N C S I H O V T X L Z). It may be a raw update: second update-to-script makes a script of it"),
         (b"M\0\0M\x01", "item 2, at byte 3: item M is cut"),
         (b"M\0\0B\x02\0\x01\0", "item 2, at byte 3: item B cannot carry these 2 bytes"),
     ] {

@@ -188,7 +188,8 @@ fn kind_name(kind: u32) -> &'static str {
     }
 }
 
-fn sort(order: &Order<'_>) -> &'static str {
+/// What sort of order it is.
+pub fn sort(order: &Order<'_>) -> &'static str {
     match order {
         Order::Window(order) => match &order.change {
             WindowChange::New(_) => "new window",

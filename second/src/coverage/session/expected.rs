@@ -1,12 +1,13 @@
 //! The facts that generated scripts of state calls have to meet.
 
+use super::of_stores;
 use crate::coverage::order::expected as order;
 
 /// The calls with the numbers that each can meet.
-const CALLS: [(char, &[u8]); 12] = [
+const CALLS: [(char, &[u8]); 13] = [
     ('E', &[0, 1]),
-    ('D', &[0, 1, 2, 3, 4, 5, 6, 7, 8, 9, 10, 11, 12]),
-    ('U', &[0, 1, 2, 3, 4, 5, 6, 7, 8, 9, 10, 11, 12]),
+    ('D', &[0, 1, 2, 3, 4, 5, 6, 7, 8, 9, 10, 11, 12, 17]),
+    ('U', &[0, 1, 2, 3, 4, 5, 6, 7, 8, 9, 10, 11, 12, 17]),
     ('M', &[0, 1]),
     ('B', &[0, 1, 13]),
     ('W', &[0, 1, 9]),
@@ -16,6 +17,7 @@ const CALLS: [(char, &[u8]); 12] = [
     ('O', &[0, 1, 14]),
     ('V', &[0, 18, 19]),
     ('I', &[0, 1]),
+    ('H', &[0, 1, 9]),
 ];
 
 /// The sorts of orders that pass the room of the history.
@@ -110,5 +112,6 @@ pub fn facts() -> Vec<String> {
     }
 
     facts.extend(RECORDS.map(String::from));
+    facts.extend(of_stores::facts());
     facts
 }

@@ -1,7 +1,11 @@
 //! What generated scripts of state calls reach.
 
 mod expected;
+mod of_stores;
 mod records;
+mod store;
+
+use store::{Before, Stores};
 
 use super::order::{Listed, Room};
 use super::Facts;
@@ -36,6 +40,7 @@ struct Coverage {
 impl Coverage {
     fn add_script(&mut self, script: &[u8], parts: &Parts) {
         let mut session = Session::default();
+        let mut stores = Stores::default();
         let mut rest = script;
         while !rest.is_empty() {
             let taken = take_item(rest)
@@ -43,19 +48,28 @@ impl Coverage {
             let Some((kind, call, tail)) = taken else {
                 return self.add("bad item".into());
             };
-            self.add_call(&mut session, kind, &call);
+            self.add_call(&mut session, &mut stores, kind, &call);
             rest = tail;
         }
     }
 
-    fn add_call(&mut self, session: &mut Session, kind: u8, call: &Call<'_>) {
+    fn add_call(&mut self, session: &mut Session, stores: &mut Stores, kind: u8, call: &Call<'_>) {
+        let earlier = Before::of(session);
         let standing = session.book().standing();
         let listed = Listed::of(session.book().table());
         let before = matches!(call, Call::StepBack(_)).then(|| session.book().table().clone());
         let Some(number) = session.make(call) else {
+            if *call == Call::Dump {
+                self.facts.add_dump(stores, session);
+            }
             return;
         };
         self.add(format!("{} {number}", char::from(kind)));
+        if !matches!(call, Call::ReadRecord(_)) {
+            let made = (kind, call);
+            self.facts
+                .add_store(stores, &earlier, session, made, number);
+        }
         match (call, before) {
             _ if number == STATE_UNFIT => {}
             (Call::Deliver(order), _) => {

@@ -10,8 +10,13 @@ use crate::order::CellPlace;
 const KINDS: [u32; 3] = [flags::WINDOW, flags::NOTIFICATION, flags::DESKTOP];
 
 impl Maker<'_> {
-    /// A refused order of any sort, numbers 2 to 11.
+    /// A refused order of any sort, numbers 2 to 11, or 17 where every place is pointed at.
     pub fn refused(&mut self) -> Vec<u8> {
+        if self.table.store().used() == self.table.places() && self.random.chance(40) {
+            if let Some(order) = self.no_place() {
+                return order;
+            }
+        }
         match self.random.below(100) {
             0..=15 => self.wrong_id(),
             16..=25 => self.no_cell(),
@@ -70,7 +75,7 @@ impl Maker<'_> {
     }
 
     /// An icon that no cache holds, or a cached icon from an empty cell.
-    fn no_cell(&mut self) -> Vec<u8> {
+    pub fn no_cell(&mut self) -> Vec<u8> {
         let (picture, fixed) = match self.empty_cell() {
             Some(fixed) if self.random.chance(50) => (flags::CACHED_ICON, fixed),
             _ => {

@@ -5,8 +5,10 @@ mod draft;
 mod faults;
 mod good;
 mod pair;
+mod pictures;
 mod records;
 mod slot;
+mod store;
 mod updates;
 
 use good::Maker;
@@ -15,12 +17,13 @@ use slot::{pool_icon_id, pool_id};
 
 use super::random::Random;
 use crate::book::{BYTES_ROOM, ORDERS_ROOM};
+use crate::number::STATE_UNFIT;
 use crate::order::{flags, CellPlace};
 use crate::record;
-use crate::script::parts::Parts;
+use crate::script::parts::{Parts, StoreLengths, FIRST_LENGTHS, STORE_PARTS};
 use crate::script::session::{call, Call, Session};
 use crate::script::{push_item, take_item};
-use crate::table::{NOTIFICATION_ICONS, WINDOWS};
+use crate::table::{MOST_PLACES, NOTIFICATION_ICONS, WINDOWS};
 
 /// One seed in this many gives a script that ends with a bad item.
 const BAD_END_EVERY: u64 = 20;
@@ -35,6 +38,7 @@ pub fn script(seed: u64, items: usize, parts: &Parts) -> Vec<u8> {
         aim: Aim::Any,
         left: 0,
         is_short: false,
+        good: FIRST_LENGTHS,
         pending: Vec::new(),
     };
     let bad_end = seed % BAD_END_EVERY == BAD_END_EVERY - 1;
@@ -62,6 +66,8 @@ enum Aim {
     Orders,
     /// The room for bytes.
     Bytes,
+    /// The places for pictures.
+    Store,
 }
 
 struct Writer<'a> {
@@ -74,37 +80,56 @@ struct Writer<'a> {
     left: usize,
     /// The next call is lent memory that is too short.
     is_short: bool,
-    /// Lookups to come first, the last one before the others.
+    /// The lengths with which the last call that was not refused for it was lent the
+    /// store.
+    good: StoreLengths,
+    /// Items to come first, the last one before the others.
     pending: Vec<(u8, Vec<u8>)>,
 }
 
 impl Writer<'_> {
     fn next_item(&mut self) -> (u8, Vec<u8>) {
-        if let Some(lookup) = self.pending.pop() {
-            return lookup;
+        if let Some(item) = self.pending.pop() {
+            return item;
         }
-        if self.left == 0 {
-            if self.random.chance(40) {
-                self.look_up_all();
-            }
-            (self.aim, self.left) = match self.random.below(100) {
-                0..=49 => (Aim::Any, 30 + self.random.below(60)),
-                50..=63 => (Aim::Windows, 50),
-                64..=77 => (Aim::Icons, 35),
-                78..=91 => (Aim::Orders, 160),
-                _ => (Aim::Bytes, 20),
-            };
-        }
-        self.left -= 1;
         if self.is_short {
             return self.any_call();
         }
+        if self.left == 0 {
+            return self.next_stretch();
+        }
+        self.left -= 1;
+        if self.left == 0 && self.random.chance(40) {
+            self.look_up_all();
+        }
         match self.aim {
+            Aim::Store => self.fill_store(),
             Aim::Any => self.any(),
             Aim::Windows => self.fill_windows(),
             Aim::Icons => self.fill_icons(),
             Aim::Orders => self.fill_orders(),
             Aim::Bytes => self.fill_bytes(),
+        }
+    }
+
+    /// Begins another stretch. Most of those that fill a store begin with an emptying that
+    /// fixes how many places it has, and of the others many with the most places.
+    fn next_stretch(&mut self) -> (u8, Vec<u8>) {
+        (self.aim, self.left) = match self.random.below(100) {
+            0..=39 => (Aim::Any, 30 + self.random.below(60)),
+            40..=51 => (Aim::Windows, 50),
+            52..=62 => (Aim::Icons, 35),
+            63..=74 => (Aim::Orders, 160),
+            75..=80 => (Aim::Bytes, 20),
+            _ => (Aim::Store, 60 + self.random.below(40)),
+        };
+        let most = self.session.book().places() == MOST_PLACES;
+        match self.aim {
+            Aim::Store if self.random.chance(85) => self.lend_and_empty(),
+            Aim::Store => self.fill_store(),
+            _ if !most && self.random.chance(75) => self.lend_first_and_empty(),
+            _ if self.random.chance(10) => self.dumps(),
+            _ => self.any(),
         }
     }
 
@@ -115,11 +140,16 @@ impl Writer<'_> {
         let made = take_item(&self.script[start..])
             .and_then(|(item, _)| call(item, self.parts))
             .expect("an item with a listed form");
-        if !matches!(made, Call::ReadRecord(_)) {
-            self.is_short = made == Call::Shorten;
-        }
         let steps_back = matches!(made, Call::StepBack(1..));
         let number = self.session.make(&made);
+        self.is_short = match made {
+            Call::Shorten | Call::ShortenStore(..) => true,
+            _ if is_state_call(&made) => false,
+            _ => self.is_short,
+        };
+        if is_state_call(&made) && number != Some(STATE_UNFIT) {
+            self.good = self.session.lengths();
+        }
         if steps_back && number == Some(0) && self.random.chance(15) {
             self.look_up_all();
         }
@@ -140,8 +170,9 @@ impl Writer<'_> {
 
     /// Each call as often as the others.
     fn any_call(&mut self) -> (u8, Vec<u8>) {
-        match self.random.below(9) {
+        match self.random.below(10) {
             0 => (b'E', Vec::new()),
+            7 => self.sharing_lookup(),
             1 => (b'D', self.order()),
             6 => self.update(),
             2 => (b'M', Vec::new()),
@@ -160,8 +191,10 @@ impl Writer<'_> {
             66..=68 => self.read_record(),
             69..=86 => self.lookup(),
             87..=93 => self.step_back(),
-            94..=96 => (b'M', Vec::new()),
+            94 | 95 => (b'M', Vec::new()),
+            96 => self.lend(),
             97 if self.random.chance(40) => (b'E', Vec::new()),
+            97 | 98 if self.random.chance(50) => self.shorten_store(),
             97 | 98 => self.shorten(),
             _ if self.random.chance(50) => (b'I', Vec::new()),
             _ => (b'S', Vec::new()),
@@ -272,7 +305,8 @@ impl Writer<'_> {
     /// A lookup, most of what is there.
     fn lookup(&mut self) -> (u8, Vec<u8>) {
         let there = self.random.chance(80);
-        match self.random.below(10) {
+        match self.random.below(13) {
+            10.. => self.sharing_lookup(),
             0..=3 => {
                 let id = self.maker().listed_window().filter(|_| there);
                 let id = id.unwrap_or_else(|| pool_id(&mut self.random));
@@ -349,23 +383,48 @@ impl Writer<'_> {
     /// An item without a listed form; `sort` chooses which fault it has.
     fn push_bad_end(&mut self, sort: u64) {
         let (random, script) = (&mut self.random, &mut self.script);
-        let parts = self.parts.lengths().len();
+        let parts = self.parts.lengths().len() + STORE_PARTS;
         let part = parts.min(255) as u8;
-        match sort % 8 {
+        match sort % 12 {
             0 => script.extend_from_slice(&[b'D', 7, 0][..1 + random.below(2)]),
             1 => {
                 push_item(script, b'D', &[0x2E, 7, 0, 2, 0, 0, 4]);
                 script.truncate(script.len() - 1 - random.below(7));
             }
-            2 => push_item(script, random.pick(b"ARPdmZ\0\xff"), &[]),
-            3 => push_item(script, random.pick(b"EMSIBWNCTXO"), &[0; 9]),
-            4 => push_item(script, random.pick(b"BWNCTXU"), &[1, 0]),
+            2 => push_item(script, random.pick(b"ARPdmz\0\xff"), &[]),
+            3 => push_item(script, random.pick(b"EMSIBWNCTXOHLZ"), &[0; 9]),
+            4 => push_item(script, random.pick(b"BWNCTXUHLZ"), &[1, 0]),
             5 if parts < 256 => push_item(script, b'T', &[part, 1, 0]),
             6 if parts < 256 => push_item(script, b'X', &[part, 0, 0, 0, 0, 1]),
             5 | 6 => push_item(script, b'X', &[0, 0, 0, 1, 0, 1]),
-            _ => push_item(script, b'T', &[0, 0, 0]),
+            7 => push_item(script, b'T', &[random.pick(&[0, part - 1]), 0, 0]),
+            // A part of the store over 65,536 bytes.
+            8 => {
+                let mut lengths = FIRST_LENGTHS.map(u32::to_le_bytes);
+                lengths[random.below(STORE_PARTS)] = 65_537_u32.to_le_bytes();
+                push_item(script, b'L', lengths.as_flattened());
+            }
+            // A holder of an unlisted kind, or a window with a second number.
+            9 | 10 => {
+                let mut holders = [0; 18];
+                let at = 9 * random.below(2);
+                if sort.is_multiple_of(2) {
+                    holders[at] = 4;
+                } else {
+                    (holders[at], holders[at + 5]) = (random.pick(&[1, 2]), 1);
+                }
+                push_item(script, b'H', &holders);
+            }
+            _ => push_item(script, b'X', &[part - 1, 0, 0, 1, 0, 1]),
         }
     }
+}
+
+/// Whether it is a call on the state, which a shortage of memory before it is meant for.
+fn is_state_call(call: &Call<'_>) -> bool {
+    let is_short = matches!(call, Call::Shorten | Call::ShortenStore(..));
+    let is_fault = matches!(call, Call::Fault | Call::FaultStore(..));
+    !is_short && !is_fault && !matches!(call, Call::Lend(_) | Call::Dump | Call::ReadRecord(_))
 }
 
 fn window_lookup(id: u32) -> (u8, Vec<u8>) {

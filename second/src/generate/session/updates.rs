@@ -39,6 +39,36 @@ impl Writer<'_> {
         self.limited(orders)
     }
 
+    /// An update that fills the room for orders.
+    pub(super) fn update_of_desktop(&mut self) -> (u8, Vec<u8>) {
+        let order = [0x2E, 7, 0, 2, 0, 0, 4];
+        let mut payload = u32::MAX.to_le_bytes().to_vec();
+        payload.extend(order.repeat(ORDERS_ROOM));
+        (b'U', payload)
+    }
+
+    /// An update of icons, each of which takes another place as long as there is one.
+    pub(super) fn update_of_icons(&mut self) -> (u8, Vec<u8>) {
+        let count = 2 + self.random.below(20);
+        let orders = self.orders(count, |maker, _| {
+            let icon = match maker.random.below(6) {
+                0 => maker.sharing(),
+                _ => maker.growing(),
+            };
+            icon.unwrap_or_else(|| maker.good())
+        });
+        self.limited(orders)
+    }
+
+    /// An update of cached icons, many of one cell.
+    pub(super) fn update_of_cached(&mut self) -> (u8, Vec<u8>) {
+        let count = 4 + self.random.below(24);
+        let orders = self.orders(count, |maker, _| {
+            maker.sharing().unwrap_or_else(|| maker.good())
+        });
+        self.limited(orders)
+    }
+
     /// Orders made one after another, each on what those before it leave.
     fn orders(
         &mut self,
