@@ -2,4 +2,5 @@ pub mod Calls
 pub mod Outcome
 pub mod Delivery
 pub mod Targets
+pub mod Handing
 pub mod Packed

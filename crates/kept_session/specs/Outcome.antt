@@ -8,9 +8,8 @@ use lib.ListN.{length}
 use Rattle.wire.specs.Tests.{pick, both}
 use Rattle.wire.specs.Parts.{splice}
 use Rattle.kept_ids.specs.Ids.{listSize, listBytes}
-use Rattle.body.specs.Bodies.{Body, desktopFields}
+use Rattle.body.specs.Bodies.{desktopFields}
 use Rattle.places.specs.declared.Family.{Family}
-use Rattle.places.specs.declared.Family.the-variants as family
 use Rattle.kept_table.specs.Table.{fieldRows}
 use Rattle.layout.specs.Layouts.{windowSize, notificationSize, desktopSize, pictureSize, recordBytes, pictureBytes}
 use Rattle.shown.specs.Shown.{isThere, shownBytes}

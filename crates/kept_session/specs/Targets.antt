@@ -1,10 +1,10 @@
 -- A lookup's target: what is followed for it, whether an index lists it, and what the memory that holds it hands out. Assumes
 -- nothing.
 use Prim.Native.Nat.{ℕ}
-use mathlib.Core.Bool.{Bool, true, not}
+use mathlib.Core.Bool.{Bool, true}
 use mathlib.Core.List.{List, [], _∷_}
 use mathlib.Core.Option.{Option}
-use Rattle.wire.specs.Tests.{pick, both}
+use Rattle.wire.specs.Tests.{both}
 use Rattle.places.specs.declared.Family.{Family}
 use Rattle.places.specs.declared.Family.the-variants as family
 use Rattle.places.specs.Holder.{cell, icon}

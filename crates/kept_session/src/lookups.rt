@@ -1,6 +1,5 @@
 // The lookup: what is looked up is followed from the mark through the journal's orders, and handed out in its fixed layout.
 ghost use mathlib.Core.Path.{_≡_};
-ghost use mathlib.Core.Bool.{true};
 ghost use Prim.Native.Nat.{_+_, _<_, _≤_};
 ghost use lib.ListN.{length};
 ghost use Rattle.wire.specs.Parts.{splice};
@@ -10,12 +9,13 @@ ghost use Rattle.index.specs.Families.{indexLength};
 ghost use Rattle.index.specs.Slots.{slotOf};
 ghost use Rattle.index.specs.Memory.{indexOf};
 ghost use Rattle.store.specs.Store.{five};
-ghost use Rattle.kept_follow.specs.Follow.{roomFor, heldOrigins};
+ghost use Rattle.kept_follow.specs.Follow.{roomFor};
 ghost use Rattle.kept_journal.specs.View.{memory};
-ghost use Rattle.shown.specs.Shown.{heldPictures};
+ghost use Rattle.kept_session.specs.declared.LookupTarget.the-variants as target;
 ghost use Rattle.kept_session.specs.Calls.{cellNumber, holderOf};
-ghost use Rattle.kept_session.specs.Outcome.{lookup, handed, layoutSize, payloadBytes, CallOutcome};
-ghost use Rattle.kept_session.specs.Targets.{wantOf, listedIn, payloadHeld};
+ghost use Rattle.kept_session.specs.Outcome.{lookup, handed, layoutSize, CallOutcome};
+ghost use Rattle.kept_session.specs.Targets.{wantOf, listedIn};
+ghost use Rattle.kept_session.specs.Handing.{bytesHeld, HandsOut};
 use crate::LookupTarget;
 use crate::PictureHolder;
 use crate::Reply;
@@ -148,5 +148,210 @@ fn size_of(target: LookupTarget) -> usize
         LookupTarget::Windows => kept_ids::LENGTH,
         LookupTarget::Notifications => kept_ids::LENGTH,
         LookupTarget::Shares(_, _) => 1,
+    }
+}
+
+// Hands out a window: its fields, then the pictures of its small and its big icon; its two marks say which are there.
+fn window(
+    out: &mut [u8],
+    x: &[u8],
+    bodies: &[u8],
+    a: &[u8],
+    b: &[u8],
+    c: &[u8],
+    d: &[u8],
+    e: &[u8],
+    journal: &[u8],
+    m: &[u8],
+    w: WindowId,
+)
+    requires { ⌜ HandsOut (target.Window w) (now x) (now bodies) (five (now a) (now b) (now c) (now d) (now e)) (now journal) (now m) (now out) ⌝ }
+    ensures { λ _. ⌜ now (out .exit) ≡ splice (now (out .entry)) 0 (bytesHeld (target.Window w) (now (x .entry)) (now (bodies .entry)) (five (now (a .entry)) (now (b .entry)) (now (c .entry)) (now (d .entry)) (now (e .entry))) (now (journal .entry)) (now (m .entry))) ⌝ }
+{
+    let none = NotifyIconId { id: 0 };
+    let small = icon_number(x, Family::Windows, w, none, 0);
+    let big = icon_number(x, Family::Windows, w, none, 1);
+    let origins = &m[body::SLOT..kept_follow::RECORD];
+    layout::record(out, &m[0..body::SLOT], 1, 15);
+    let s = shown::holder(
+        out,
+        layout::WINDOW,
+        x,
+        small,
+        bodies,
+        a,
+        b,
+        c,
+        d,
+        e,
+        journal,
+        origins,
+    );
+    let at = layout::WINDOW + layout::PICTURE;
+    let t = shown::holder(out, at, x, big, bodies, a, b, c, d, e, journal, origins);
+    wire::write_u8(out, 0, s as u8);
+    wire::write_u8(out, 1, t as u8);
+}
+
+// Hands out a notification icon: its fields, then its picture; its first mark says whether that is there.
+fn notification(
+    out: &mut [u8],
+    x: &[u8],
+    bodies: &[u8],
+    a: &[u8],
+    b: &[u8],
+    c: &[u8],
+    d: &[u8],
+    e: &[u8],
+    journal: &[u8],
+    m: &[u8],
+    w: WindowId,
+    n: NotifyIconId,
+)
+    requires { ⌜ HandsOut (target.Notification w n) (now x) (now bodies) (five (now a) (now b) (now c) (now d) (now e)) (now journal) (now m) (now out) ⌝ }
+    ensures { λ _. ⌜ now (out .exit) ≡ splice (now (out .entry)) 0 (bytesHeld (target.Notification w n) (now (x .entry)) (now (bodies .entry)) (five (now (a .entry)) (now (b .entry)) (now (c .entry)) (now (d .entry)) (now (e .entry))) (now (journal .entry)) (now (m .entry))) ⌝ }
+{
+    let own = icon_number(x, Family::Notifications, w, n, 0);
+    let origins = &m[body::SLOT..kept_follow::RECORD];
+    layout::record(out, &m[0..body::SLOT], 16, 22);
+    let at = layout::NOTIFICATION;
+    let s = shown::holder(out, at, x, own, bodies, a, b, c, d, e, journal, origins);
+    wire::write_u8(out, 0, s as u8);
+    wire::write_u8(out, 1, 0);
+}
+
+// Hands out the picture of a cell.
+fn cell(
+    out: &mut [u8],
+    x: &[u8],
+    bodies: &[u8],
+    a: &[u8],
+    b: &[u8],
+    c: &[u8],
+    d: &[u8],
+    e: &[u8],
+    journal: &[u8],
+    m: &[u8],
+    cache: u8,
+    entry: u16,
+)
+    requires { ⌜ HandsOut (target.Cell cache entry) (now x) (now bodies) (five (now a) (now b) (now c) (now d) (now e)) (now journal) (now m) (now out) ⌝ }
+    ensures { λ _. ⌜ now (out .exit) ≡ splice (now (out .entry)) 0 (bytesHeld (target.Cell cache entry) (now (x .entry)) (now (bodies .entry)) (five (now (a .entry)) (now (b .entry)) (now (c .entry)) (now (d .entry)) (now (e .entry))) (now (journal .entry)) (now (m .entry))) ⌝ }
+{
+    let h = cell_number(cache, entry);
+    let origins = &m[0..kept_follow::ORIGINS];
+    shown::holder(out, 0, x, h, bodies, a, b, c, d, e, journal, origins);
+}
+
+// Hands out what the index x of the present table, the memory m of the target and the pictures hold.
+fn hand_out(
+    out: &mut [u8],
+    x: &[u8],
+    bodies: &[u8],
+    a: &[u8],
+    b: &[u8],
+    c: &[u8],
+    d: &[u8],
+    e: &[u8],
+    journal: &[u8],
+    m: &[u8],
+    target: LookupTarget,
+)
+    requires { ⌜ HandsOut target (now x) (now bodies) (five (now a) (now b) (now c) (now d) (now e)) (now journal) (now m) (now out) ⌝ }
+    ensures { λ _. ⌜ now (out .exit) ≡ splice (now (out .entry)) 0 (bytesHeld target (now (x .entry)) (now (bodies .entry)) (five (now (a .entry)) (now (b .entry)) (now (c .entry)) (now (d .entry)) (now (e .entry))) (now (journal .entry)) (now (m .entry))) ⌝ }
+{
+    match target {
+        LookupTarget::Window(w) => window(out, x, bodies, a, b, c, d, e, journal, m, w),
+        LookupTarget::Notification(w, n) => {
+            notification(out, x, bodies, a, b, c, d, e, journal, m, w, n)
+        }
+        LookupTarget::Cell(cache, entry) => {
+            cell(out, x, bodies, a, b, c, d, e, journal, m, cache, entry)
+        }
+        LookupTarget::Desktop => layout::record(out, m, 22, 24),
+        LookupTarget::Windows => kept_ids::list(out, x, false),
+        LookupTarget::Notifications => kept_ids::list(out, x, true),
+        LookupTarget::Shares(g, k) => wire::write_u8(out, 0, shares(x, g, k) as u8),
+    }
+}
+
+// The lookup in a memory m of the target's size.
+fn look_in(
+    index: &[u8],
+    bodies: &[u8],
+    a: &[u8],
+    b: &[u8],
+    c: &[u8],
+    d: &[u8],
+    e: &[u8],
+    journal: &[u8],
+    target: LookupTarget,
+    m: &mut [u8],
+    out: &mut [u8],
+) -> Reply
+    requires { ⌜ length (now m) ≡ roomFor (wantOf target) ⌝ }
+    ensures { λ r. ⌜ CallOutcome (lookup target (now (out .entry))) (memory (now (index .entry)) (now (bodies .entry)) (five (now (a .entry)) (now (b .entry)) (now (c .entry)) (now (d .entry)) (now (e .entry))) (now (journal .entry))) (handed r (now (out .exit))) (memory (now (index .entry)) (now (bodies .entry)) (five (now (a .entry)) (now (b .entry)) (now (c .entry)) (now (d .entry)) (now (e .entry))) (now (journal .entry))) ⌝ }
+{
+    let lent = store::places(a, b, c, d, e);
+    let mut x = [0u8; crate::INDEX];
+    let want = want_of(target);
+    let w = kept_journal::validate(index, bodies, lent, journal, want, &mut x, m);
+    if w.end == 0 {
+        return refused(1);
+    }
+    if !listed(&x, target) {
+        return refused(9);
+    }
+    let size = size_of(target);
+    if out.len() < size {
+        return refused(14);
+    }
+    hand_out(out, &x, bodies, a, b, c, d, e, journal, m, target);
+    granted(w)
+}
+
+pub fn look(
+    index: &[u8],
+    bodies: &[u8],
+    a: &[u8],
+    b: &[u8],
+    c: &[u8],
+    d: &[u8],
+    e: &[u8],
+    journal: &[u8],
+    target: LookupTarget,
+    out: &mut [u8],
+) -> Reply
+    ensures { λ r. ⌜ CallOutcome (lookup target (now (out .entry))) (memory (now (index .entry)) (now (bodies .entry)) (five (now (a .entry)) (now (b .entry)) (now (c .entry)) (now (d .entry)) (now (e .entry))) (now (journal .entry))) (handed r (now (out .exit))) (memory (now (index .entry)) (now (bodies .entry)) (five (now (a .entry)) (now (b .entry)) (now (c .entry)) (now (d .entry)) (now (e .entry))) (now (journal .entry))) ⌝ }
+{
+    match target {
+        LookupTarget::Window(_) => {
+            let mut m = [0u8; kept_follow::RECORD];
+            look_in(index, bodies, a, b, c, d, e, journal, target, &mut m, out)
+        }
+        LookupTarget::Notification(_, _) => {
+            let mut m = [0u8; kept_follow::RECORD];
+            look_in(index, bodies, a, b, c, d, e, journal, target, &mut m, out)
+        }
+        LookupTarget::Cell(_, _) => {
+            let mut m = [0u8; kept_follow::ORIGINS];
+            look_in(index, bodies, a, b, c, d, e, journal, target, &mut m, out)
+        }
+        LookupTarget::Desktop => {
+            let mut m = [0u8; body::SLOT];
+            look_in(index, bodies, a, b, c, d, e, journal, target, &mut m, out)
+        }
+        LookupTarget::Windows => {
+            let mut m = [0u8; 0];
+            look_in(index, bodies, a, b, c, d, e, journal, target, &mut m, out)
+        }
+        LookupTarget::Notifications => {
+            let mut m = [0u8; 0];
+            look_in(index, bodies, a, b, c, d, e, journal, target, &mut m, out)
+        }
+        LookupTarget::Shares(_, _) => {
+            let mut m = [0u8; 0];
+            look_in(index, bodies, a, b, c, d, e, journal, target, &mut m, out)
+        }
     }
 }

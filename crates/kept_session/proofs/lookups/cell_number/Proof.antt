@@ -1,6 +1,6 @@
 use Rattle.kept_session.proofs.Targets.{cell-outside, cell-inside}
 use borrow.Author.Tests.{not-true, not-false}
-use Rattle.kept_session.specs.Targets.{inCaches}
+use Rattle.kept_session.specs.Calls.{inCaches}
 use borrow.Author.Needs.{needs}
 use Rattle.kept_session.proofs.lookups.cell_number.Statement.{statement}
 use Rattle.kept_session.proofs.lookups.cell_number.Tie as tie
