@@ -12,11 +12,11 @@ ghost use Rattle.kept_model.specs.Updates.{update};
 ghost use Rattle.kept_model.specs.Wellformed.{emptiedState};
 ghost use Rattle.kept_run.specs.Script.{holderAt, targetOf, changeOf, callOf, requestOf, oneCall, limitSize, stepOf, blockLength, endsWith, courseOf, RunAs, Runs};
 ghost use Rattle.kept_run.specs.Steps.{Takes, TakesOne, EndsAt, Done};
-use protocol::NotifyIconId;
-use protocol::WindowId;
 use kept_session::LookupTarget;
 use kept_session::PictureHolder;
 use kept_session::Reply;
+use protocol::NotifyIconId;
+use protocol::WindowId;
 
 // A whole update: its limit, LIMIT bytes, before its own.
 const UPDATE: u8 = 8;
@@ -173,7 +173,18 @@ fn look_up(
 {
     let end = out.len();
     wire::clear(out, 0, end);
-    let r = kept_session::lookups::look(index, bodies, a, b, c, d, e, journal, target, &mut out[4..end]);
+    let r = kept_session::lookups::look(
+        index,
+        bodies,
+        a,
+        b,
+        c,
+        d,
+        e,
+        journal,
+        target,
+        &mut out[4..end],
+    );
     let head = kept_session::packed::packed(r);
     wire::write_u32(out, 0, head);
 }

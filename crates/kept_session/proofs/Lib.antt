@@ -7,3 +7,4 @@ pub mod Recorded
 pub mod Targets
 pub mod Handed
 pub mod Found
+pub mod HolderKinds

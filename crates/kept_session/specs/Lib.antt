@@ -1,4 +1,5 @@
 pub mod Calls
+pub mod Holders
 pub mod Outcome
 pub mod Delivery
 pub mod Targets

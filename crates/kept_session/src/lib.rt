@@ -6,6 +6,7 @@ use protocol::NotifyIconId;
 use protocol::WindowId;
 
 pub mod calls;
+pub mod holders;
 pub mod lookups;
 pub mod packed;
 pub mod records;
