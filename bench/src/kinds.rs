@@ -23,6 +23,9 @@ impl Kind {
     }
 }
 
+/// The bytes of the order with the largest icon.
+pub const LARGEST_ICON: usize = 4_247;
+
 /// The window of the orders. Its id is above those of the other windows.
 pub const WINDOW: u32 = 0x0001_0058;
 
@@ -79,13 +82,23 @@ pub fn large_window(id: u32) -> Order {
     order
 }
 
-/// The largest icon in a cell, as the small icon of a window.
-pub fn icon_of(id: u32, cache: u8, entry: u16) -> Order {
-    let mut icon = icon();
-    icon[..2].copy_from_slice(&entry.to_le_bytes());
-    icon[2] = cache;
-    let fields = [&id.to_le_bytes()[..], &icon].concat();
-    order(flags::WINDOW | flags::ICON, &fields)
+/// The largest icon in a cell, as the small or the big icon of a window.
+pub fn icon_of(id: u32, is_big: bool, cache: u8, entry: u16) -> Order {
+    let fields = [&id.to_le_bytes()[..], &icon_in(cache, entry)].concat();
+    let big = if is_big { flags::BIG } else { 0 };
+    order(flags::WINDOW | flags::ICON | big, &fields)
+}
+
+/// A window is deleted.
+pub fn deleted_window(id: u32) -> Order {
+    order(flags::WINDOW | flags::DELETED, &id.to_le_bytes())
+}
+
+/// The largest icon in a cell, as that of a notification icon.
+pub fn notification_icon(window: u32, icon: u32, cache: u8, entry: u16) -> Order {
+    let mut fields = [window, icon].map(u32::to_le_bytes).concat();
+    fields.extend(icon_in(cache, entry));
+    order(flags::NOTIFICATION | flags::ICON, &fields)
 }
 
 /// A new notification icon with version, a tip of 60 bytes, a balloon, and the picture of
@@ -182,6 +195,14 @@ fn icon() -> Vec<u8> {
     let mut icon = CELL.to_vec();
     icon.extend_from_slice(&[32, 32, 0, 32, 0, 128, 0, 0, 16]);
     icon.resize(icon.len() + 128 + 4_096, 7);
+    icon
+}
+
+/// The same in another cell.
+fn icon_in(cache: u8, entry: u16) -> Vec<u8> {
+    let mut icon = icon();
+    icon[..2].copy_from_slice(&entry.to_le_bytes());
+    icon[2] = cache;
     icon
 }
 

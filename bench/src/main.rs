@@ -49,8 +49,8 @@ bench: the proved code beside the plain Rust of `second`
                        alone
   bench state-one LISTING CALL ORDERS SIDE N
                        make N state calls and print nothing, for callgrind.
-                       LISTING: one, eight, full or equal; ORDERS: in the
-                       journal; SIDE: proved or plain
+                       LISTING: one, eight, full, equal or store; ORDERS:
+                       in the journal; SIDE: proved or plain
   bench state-calls    list the state calls
   bench search         print instructions of a window's lookup by the place that it is
                        found in, with 32 windows listed, as a Markdown table

@@ -79,6 +79,8 @@ pub fn one(orders: &str, bytes: &str, what: &str, calls: &str) -> Result<(), Str
     };
     let (orders, bytes, calls) = (number(orders)?, number(bytes)?, number(calls)?);
     let mut memory = Memory::new();
+    let emptied = memory.lend().reset();
+    emptied.map_err(|refusal| refusal.to_string())?;
     for index in 0..orders {
         let done = memory.lend().deliver(&order(bytes, index == 0));
         done.map_err(|refusal| refusal.to_string())?;

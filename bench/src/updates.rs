@@ -136,6 +136,7 @@ fn states(listing: &Listing, kind: &Kind) -> (Memory, Book) {
     };
     let job = Job::delivery(listing, 0, &first);
     let (mut memory, mut book) = (Memory::new(), Book::new());
+    memory.lend().reset().expect("an emptying is granted");
     for order in &job.at_mark {
         let mut lent = memory.lend();
         lent.deliver(order).expect("the orders before are granted");

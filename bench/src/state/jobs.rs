@@ -22,6 +22,8 @@ pub enum Call {
     Desktop,
     Windows,
     Notifications,
+    /// Whether a window's small icon and a cell share a place.
+    Shared(u32, u8, u16),
 }
 
 impl Call {
@@ -37,6 +39,7 @@ impl Call {
             Call::Desktop => "desktop",
             Call::Windows => "windows",
             Call::Notifications => "notifications",
+            Call::Shared(..) => "shared",
         }
     }
 }
@@ -144,6 +147,10 @@ pub fn all(listing: &Listing) -> Vec<Job> {
         ("Lookup: desktop", Call::Desktop),
         ("List of windows", Call::Windows),
         ("List of notification icons", Call::Notifications),
+        (
+            "Whether a place is shared",
+            Call::Shared(kinds::WINDOW, 0, 0),
+        ),
     ];
     jobs.extend(others.map(|(label, call)| Job {
         name: call.entry().into(),

@@ -15,9 +15,12 @@ pub struct Listing {
     windows: Vec<u32>,
     /// The notification icons, and all 12 cells, stand where it is full.
     icons: Vec<(u32, u32)>,
+    /// Whether all 64 places of the store are in use.
+    is_store_full: bool,
 }
 
-/// All listings: one window, 8, and a table as full as it can be before a new window.
+/// All listings: one window, 8, and a table as full as it can be before a new window, with
+/// few pictures and with as many as the store holds.
 pub fn listings() -> Vec<Listing> {
     let counted = |count: u32| (0..count).map(|index| 0x0001_0001 + index).collect();
     let equal_low = |count: u32| (1..=count).map(|index| kinds::WINDOW + (index << 24));
@@ -30,20 +33,24 @@ pub fn listings() -> Vec<Listing> {
             label,
             windows,
             icons,
+            is_store_full: false,
         }
     };
+    let store = full("store", "Full table, 64 places", counted(31), |index| index);
     vec![
         Listing {
             name: "one",
             label: "One window",
             windows: counted(1),
             icons: Vec::new(),
+            is_store_full: false,
         },
         Listing {
             name: "eight",
             label: "8 windows",
             windows: counted(8),
             icons: Vec::new(),
+            is_store_full: false,
         },
         full("full", "Full table", counted(31), |index| index),
         full(
@@ -52,6 +59,10 @@ pub fn listings() -> Vec<Listing> {
             equal_low(31).collect(),
             |index| ICON + (index << 24),
         ),
+        Listing {
+            is_store_full: true,
+            ..store
+        },
     ]
 }
 
@@ -82,19 +93,50 @@ impl Listing {
             return ids.map(|&id| kinds::small_window(id)).collect();
         }
         let windows = self.windows.iter().map(|&id| kinds::large_window(id));
-        let cells = (0..12).map(|cell| {
-            let window = self.windows[usize::from(cell)];
-            kinds::icon_of(window, (cell / 6) as u8, cell % 6)
-        });
         let icons = self.icons.iter();
         let icons = icons.map(|&(window, icon)| kinds::notification(window, icon));
-        windows.chain(cells).chain(icons).collect()
+        let mut orders: Vec<Order> = windows.collect();
+        if self.is_store_full {
+            orders.extend(self.pictures());
+            orders.extend(icons);
+            orders.extend(self.last_pictures());
+        } else {
+            let ids = self.windows.iter().zip(0..12);
+            orders.extend(ids.map(|(&id, cell)| picture(id, false, cell)));
+            orders.extend(icons);
+        }
+        orders
+    }
+
+    /// A picture at a place of its own for each window's small icon and for its big one: 62.
+    /// The cells come in turn, and what had the picture of one keeps it.
+    fn pictures(&self) -> impl Iterator<Item = Order> + '_ {
+        let icons = self
+            .windows
+            .iter()
+            .flat_map(|&id| [(id, false), (id, true)]);
+        let cells = (0..12).cycle();
+        icons
+            .zip(cells)
+            .map(|((id, is_big), cell)| picture(id, is_big, cell))
+    }
+
+    /// The last two places: one for a notification icon and cell 1, one for cell 0 alone, so
+    /// that an icon for it is granted.
+    fn last_pictures(&self) -> [Order; 4] {
+        let (window, icon) = self.notification();
+        [
+            kinds::notification_icon(window, icon, 0, 1),
+            kinds::small_window(kinds::WINDOW),
+            picture(kinds::WINDOW, false, 0),
+            kinds::deleted_window(kinds::WINDOW),
+        ]
     }
 
     /// Something of each sort besides: the orders' window with the largest icon, a
     /// notification icon with texts, and 30 ids in the stacking list.
     pub fn records(&self) -> Vec<Order> {
-        let icon = kinds::of_size(4_247);
+        let icon = kinds::of_size(kinds::LARGEST_ICON);
         let mut orders = self.orders();
         orders.extend(icon.before.iter().cloned());
         orders.push(icon.order().clone());
@@ -105,6 +147,11 @@ impl Listing {
         orders.push(kinds::of_size(132).order().clone());
         orders
     }
+}
+
+/// The largest icon for a window, in the cell of that number.
+fn picture(window: u32, is_big: bool, cell: u16) -> Order {
+    kinds::icon_of(window, is_big, (cell / 6) as u8, cell % 6)
 }
 
 #[cfg(test)]
@@ -126,11 +173,13 @@ mod tests {
                 table.window_ids().count(),
                 table.icon_ids().count(),
                 table.filled_cells().count(),
+                table.store().used(),
             ];
             let expected = match listing.name {
-                "one" => [2, 1, 1],
-                "eight" => [9, 1, 1],
-                _ => [32, 16, 12],
+                "one" => [2, 1, 1, 1],
+                "eight" => [9, 1, 1, 1],
+                "store" => [32, 16, 12, 64],
+                _ => [32, 16, 12, 13],
             };
             assert_eq!(listed, expected, "{}", listing.label);
         }
@@ -138,8 +187,8 @@ mod tests {
 
     #[test]
     fn equal_ids_differ_in_their_highest_byte_alone() {
-        let listing = listings().pop().expect("the last listing");
-        assert_eq!(listing.name, "equal");
+        let equal = listings().into_iter().find(|one| one.name == "equal");
+        let listing = equal.expect("a name");
         let low = |id: u32| id & 0x00FF_FFFF;
         assert!(listing
             .windows

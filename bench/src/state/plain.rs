@@ -3,7 +3,7 @@
 use second::book::Book;
 use second::ids::{NotifyIconId, WindowId};
 use second::order::CellPlace;
-use second::table::{Cell, Rect, Window};
+use second::table::{Cell, Holder, Rect, Window};
 
 use super::jobs::{Call, Job};
 use super::{Answer, State};
@@ -54,6 +54,7 @@ impl State for Plain {
             Call::Desktop => plain_desktop(book, out),
             Call::Windows => plain_windows(book, out),
             Call::Notifications => plain_notifications(book, out),
+            Call::Shared(window, cache, entry) => plain_shared(book, window, cache, entry, out),
         }
     }
 
@@ -91,9 +92,11 @@ pub fn plain_checkpoint(book: &mut Book) -> Answer {
 #[no_mangle]
 #[inline(never)]
 pub fn plain_window(book: &Book, id: u32, out: &mut [u8]) -> Answer {
-    let done = book.window(WindowId(id)).map(|window| {
-        let mut to = Writer::new(&mut out[..850]);
-        put_window(&mut to, window);
+    let id = WindowId(id);
+    let done = book.window(id).map(|window| {
+        let pictures = [Holder::Small(id), Holder::Big(id)].map(|one| book.table().shown(one));
+        let mut to = Writer::new(&mut out[..9_320]);
+        put_window(&mut to, window, pictures);
     });
     answer(book, done)
 }
@@ -101,10 +104,12 @@ pub fn plain_window(book: &Book, id: u32, out: &mut [u8]) -> Answer {
 #[no_mangle]
 #[inline(never)]
 pub fn plain_notification(book: &Book, window: u32, icon: u32, out: &mut [u8]) -> Answer {
-    let found = book.icon(WindowId(window), NotifyIconId(icon));
+    let ids = (WindowId(window), NotifyIconId(icon));
+    let found = book.icon(ids.0, ids.1);
     let done = found.map(|icon| {
-        let mut to = Writer::new(&mut out[..916]);
-        to.cell(icon.picture);
+        let picture = book.table().shown(Holder::Notification(ids.0, ids.1));
+        let mut to = Writer::new(&mut out[..5_151]);
+        to.u8(picture.is_some().into());
         to.skip(1);
         to.u32(icon.version);
         to.text(&icon.tip, 256);
@@ -113,6 +118,7 @@ pub fn plain_notification(book: &Book, window: u32, icon: u32, out: &mut [u8]) -
         to.text(&icon.balloon_text, 510);
         to.text(&icon.balloon_title, 126);
         to.u32(icon.state);
+        to.picture(picture);
     });
     answer(book, done)
 }
@@ -121,7 +127,7 @@ pub fn plain_notification(book: &Book, window: u32, icon: u32, out: &mut [u8]) -
 #[inline(never)]
 pub fn plain_cell(book: &Book, cache: u8, entry: u16, out: &mut [u8]) -> Answer {
     let found = book.cell(CellPlace { cache, entry });
-    let done = found.map(|cell| put_cell(&mut Writer::new(&mut out[..4_235]), cell));
+    let done = found.map(|cell| Writer::new(&mut out[..PICTURE]).picture(Some(cell)));
     answer(book, done)
 }
 
@@ -163,15 +169,26 @@ pub fn plain_notifications(book: &Book, out: &mut [u8]) -> Answer {
     answer(book, Ok(()))
 }
 
+/// Whether a window's small icon and a cell share a place.
+#[no_mangle]
+#[inline(never)]
+pub fn plain_shared(book: &Book, window: u32, cache: u8, entry: u16, out: &mut [u8]) -> Answer {
+    let cell = CellPlace { cache, entry };
+    let shared = book.shared(Holder::Small(WindowId(window)), cell.into());
+    let done = shared.map(|shared| out[0] = shared.into());
+    answer(book, done)
+}
+
 fn answer(book: &Book, done: Result<(), u8>) -> Answer {
     done?;
     let standing = book.standing();
     Ok((standing.orders, standing.bytes))
 }
 
-fn put_window(to: &mut Writer<'_>, window: &Window) {
-    to.cell(window.small_icon);
-    to.cell(window.big_icon);
+fn put_window(to: &mut Writer<'_>, window: &Window, pictures: [Option<&Cell>; 2]) {
+    for picture in pictures {
+        to.u8(picture.is_some().into());
+    }
     to.u32(window.owner.0);
     to.u32(window.style);
     to.u32(window.extended_style);
@@ -187,21 +204,13 @@ fn put_window(to: &mut Writer<'_>, window: &Window) {
     to.rects(&window.window_rects);
     to.point(window.visible_offset);
     to.rects(&window.visibility_rects);
+    for picture in pictures {
+        to.picture(picture);
+    }
 }
 
-fn put_cell(to: &mut Writer<'_>, cell: &Cell) {
-    to.u8(cell.bits_per_pixel);
-    to.u16(cell.width);
-    to.u16(cell.height);
-    if matches!(cell.bits_per_pixel, 1 | 4 | 8) {
-        to.u16(cell.color_table.len() as u16);
-    }
-    to.u16(cell.mask.len() as u16);
-    to.u16(cell.color.len() as u16);
-    to.bytes(&cell.mask);
-    to.bytes(&cell.color_table);
-    to.bytes(&cell.color);
-}
+/// The bytes of a picture that is handed out.
+const PICTURE: usize = 4_235;
 
 /// Zeroed output memory, filled from its beginning.
 struct Writer<'a> {
@@ -246,8 +255,23 @@ impl<'a> Writer<'a> {
         self.u32(y);
     }
 
-    fn cell(&mut self, place: Option<CellPlace>) {
-        self.u8(place.map_or(0, |place| 1 + 6 * place.cache + place.entry as u8));
+    /// A picture, or its room left empty.
+    fn picture(&mut self, picture: Option<&Cell>) {
+        let end = self.at + PICTURE;
+        if let Some(picture) = picture {
+            self.u8(picture.bits_per_pixel);
+            self.u16(picture.width);
+            self.u16(picture.height);
+            if matches!(picture.bits_per_pixel, 1 | 4 | 8) {
+                self.u16(picture.color_table.len() as u16);
+            }
+            self.u16(picture.mask.len() as u16);
+            self.u16(picture.color.len() as u16);
+            self.bytes(&picture.mask);
+            self.bytes(&picture.color_table);
+            self.bytes(&picture.color);
+        }
+        self.at = end;
     }
 
     fn text(&mut self, text: &[u8], room: usize) {

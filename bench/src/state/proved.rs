@@ -1,6 +1,6 @@
 //! The state calls of the proved library, on lent memory.
 
-use rail::{CacheCell, Memory, NotifyIconId, Refusal, WindowId};
+use rail::{CacheCell, Holder, Memory, NotifyIconId, Refusal, WindowId};
 
 use super::jobs::{Call, Job};
 use super::{Answer, State};
@@ -55,6 +55,13 @@ impl State for Proved {
             Call::Desktop => view.desktop_bytes(out),
             Call::Windows => view.window_ids_bytes(out),
             Call::Notifications => view.notification_icon_ids_bytes(out),
+            Call::Shared(window, cache_id, cache_entry) => {
+                let cell = CacheCell {
+                    cache_id,
+                    cache_entry,
+                };
+                view.shared_bytes(Holder::Small(WindowId(window)), cell.into(), out)
+            }
         };
         let standing = standing.map_err(Refusal::number)?;
         Ok((standing.orders, standing.bytes))

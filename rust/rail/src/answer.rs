@@ -50,6 +50,9 @@ pub enum Refusal {
     /// 16: a chunk that is compressed, not first with nothing begun, or not what its
     /// total says. What was begun is dropped.
     BadChunk = 16,
+    /// 17: an icon comes, and every place of the store is pointed at, also once its cell and
+    /// what it is for have let go.
+    StoreFull = 17,
     /// 18: a session record without its whole count or table of contents, or with a body
     /// past its end.
     RecordCut = 18,
@@ -80,6 +83,7 @@ impl Refusal {
         Refusal::OutputTooSmall,
         Refusal::ChunkTooShort,
         Refusal::BadChunk,
+        Refusal::StoreFull,
         Refusal::RecordCut,
         Refusal::RecordDiffers,
         Refusal::WrongEnd,
@@ -117,6 +121,7 @@ impl Refusal {
                  a total differing from the first's; \
                  or data past the total or, in a last chunk, short of it"
             }
+            Refusal::StoreFull => "every place is pointed at",
             Refusal::RecordCut => {
                 "fewer than 2 bytes, or than 2 plus 8 for each counted order, \
                  or an offset plus size past the end"
@@ -249,34 +254,29 @@ mod tests {
     #[test]
     fn numbers_of_refusals() {
         let numbers = Refusal::ALL.iter().map(|refusal| refusal.number());
-        assert!(numbers.eq((1..=16).chain(18..=21)));
+        assert!(numbers.eq(1..=21));
         for &refusal in Refusal::ALL {
             assert_eq!(Refusal::try_from(refusal.number()), Ok(refusal));
             assert_eq!(u8::from(refusal), refusal.number());
         }
-        for number in (22..=255).chain([0, 17]) {
+        for number in (22..=255).chain([0]) {
             assert_eq!(Refusal::try_from(number), Err(UnknownNumber(number)));
         }
     }
 
-    /// The words are those of the C header, and so of document 01.
+    /// The words are those of the C header, and so of documents 01 and 02.
     #[test]
     fn words_of_refusals() {
         let header = include_str!("../../../include/rail.h");
         let words = header
-            .split("static const char *const words[] = {")
+            .split("*rail_number_words(")
             .nth(1)
-            .and_then(|rest| rest.split("};").next())
+            .and_then(|rest| rest.split("\n}").next())
             .expect("the header has the words");
-        let mut words = words
-            .lines()
-            .filter_map(|line| line.trim().strip_suffix("\",")?.strip_prefix('"'));
-        assert_eq!(words.next(), Some("done"));
-        let (listed, others) = Refusal::ALL.split_at(16);
-        assert!(words.eq(listed.iter().map(|refusal| refusal.words())));
-        for refusal in others {
-            assert!(header.contains(&format!("return \"{}\";", refusal.words())));
-        }
+        let words: Vec<&str> = words.split('"').skip(1).step_by(2).collect();
+        let ours = Refusal::ALL.iter().map(|refusal| refusal.words());
+        let ours = [Some("done")].into_iter().chain(ours.map(Some));
+        assert!(ours.eq(words[..22].iter().map(|&word| Some(word))));
     }
 
     #[test]
@@ -288,8 +288,8 @@ mod tests {
         let error: Box<dyn Error + Send + Sync> = Refusal::FlagsClash.into();
         assert_eq!(error.to_string(), "6: order flags clash");
         assert_eq!(
-            UnknownNumber(17).to_string(),
-            "no refusal has the number 17"
+            UnknownNumber(22).to_string(),
+            "no refusal has the number 22"
         );
     }
 
@@ -321,6 +321,6 @@ mod tests {
     #[test]
     #[should_panic = "listed numbers only"]
     fn a_number_that_is_not_listed() {
-        let _ = state_answer(17);
+        let _ = state_answer(22);
     }
 }

@@ -34,7 +34,6 @@
 //!
 //! The library has no state of its own and keeps nothing that it is lent, so calls
 //! on different sessions can run at once, and so can lookups on the same one.
-
 //!
 //! Without the feature `std`, which is on by default, the crate needs `alloc` alone.
 
@@ -60,24 +59,29 @@ mod session;
 mod session_record;
 mod text;
 mod update;
+mod view;
 
 pub use answer::{Found, Refusal, Standing, UnknownNumber};
 pub use channel::{Channel, CHUNK_SIZE};
 pub use ids::{NotifyIconId, WindowId};
 pub use memory::{
-    LentSession, Memory, View, BODIES_SIZE, CELLS_SIZE, DIRECTORY_SIZE, JOURNAL_SIZE, LIST_SIZE,
+    LentSession, Memory, BODIES_SIZE, FEWEST_PLACES, INDEX_SIZE, JOURNAL_SIZE, MOST_PLACES,
+    PLACE_SIZE, STORE_PARTS,
 };
 pub use message::{Message, Setting, MESSAGE_LIMIT};
 pub use order::{orders, Change, Changed, Orders};
 pub use profile::Profile;
+pub use record::lists::LIST_SIZE;
 pub use record::{
-    CacheCell, Desktop, NotificationIcon, Picture, Point, Rectangle, ShowState, Size, Window,
+    CacheCell, Desktop, Holder, NotificationIcon, Picture, Point, Rectangle, ShowState, Size,
+    Window,
 };
 pub use run::{answers, run, script, Call, HandedOut, Run};
 pub use session::{NotificationIcons, Session, Windows};
 pub use session_record::{Bodies, Record, RECORD_LIMIT};
 pub use text::{text_lossy, utf16_bytes};
 pub use update::{Report, Taken};
+pub use view::View;
 
 /// The Rust of the guide compiles.
 #[cfg(doctest)]

@@ -55,7 +55,7 @@ pub struct Changed {
     pub what: Change,
     /// FieldsPresentFlags: see [`protocol`](crate::protocol).
     pub flags: u32,
-    /// The cell with a new picture: all that points at it changed too.
+    /// The cell with a new picture. What was given the cell's picture before keeps it.
     pub filled: Option<CacheCell>,
 }
 

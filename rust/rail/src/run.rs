@@ -6,8 +6,9 @@ use crate::answer::{refused, state_answer, Refusal, Standing};
 use crate::ffi;
 use crate::ids::{NotifyIconId, WindowId};
 use crate::memory::LentSession;
+use crate::record::holder::SHARED_SIZE;
 use crate::record::lists::{self, LIST_SIZE};
-use crate::record::{CacheCell, Desktop, NotificationIcon, Picture, Window};
+use crate::record::{CacheCell, Desktop, Holder, NotificationIcon, Picture, Window};
 use crate::session_record::{self, RECORD_LIMIT};
 use crate::update::Report;
 
@@ -39,6 +40,8 @@ pub enum Call<'a> {
     WindowIds,
     /// Lists the notification icons.
     NotificationIconIds,
+    /// Tells whether two holders share a place.
+    Shared(Holder, Holder),
 }
 
 /// What a call of a script hands out.
@@ -55,6 +58,7 @@ pub enum HandedOut {
     Record(Vec<u8>),
     WindowIds(Vec<WindowId>),
     NotificationIconIds(Vec<(WindowId, NotifyIconId)>),
+    Shared(bool),
 }
 
 /// How a run ended.
@@ -64,7 +68,7 @@ pub struct Run {
     /// The calls that were done.
     pub calls: u64,
     /// Why no further one was: none at the end of the script; [`Refusal::UnfitMemory`]
-    /// where a part is too short, and then nothing has changed; else what is wrong with
+    /// where the memory is too short, and then nothing has changed; else what is wrong with
     /// the next item, or [`Refusal::OutputTooSmall`] where its block has no room.
     pub ended: Option<Refusal>,
 }
@@ -89,6 +93,7 @@ impl Call<'_> {
             Call::Record => 9,
             Call::WindowIds => 10,
             Call::NotificationIconIds => 11,
+            Call::Shared(..) => 12,
         }
     }
 
@@ -102,6 +107,7 @@ impl Call<'_> {
             Call::Update(..) => UPDATE_MORE,
             Call::Record => RECORD_LIMIT,
             Call::WindowIds | Call::NotificationIconIds => LIST_SIZE,
+            Call::Shared(..) => SHARED_SIZE,
             _ => 0,
         }
     }
@@ -123,6 +129,13 @@ impl Call<'_> {
             Call::Picture(cell) => {
                 carried.push(cell.cache_id);
                 carried.extend(cell.cache_entry.to_le_bytes());
+            }
+            Call::Shared(one, other) => {
+                for (kind, first, second) in [one.numbers(), other.numbers()] {
+                    carried.push(kind);
+                    carried.extend(first.to_le_bytes());
+                    carried.extend(second.to_le_bytes());
+                }
             }
             _ => {}
         }
@@ -149,6 +162,7 @@ impl Call<'_> {
             Call::NotificationIconIds => {
                 HandedOut::NotificationIconIds(lists::notification_icon_ids(fixed(bytes)))
             }
+            Call::Shared(..) => HandedOut::Shared(bytes != [0]),
             _ => HandedOut::None,
         }
     }
@@ -225,6 +239,10 @@ mod tests {
 
     const NEW_WINDOW: [u8; 11] = [0x2E, 11, 0, 0, 0, 0, 0x11, 7, 0, 0, 0];
     const NEW_ICON: [u8; 15] = [0x2E, 15, 0, 0, 0, 0, 0x12, 7, 0, 0, 0, 9, 0, 0, 0];
+    /// A picture of 2 bytes in cell 5 of cache 1, for the window's small icon.
+    const PICTURE: [u8; 25] = [
+        0x2E, 25, 0, 0, 0, 0, 0x41, 7, 0, 0, 0, 5, 0, 1, 16, 1, 0, 1, 0, 0, 0, 2, 0, 7, 7,
+    ];
 
     /// Every call by itself on the same memory answers as it does in a run.
     #[test]
@@ -240,14 +258,17 @@ mod tests {
             Call::Deliver(&NEW_WINDOW),
             Call::Deliver(&NEW_WINDOW),
             Call::Deliver(&NEW_ICON),
+            Call::Deliver(&PICTURE),
             Call::Window(window),
             Call::NotificationIcon(window, icon),
             Call::Picture(cell),
+            Call::Shared(cell.into(), Holder::Small(window)),
+            Call::Shared(cell.into(), Holder::Big(window)),
             Call::Desktop,
             Call::WindowIds,
             Call::NotificationIconIds,
             Call::Record,
-            Call::Undo(1),
+            Call::Undo(2),
             Call::NotificationIconIds,
             Call::Update(9, &twice),
             Call::Update(0, &twice),
@@ -258,14 +279,16 @@ mod tests {
             Call::Record,
         ];
         let mut memory = Memory::new();
-        memory.directory.fill(0xFF);
+        memory.index.fill(0xFF);
         let mut out = vec![0; calls.iter().map(Call::block_size).sum()];
         let ran = run(&mut memory.lend(), &script(&calls), &mut out);
-        assert_eq!((ran.calls, ran.ended), (19, None));
+        assert_eq!((ran.calls, ran.ended), (22, None));
         let mut alone = Memory::new();
         alone.lend().reset().unwrap();
         let ours = calls.map(|call| make(&mut alone, &call));
         assert!(answers(&calls, &out).eq(ours));
+        let shared = answers(&calls, &out).nth(7).expect("an answer");
+        assert_eq!(shared.map(|(_, found)| found), Ok(HandedOut::Shared(true)));
         assert_eq!(memory.view().window_ids(), alone.view().window_ids());
     }
 
@@ -305,6 +328,9 @@ mod tests {
             Call::NotificationIconIds => view
                 .notification_icon_ids()
                 .map(|f| (f.standing, HandedOut::NotificationIconIds(f.record))),
+            Call::Shared(one, other) => view
+                .shared(one, other)
+                .map(|f| (f.standing, HandedOut::Shared(f.record))),
         }
     }
 
@@ -323,7 +349,7 @@ mod tests {
         assert_eq!(ended(&good[..15], 140), (1, Some(Refusal::TooShort)));
         assert_eq!(ended(&good[..13], 140), (0, Some(Refusal::LengthDiffers)));
         assert_eq!(ended(&[255, 0, 0], 140), (0, Some(Refusal::UnknownType)));
-        let mut short = Memory::with_sizes([443, 44_884, 50_880, 32_770]);
+        let mut short = Memory::with_places(11);
         let ran = run(&mut short.lend(), &good, &mut out);
         assert_eq!((ran.calls, ran.ended), (0, Some(Refusal::UnfitMemory)));
         assert_eq!(answers(&calls, &out[..3]).count(), 0);

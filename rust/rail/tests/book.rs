@@ -5,10 +5,16 @@
 
 mod common;
 
-use common::{compare, layout, lend, look_up, make, may_change, steps, Record, Step};
-use rail::{CacheCell, Memory, Refusal, Session, Standing};
+use common::{
+    compare, layout, lend, lend_to_book, look_up, make, may_change, memory, number_of, steps,
+    Record, Step,
+};
+use rail::{
+    CacheCell, Memory, Refusal, Session, Standing, View, FEWEST_PLACES, MOST_PLACES, PLACE_SIZE,
+    STORE_PARTS,
+};
 use second::generate::session::script;
-use second::script::parts::Parts;
+use second::script::parts::{first_places, Parts, StoreLengths, FIRST_LENGTHS};
 use second::script::session::{Call, Session as BookSession};
 use second::table::Table;
 
@@ -25,21 +31,22 @@ fn lists() -> u64 {
 /// What the lists came to.
 #[derive(Default)]
 struct Tally {
-    numbers: [u64; 15],
-    /// Granted lookups of windows, notification icons, pictures, the desktop and the lists.
-    found: [u64; 5],
+    numbers: [u64; 18],
+    /// Granted lookups of windows, notification icons, pictures, the desktop, the lists and
+    /// what is shared.
+    found: [u64; 6],
 }
 
 impl Tally {
     fn count(&mut self, answer: &common::Answer) {
-        let number = answer.as_ref().map_or_else(|r| r.number(), |_| 0);
-        self.numbers[usize::from(number)] += 1;
+        self.numbers[usize::from(number_of(answer))] += 1;
         match answer {
             Ok((_, Record::Window(_))) => self.found[0] += 1,
             Ok((_, Record::NotificationIcon(_))) => self.found[1] += 1,
             Ok((_, Record::Picture(_))) => self.found[2] += 1,
             Ok((_, Record::Desktop(_))) => self.found[3] += 1,
             Ok((_, Record::Lists(..))) => self.found[4] += 1,
+            Ok((_, Record::Shared(_))) => self.found[5] += 1,
             _ => {}
         }
     }
@@ -49,40 +56,59 @@ impl Tally {
 fn run_lent(seed: u64, tally: &mut Tally) -> Result<(), String> {
     let script = script(seed, CALLS, &Parts::default());
     let mut book = BookSession::default();
-    let mut memory = Memory::new();
-    memory.lend().reset().expect("memory of the needed lengths");
+    let mut memory = memory();
+    memory.store.iter_mut().for_each(|part| part.fill(0xEE));
+    let first = lend(&mut memory, None, &FIRST_LENGTHS).reset();
+    first.expect("memory of the needed lengths");
     let mut before = memory.clone();
     for (at, step) in steps(&script).iter().enumerate() {
-        let answer = make(&mut lend(&mut memory, step.lack), &step.call);
+        let mut lent = lend(&mut memory, step.lack, &step.store);
+        let answer = make(&mut lent, &step.call);
         tally.count(&answer);
-        compare(&mut book, step, &answer).map_err(|text| told(at, step, &text))?;
+        lend_to_book(&mut book, step);
+        compare(&mut book, &step.call, &answer).map_err(|text| told(at, step, &text))?;
+        let table = book.book().table();
+        if answer.is_ok() && !written_alike(lent.view(), &step.call, table) {
+            return Err(told(at, step, "writes other bytes"));
+        }
         if answer.is_ok() && may_change(&step.call) {
-            before = memory.clone();
+            if !places_alone(&memory, &before, &step.store, table.places()) {
+                return Err(told(at, step, "changes bytes outside its places"));
+            }
+            before.clone_from(&memory);
         } else if memory != before {
             return Err(told(at, step, "changes memory that it must leave alone"));
-        }
-        if !written_alike(&memory, &step.call, book.book().table()) {
-            return Err(told(at, step, "writes other bytes"));
         }
     }
     Ok(())
 }
 
+/// Whether no byte of the store differs but in so many places of what was lent of it.
+fn places_alone(memory: &Memory, before: &Memory, lent: &StoreLengths, places: usize) -> bool {
+    let mut used = [0; STORE_PARTS];
+    for (part, _) in first_places(lent, places) {
+        used[part] += PLACE_SIZE;
+    }
+    let parts = memory.store.iter().zip(&before.store);
+    let mut parts = parts.zip(used);
+    parts.all(|((part, before), used)| part[used..] == before[used..])
+}
+
 /// The bytes that a lookup writes, and those after them, which it leaves alone.
-fn written_alike(memory: &Memory, call: &Call<'_>, table: &Table) -> bool {
+fn written_alike(view: View<'_>, call: &Call<'_>, table: &Table) -> bool {
     const AFTER: usize = 3;
     let Some(mut expected) = layout::bytes(table, call) else {
         return true;
     };
     expected.extend([0xEE; AFTER]);
     let mut out = vec![0xEE; expected.len()];
-    look_up(memory.view(), call, &mut out).is_some_and(|answer| answer.is_ok()) && out == expected
+    look_up(view, call, &mut out).is_some_and(|answer| answer.is_ok()) && out == expected
 }
 
 fn told(at: usize, step: &Step<'_>, text: &str) -> String {
     format!(
-        "call {at}, {:02x?}, lacking {:?}: {text}",
-        step.call, step.lack
+        "call {at}, {:02x?}, lacking {:?} with a store of {:?}: {text}",
+        step.call, step.lack, step.store
     )
 }
 
@@ -97,7 +123,8 @@ fn lent_memory_answers_as_the_book() {
     println!("{lists} lists, {calls} calls: numbers {:?}", tally.numbers);
     println!("granted lookups: {:?}", tally.found);
     // Every number of the state calls comes, and every lookup is granted, many times.
-    assert!(tally.numbers[..14].iter().all(|&count| count > 20));
+    assert!(tally.numbers[..15].iter().all(|&count| count > 20));
+    assert!(tally.numbers[17] > 20);
     assert!(tally.found.iter().all(|&count| count > 500));
 }
 
@@ -145,11 +172,17 @@ fn listed_alike(session: &Session, table: &Table) -> bool {
             .eq(table.filled_cells().map(|place| (place.cache, place.entry)))
 }
 
-/// Runs the list of a seed on a session of its own.
+/// Runs the list of a seed on a session of its own, with one of the numbers of places.
 fn run_owned(seed: u64) -> Result<(), String> {
     let script = script(seed, CALLS, &Parts::default());
+    let places = FEWEST_PLACES + seed as usize % (MOST_PLACES + 1 - FEWEST_PLACES);
+    let mut session = Session::with_places(places);
     let mut book = BookSession::default();
-    let mut session = Session::new();
+    let lengths = Memory::with_places(places)
+        .store
+        .map(|part| part.len() as u32);
+    book.make(&Call::Lend(lengths));
+    book.make(&Call::Empty);
     let all = steps(&script);
     let whole = all.iter().filter(|step| step.lack.is_none());
     for (at, step) in whole.enumerate() {
@@ -158,7 +191,7 @@ fn run_owned(seed: u64) -> Result<(), String> {
         }
         let answer = make_owned(&mut session, &step.call);
         let answer = answer.map(|standing| (standing, Record::Nothing));
-        compare(&mut book, step, &answer).map_err(|text| told(at, step, &text))?;
+        compare(&mut book, &step.call, &answer).map_err(|text| told(at, step, &text))?;
         let expected = book.book().standing();
         let standing = session.standing();
         if (standing.orders, standing.bytes) != (expected.orders, expected.bytes) {

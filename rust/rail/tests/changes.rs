@@ -3,13 +3,13 @@
 
 mod common;
 
-use common::steps;
+use common::{lend_to_book, steps};
 use rail::{CacheCell, Change, Changed, NotifyIconId, WindowId};
 use second::generate::session::script;
 use second::order::CellPlace;
 use second::script::parts::Parts;
 use second::script::session::{Call, Session as BookSession};
-use second::table::Table;
+use second::table::{Holder, Table};
 
 const SEEDS: u64 = 200;
 const CALLS: usize = 300;
@@ -28,13 +28,20 @@ impl Differences {
         let tables = [before, after];
         let windows = tables.iter().flat_map(|table| table.window_ids());
         let icons = tables.iter().flat_map(|table| table.icon_ids());
+        let shown = |holder| before.shown(holder) != after.shown(holder);
         Self {
             windows: windows
-                .filter(|&id| before.window(id) != after.window(id))
+                .filter(|&id| {
+                    let pictures = [Holder::Small(id), Holder::Big(id)];
+                    before.window(id) != after.window(id) || pictures.into_iter().any(shown)
+                })
                 .map(|id| id.0)
                 .collect(),
             icons: icons
-                .filter(|&(window, icon)| before.icon(window, icon) != after.icon(window, icon))
+                .filter(|&(window, icon)| {
+                    before.icon(window, icon) != after.icon(window, icon)
+                        || shown(Holder::Notification(window, icon))
+                })
                 .map(|(window, icon)| (window.0, icon.0))
                 .collect(),
             cells: CacheCell::all()
@@ -106,7 +113,8 @@ fn all_that_changed_is_told() {
         let mut book = BookSession::default();
         for step in steps(&script) {
             let before = book.book().table().clone();
-            if step.lack.is_some() || book.make(&step.call) != Some(0) {
+            lend_to_book(&mut book, &step);
+            if book.make(&step.call) != Some(0) {
                 continue;
             }
             let Call::Deliver(order) = step.call else {

@@ -90,6 +90,7 @@ fn refused_records() {
 #[test]
 fn lent_memory() {
     let mut memory = Memory::new();
+    memory.lend().reset().unwrap();
     memory.lend().deliver(&WINDOW).unwrap();
     let mut out = [0xEE; RECORD_LIMIT];
     let standing = memory.view().record_bytes(&mut out).unwrap();

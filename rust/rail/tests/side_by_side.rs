@@ -3,7 +3,7 @@
 
 mod common;
 
-use common::{lend, make, number_of, steps, Record};
+use common::{make, number_of, steps, Record};
 use rail::Memory;
 use second::generate::random::Random;
 use second::generate::session::{may_change_places, pair, pair_for_one, script};
@@ -26,7 +26,7 @@ fn delivered(
     lookups: &[Call<'_>],
 ) -> ([u8; 2], Vec<Option<Record>>) {
     let mut memory = memory.clone();
-    let mut lent = lend(&mut memory, None);
+    let mut lent = memory.lend();
     let numbers = orders.map(|order| match lent.deliver(order) {
         Ok(_) => 0,
         Err(refusal) => refusal.number(),
@@ -90,7 +90,7 @@ fn states(mut each: impl FnMut(&Memory, &BookSession, &mut Random)) {
 
 #[test]
 fn orders_for_different_windows_change_places() {
-    let mut numbers = [0; 13];
+    let mut numbers = [0; 18];
     let mut tried = 0;
     states(|memory, book, random| {
         let book = book.book();

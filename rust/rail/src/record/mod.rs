@@ -1,6 +1,7 @@
 //! Records that lookups hand out, from bytes with each field at its place.
 
 mod desktop;
+pub(crate) mod holder;
 pub(crate) mod lists;
 mod notification;
 mod picture;
@@ -8,6 +9,7 @@ mod reader;
 mod window;
 
 pub use desktop::Desktop;
+pub use holder::Holder;
 pub use notification::NotificationIcon;
 pub use picture::Picture;
 pub use window::{ShowState, Window};

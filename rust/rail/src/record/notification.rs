@@ -4,7 +4,7 @@ use alloc::string::String;
 use alloc::vec::Vec;
 
 use super::reader::Reader;
-use super::CacheCell;
+use super::Picture;
 
 /// A notification icon as the table has it. A field that no order has set is zero or
 /// empty.
@@ -19,8 +19,8 @@ pub struct NotificationIcon {
     pub balloon_info_flags: u32,
     /// The icon's state (State).
     pub state: u32,
-    /// The cell that has the picture.
-    pub icon: Option<CacheCell>,
+    /// The picture last given to it, whatever its cell has now.
+    pub icon: Option<Picture>,
     tool_tip: Vec<u16>,
     balloon_text: Vec<u16>,
     balloon_title: Vec<u16>,
@@ -28,7 +28,9 @@ pub struct NotificationIcon {
 
 impl NotificationIcon {
     /// The bytes in which a lookup hands it out.
-    pub const SIZE: usize = 916;
+    pub const SIZE: usize = Self::FIELDS + Picture::SIZE;
+    /// Those before its picture.
+    const FIELDS: usize = 916;
     /// The most bytes of the texts.
     const TOOL_TIP: usize = 256;
     const BALLOON_TEXT: usize = 510;
@@ -66,10 +68,9 @@ impl NotificationIcon {
 
     pub(crate) fn of(bytes: &[u8; Self::SIZE]) -> Self {
         let mut from = Reader(bytes);
-        let icon = from.cell();
+        let shows_icon = from.yes();
         from.u8(); // zero
         Self {
-            icon,
             version: from.u32(),
             tool_tip: from.text(Self::TOOL_TIP),
             balloon_timeout: from.u32(),
@@ -77,6 +78,7 @@ impl NotificationIcon {
             balloon_text: from.text(Self::BALLOON_TEXT),
             balloon_title: from.text(Self::BALLOON_TITLE),
             state: from.u32(),
+            icon: from.picture(shows_icon),
         }
     }
 }
@@ -96,21 +98,26 @@ mod tests {
     fn fields_by_place() {
         let mut bytes = [0; NotificationIcon::SIZE];
         let mut put = |at: usize, field: &[u8]| bytes[at..at + field.len()].copy_from_slice(field);
-        put(0, &[7]);
+        put(0, &[1]);
         put(2, &[4, 0, 0, 0]);
         put(6, &[2, 0, 0x61, 0]);
         put(264, &[1, 0, 0, 0, 2, 0, 0, 0]);
         put(272, &[4, 0, 0x62, 0, 0x63, 0]);
         put(784, &[2, 0, 0x64, 0]);
         put(912, &[3, 0, 0, 0x80]);
+        put(916, &[24, 1, 0, 1, 0, 0, 0, 3, 0, 1, 2, 3]);
         let icon = NotificationIcon {
             version: 4,
             balloon_timeout: 1,
             balloon_info_flags: 2,
             state: 0x8000_0003,
-            icon: Some(CacheCell {
-                cache_id: 1,
-                cache_entry: 0,
+            icon: Some(Picture {
+                bits_per_pixel: 24,
+                width: 1,
+                height: 1,
+                mask: vec![],
+                color_table: vec![],
+                color: vec![1, 2, 3],
             }),
             tool_tip: vec![0x61],
             balloon_text: vec![0x62, 0x63],
@@ -123,5 +130,7 @@ mod tests {
         assert_eq!(icon.tool_tip_utf16(), [0x61]);
         assert_eq!(icon.balloon_text_utf16(), [0x62, 0x63]);
         assert_eq!(icon.balloon_title_utf16(), [0x64]);
+        bytes[0] = 0;
+        assert_eq!(NotificationIcon::of(&bytes).icon, None);
     }
 }

@@ -1,10 +1,11 @@
-//! Pictures of the icon cache.
+//! Pictures of icons.
 
 use alloc::vec::Vec;
 
 use super::reader::Reader;
 
-/// The picture in a filled cell (TS_ICON_INFO from Bpp on).
+/// The picture that a window or a notification icon shows, or that a filled cell of the icon
+/// cache has (TS_ICON_INFO from Bpp on).
 #[derive(Clone, Debug, Default, PartialEq, Eq)]
 #[non_exhaustive]
 pub struct Picture {

@@ -2,7 +2,7 @@
 
 use alloc::vec::Vec;
 
-use super::{CacheCell, Point, Rectangle, Size};
+use super::{Picture, Point, Rectangle, Size};
 use crate::ids::WindowId;
 use crate::text::units;
 
@@ -59,14 +59,10 @@ impl<'a> Reader<'a> {
         Size { width, height }
     }
 
-    /// 0 for none, else 1 + 6 * cache + entry.
-    pub(super) fn cell(&mut self) -> Option<CacheCell> {
-        let entries = CacheCell::ENTRIES as u8;
-        let number = self.u8().checked_sub(1)?;
-        Some(CacheCell {
-            cache_id: number / entries,
-            cache_entry: (number % entries).into(),
-        })
+    /// The picture that is shown, or zeros in its place.
+    pub(super) fn picture(&mut self, shown: bool) -> Option<Picture> {
+        let bytes = self.array();
+        shown.then(|| Picture::of(&bytes))
     }
 
     /// A length in bytes, and UTF-16 in a room of that many bytes.
@@ -105,20 +101,13 @@ mod tests {
     use super::*;
 
     #[test]
-    fn cells_by_their_number() {
-        let cell = |number| Reader(&[number]).cell();
-        let at = |cache_id, cache_entry| CacheCell {
-            cache_id,
-            cache_entry,
-        };
-        assert_eq!(cell(0), None);
-        assert_eq!(cell(1), Some(at(0, 0)));
-        assert_eq!(cell(6), Some(at(0, 5)));
-        assert_eq!(cell(7), Some(at(1, 0)));
-        assert_eq!(cell(12), Some(at(1, 5)));
-        let all: Vec<CacheCell> = CacheCell::all().collect();
-        let numbered: Vec<CacheCell> = (1..=12).filter_map(cell).collect();
-        assert_eq!(all, numbered);
+    fn pictures_where_they_are_shown() {
+        let mut bytes = [0; 2 * Picture::SIZE];
+        bytes[0] = 32;
+        let mut reader = Reader(&bytes);
+        assert_eq!(reader.picture(true).map(|it| it.bits_per_pixel), Some(32));
+        assert_eq!(reader.picture(false), None);
+        assert!(reader.0.is_empty());
     }
 
     #[test]

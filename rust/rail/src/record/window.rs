@@ -4,7 +4,7 @@ use alloc::string::String;
 use alloc::vec::Vec;
 
 use super::reader::Reader;
-use super::{CacheCell, Point, Rectangle, Size};
+use super::{Picture, Point, Rectangle, Size};
 use crate::ids::WindowId;
 
 /// How a window is shown.
@@ -68,16 +68,18 @@ pub struct Window {
     pub visible_offset: Point,
     /// The visible region, in window coordinates (VisibilityRects).
     pub visibility_rects: Vec<Rectangle>,
-    /// The cell that has the small icon.
-    pub small_icon: Option<CacheCell>,
-    /// The cell that has the big icon.
-    pub big_icon: Option<CacheCell>,
+    /// The small icon: the picture last given to the window, whatever its cell has now.
+    pub small: Option<Picture>,
+    /// The big icon, as the small one.
+    pub big: Option<Picture>,
     title: Vec<u16>,
 }
 
 impl Window {
     /// The bytes in which a lookup hands it out.
-    pub const SIZE: usize = 850;
+    pub const SIZE: usize = Self::FIELDS + 2 * Picture::SIZE;
+    /// Those before its pictures.
+    const FIELDS: usize = 850;
     /// The most bytes of a title.
     const TITLE: usize = 520;
 
@@ -93,11 +95,9 @@ impl Window {
 
     pub(crate) fn of(bytes: &[u8; Self::SIZE]) -> Self {
         let mut from = Reader(bytes);
-        let small_icon = from.cell();
-        let big_icon = from.cell();
+        let shows_small = from.yes();
+        let shows_big = from.yes();
         Self {
-            small_icon,
-            big_icon,
             owner: from.window_id(),
             style: from.u32(),
             extended_style: from.u32(),
@@ -113,6 +113,8 @@ impl Window {
             window_rects: from.rectangles(),
             visible_offset: from.point(),
             visibility_rects: from.rectangles(),
+            small: from.picture(shows_small),
+            big: from.picture(shows_big),
         }
     }
 }
@@ -135,8 +137,8 @@ mod tests {
 
     /// A record with every field at its place in the layout.
     fn laid_out() -> [u8; Window::SIZE] {
-        let fields: [(usize, &[u8]); 13] = [
-            (0, &[3, 12]),
+        let fields: [(usize, &[u8]); 15] = [
+            (0, &[1, 1]),
             (2, &[2, 0, 0, 0]),
             (6, &[6, 0, 0, 0, 10, 0, 0, 0, 5]),
             (15, &[4, 0, 0x41, 0, 0x00, 0xD8]),
@@ -149,6 +151,8 @@ mod tests {
             (582, &[1, 0, 1, 0, 2, 0, 3, 0, 4, 0]),
             (712, &[12, 0, 0, 0, 13, 0, 0, 0]),
             (720, &[1, 0, 5, 0, 6, 0, 7, 0, 8, 0]),
+            (850, &[24, 1, 0, 1, 0, 0, 0, 3, 0, 1, 2, 3]),
+            (5_085, &[16, 1, 0, 2, 0, 1, 0, 0, 0, 9]),
         ];
         let mut bytes = [0; Window::SIZE];
         for (at, field) in fields {
@@ -171,10 +175,14 @@ mod tests {
         Size { width, height }
     }
 
-    fn cell(cache_id: u8, cache_entry: u16) -> Option<CacheCell> {
-        Some(CacheCell {
-            cache_id,
-            cache_entry,
+    fn picture(bits_per_pixel: u8, height: u16, mask: &[u8], color: &[u8]) -> Option<Picture> {
+        Some(Picture {
+            bits_per_pixel,
+            width: 1,
+            height,
+            mask: mask.to_vec(),
+            color_table: vec![],
+            color: color.to_vec(),
         })
     }
 
@@ -195,12 +203,21 @@ mod tests {
             window_rects: vec![rectangle(1)],
             visible_offset: Point { x: 12, y: 13 },
             visibility_rects: vec![rectangle(5)],
-            small_icon: cell(0, 2),
-            big_icon: cell(1, 5),
+            small: picture(24, 1, &[], &[1, 2, 3]),
+            big: picture(16, 2, &[9], &[]),
             title: vec![0x41, 0xD800],
         };
         assert_eq!(Window::of(&laid_out()), window);
         assert_eq!(window.title(), "A\u{FFFD}");
         assert_eq!(window.title_utf16(), [0x41, 0xD800]);
+        for at in 0..2 {
+            let mut bytes = laid_out();
+            bytes[at] = 0;
+            let found = Window::of(&bytes);
+            assert_eq!(
+                (found.small.is_none(), found.big.is_none()),
+                (at == 0, at == 1)
+            );
+        }
     }
 }

@@ -2,20 +2,27 @@
 
 use std::fmt::Debug;
 
-use rail::{CacheCell, Desktop, NotificationIcon, Picture, Point, Rectangle, Size, Window};
+use rail::{Desktop, NotificationIcon, Picture, Point, Rectangle, Size, Window};
 use second::ids::WindowId;
-use second::order::CellPlace;
 use second::script::session::Call;
-use second::table::{self, Table};
+use second::table::{self, Holder, Table};
 
 use super::Record;
 
 /// Whether the record of a granted call is what the table has; else a text.
 pub fn found(table: &Table, call: &Call<'_>, record: &Record) -> Result<(), String> {
     match (call, record) {
-        (Call::Window(id), Record::Window(found)) => same(table.window(*id), window(found)),
+        (Call::Window(id), Record::Window(found)) => {
+            same(table.window(*id), window(found))?;
+            shown(table, Holder::Small(*id), &found.small)?;
+            shown(table, Holder::Big(*id), &found.big)
+        }
         (Call::Icon(window, id), Record::NotificationIcon(found)) => {
-            same(table.icon(*window, *id), icon(found))
+            same(table.icon(*window, *id), icon(found))?;
+            shown(table, Holder::Notification(*window, *id), &found.icon)
+        }
+        (Call::Shared(one, other), Record::Shared(found)) => {
+            same(table.store().shared(*one, *other).as_ref(), *found)
         }
         (Call::Cell(place), Record::Picture(found)) => same(table.cell(*place), cell(found)),
         (Call::Lists, Record::Lists(windows, icons)) => same(
@@ -36,6 +43,15 @@ fn same<T: PartialEq + Debug>(expected: Option<&T>, found: T) -> Result<(), Stri
         Some(expected) if *expected == found => Ok(()),
         _ => Err(format!("found {found:?}, the book has {expected:?}")),
     }
+}
+
+/// Whether a holder shows that picture.
+fn shown(table: &Table, holder: Holder, found: &Option<Picture>) -> Result<(), String> {
+    let found = found.as_ref().map(cell);
+    if table.shown(holder) == found.as_ref() {
+        return Ok(());
+    }
+    Err(format!("{holder:?} shows another picture: {found:?}"))
 }
 
 type Lists = (Vec<u32>, Vec<(u32, u32)>);
@@ -62,8 +78,6 @@ fn window(found: &Window) -> table::Window {
         window_rects: rects(&found.window_rects),
         visible_offset: pair(found.visible_offset),
         visibility_rects: rects(&found.visibility_rects),
-        small_icon: found.small_icon.map(place),
-        big_icon: found.big_icon.map(place),
     }
 }
 
@@ -76,7 +90,6 @@ fn icon(found: &NotificationIcon) -> table::NotificationIcon {
         balloon_text: bytes(found.balloon_text_utf16()),
         balloon_title: bytes(found.balloon_title_utf16()),
         state: found.state,
-        picture: found.icon.map(place),
     }
 }
 
@@ -120,11 +133,4 @@ fn rects(list: &[Rectangle]) -> Vec<table::Rect> {
         bottom: side.bottom,
     };
     list.iter().map(rect).collect()
-}
-
-fn place(cell: CacheCell) -> CellPlace {
-    CellPlace {
-        cache: cell.cache_id,
-        entry: cell.cache_entry,
-    }
 }

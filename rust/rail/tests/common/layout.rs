@@ -1,16 +1,25 @@
 //! The bytes that a lookup writes, from the second program's records: each field at its
 //! place, and zeros after its end.
 
-use second::order::CellPlace;
 use second::script::session::Call;
-use second::table::{Cell, Desktop, NotificationIcon, Rect, Table, Window};
+use second::table::{Cell, Desktop, Holder, NotificationIcon, Rect, Table, Window};
 
 /// The bytes of what a lookup finds; none for another call.
 pub fn bytes(table: &Table, call: &Call<'_>) -> Option<Vec<u8>> {
     let mut to = Writer(Vec::new());
     let size = match *call {
-        Call::Window(id) => to.window(table.window(id)?),
-        Call::Icon(window, icon) => to.icon(table.icon(window, icon)?),
+        Call::Window(id) => {
+            let pictures = [Holder::Small(id), Holder::Big(id)].map(|it| table.shown(it));
+            to.window(table.window(id)?, pictures)
+        }
+        Call::Icon(window, icon) => {
+            let picture = table.shown(Holder::Notification(window, icon));
+            to.icon(table.icon(window, icon)?, picture)
+        }
+        Call::Shared(one, other) => {
+            to.0.push(table.store().shared(one, other)?.into());
+            1
+        }
         Call::Cell(place) => to.cell(table.cell(place)?),
         Call::Desktop => to.desktop(table.desktop()),
         Call::Lists => to.lists(table),
@@ -34,9 +43,8 @@ impl Writer {
         264
     }
 
-    fn window(&mut self, window: &Window) -> usize {
-        self.place(window.small_icon);
-        self.place(window.big_icon);
+    fn window(&mut self, window: &Window, pictures: [Option<&Cell>; 2]) -> usize {
+        self.0.extend(pictures.map(|it| u8::from(it.is_some())));
         self.numbers(&[window.owner.0, window.style, window.extended_style]);
         self.0.push(window.show_state);
         self.text(&window.title, 537);
@@ -50,19 +58,22 @@ impl Writer {
         self.rects(&window.window_rects, 712);
         self.point(window.visible_offset);
         self.rects(&window.visibility_rects, 850);
-        850
+        for (picture, next) in pictures.into_iter().zip([5_085, 9_320]) {
+            self.picture(picture, next);
+        }
+        9_320
     }
 
-    fn icon(&mut self, icon: &NotificationIcon) -> usize {
-        self.place(icon.picture);
-        self.0.push(0);
+    fn icon(&mut self, icon: &NotificationIcon, picture: Option<&Cell>) -> usize {
+        self.0.extend([picture.is_some().into(), 0]);
         self.numbers(&[icon.version]);
         self.text(&icon.tip, 264);
         self.numbers(&[icon.balloon_timeout, icon.balloon_flags]);
         self.text(&icon.balloon_text, 784);
         self.text(&icon.balloon_title, 912);
         self.numbers(&[icon.state]);
-        916
+        self.picture(picture, 5_151);
+        5_151
     }
 
     fn cell(&mut self, cell: &Cell) -> usize {
@@ -109,9 +120,12 @@ impl Writer {
         self.numbers(&[x, y]);
     }
 
-    fn place(&mut self, place: Option<CellPlace>) {
-        let number = place.map_or(0, |place| 1 + 6 * u16::from(place.cache) + place.entry);
-        self.0.push(number as u8);
+    /// A picture that is shown, and zeros to the place of what comes next.
+    fn picture(&mut self, picture: Option<&Cell>, next: usize) {
+        if let Some(picture) = picture {
+            self.cell(picture);
+        }
+        self.0.resize(next, 0);
     }
 
     /// A text, and zeros to the place of what comes next.

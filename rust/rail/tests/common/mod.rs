@@ -5,40 +5,57 @@ mod alike;
 pub mod layout;
 
 use rail::{
-    CacheCell, Desktop, LentSession, Memory, NotificationIcon, NotifyIconId, Picture, Refusal,
-    Report, Standing, View, Window, WindowId, LIST_SIZE,
+    CacheCell, Desktop, Holder, LentSession, Memory, NotificationIcon, NotifyIconId, Picture,
+    Refusal, Report, Standing, View, Window, WindowId, BODIES_SIZE, INDEX_SIZE, JOURNAL_SIZE,
+    LIST_SIZE, STORE_PARTS,
 };
 use second::order::CellPlace;
-use second::script::parts::Parts;
+use second::script::parts::{Parts, StoreLengths, FIRST_LENGTHS, PART_LIMIT};
 use second::script::session::{call, Call, Session as BookSession};
 use second::script::take_item;
+use second::table;
 
-/// A part and how many bytes it is lent too short.
+/// The lengths needed of the index, the bodies and the journal.
+pub const SIZES: [usize; 3] = [INDEX_SIZE, BODIES_SIZE, JOURNAL_SIZE];
+
+/// A part (0 the index, 1 the bodies, 2 the journal) and how many bytes it is lent too short.
 pub type Lack = (usize, usize);
 
-/// A call of a list, and what its memory lacks.
+/// A call of a list, what its memory lacks, and the lengths in which it is lent the store.
 pub struct Step<'a> {
     pub call: Call<'a>,
     pub lack: Option<Lack>,
+    pub store: StoreLengths,
 }
 
 /// The calls of a script up to a bad item.
 pub fn steps(script: &[u8]) -> Vec<Step<'_>> {
     let parts = Parts::default();
     let mut steps = Vec::new();
-    let mut lack = None;
+    let (mut lengths, mut lack, mut shorter) = (FIRST_LENGTHS, None, None);
     let mut rest = script;
     while let Some((item, tail)) = take_item(rest) {
         rest = tail;
         match (call(item, &parts), item.payload) {
             (Some(Call::Shorten), &[part, low, high]) => {
                 lack = Some((part.into(), u16::from_le_bytes([low, high]).into()));
+                shorter = None;
             }
+            (Some(Call::ShortenStore(part, missing)), _) => {
+                (lack, shorter) = (None, Some((part, missing)));
+            }
+            (Some(Call::Lend(lent)), _) => lengths = lent,
             // no state call: tests/session_record.rs has them
             (Some(Call::ReadRecord(_)), _) => {}
+            // what the memory holds is for the program alone
+            (Some(Call::Dump | Call::Fault | Call::FaultStore(..)), _) => {}
             (Some(call), _) => {
+                let mut store = lengths;
+                if let Some((part, missing)) = shorter.take() {
+                    store[part] = store[part].saturating_sub(missing.into());
+                }
                 let lack = lack.take();
-                steps.push(Step { call, lack });
+                steps.push(Step { call, lack, store });
             }
             (None, _) => break,
         }
@@ -46,29 +63,34 @@ pub fn steps(script: &[u8]) -> Vec<Step<'_>> {
     steps
 }
 
-/// Lends memory, less what it is to lack.
-pub fn lend(memory: &mut Memory, lack: Option<Lack>) -> LentSession<'_> {
-    let lengths = lengths(memory);
-    let lent = |part: usize| match lack {
-        Some((at, missing)) if at == part => lengths[part] - missing,
-        _ => lengths[part],
-    };
-    LentSession::new(
-        &mut memory.directory[..lent(0)],
-        &mut memory.bodies[..lent(1)],
-        &mut memory.cells[..lent(2)],
-        &mut memory.journal[..lent(3)],
-    )
+/// Memory whose store can be lent in parts of any listed lengths.
+pub fn memory() -> Memory {
+    Memory::with_sizes(SIZES, [PART_LIMIT as usize; STORE_PARTS])
 }
 
-/// The lengths of the parts.
-pub fn lengths(memory: &Memory) -> [usize; 4] {
-    [
-        memory.directory.len(),
-        memory.bodies.len(),
-        memory.cells.len(),
-        memory.journal.len(),
-    ]
+/// Lends memory, less what it is to lack, with so much of the store.
+pub fn lend<'a>(
+    memory: &'a mut Memory,
+    lack: Option<Lack>,
+    store: &StoreLengths,
+) -> LentSession<'a> {
+    let lent = |part: usize, length: usize| match lack {
+        Some((at, missing)) if at == part => length - missing,
+        _ => length,
+    };
+    let [index, bodies, journal] =
+        [&memory.index, &memory.bodies, &memory.journal].map(|p| p.len());
+    let mut lengths = store.iter();
+    let parts = memory.store.each_mut().map(|part| {
+        let length = lengths.next().map_or(0, |&length| length as usize);
+        &mut part[..length]
+    });
+    LentSession::new(
+        &mut memory.index[..lent(0, index)],
+        &mut memory.bodies[..lent(1, bodies)],
+        parts,
+        &mut memory.journal[..lent(2, journal)],
+    )
 }
 
 /// What a call hands out besides its standing.
@@ -82,6 +104,7 @@ pub enum Record {
     Report(Report),
     Lists(Vec<WindowId>, Vec<(WindowId, NotifyIconId)>),
     Session(Vec<u8>),
+    Shared(bool),
 }
 
 /// What a call answers.
@@ -133,7 +156,17 @@ pub fn make(lent: &mut LentSession<'_>, call: &Call<'_>) -> Answer {
             assert!(past.iter().all(|&byte| byte == 0xEE));
             Ok((standing, Record::Session(out)))
         }
-        Call::ReadRecord(_) | Call::Shorten | Call::Fault => unreachable!("steps have calls only"),
+        Call::Shared(one, other) => {
+            let found = lent.view().shared(holder(one), holder(other))?;
+            Ok((found.standing, Record::Shared(found.record)))
+        }
+        Call::ReadRecord(_)
+        | Call::Shorten
+        | Call::ShortenStore(..)
+        | Call::Fault
+        | Call::FaultStore(..)
+        | Call::Lend(_)
+        | Call::Dump => unreachable!("steps have calls only"),
     }
 }
 
@@ -141,6 +174,22 @@ fn cache_cell(place: CellPlace) -> CacheCell {
     CacheCell {
         cache_id: place.cache,
         cache_entry: place.entry,
+    }
+}
+
+/// A holder as the crate has it. A cell whose numbers are too great for one becomes another
+/// outside the caches.
+fn holder(holder: table::Holder) -> Holder {
+    match holder {
+        table::Holder::Cell(cache, entry) => Holder::Cell(CacheCell {
+            cache_id: cache.try_into().unwrap_or(u8::MAX),
+            cache_entry: entry.try_into().unwrap_or(u16::MAX),
+        }),
+        table::Holder::Small(id) => Holder::Small(WindowId(id.0)),
+        table::Holder::Big(id) => Holder::Big(WindowId(id.0)),
+        table::Holder::Notification(window, icon) => {
+            Holder::NotificationIcon(WindowId(window.0), NotifyIconId(icon.0))
+        }
     }
 }
 
@@ -157,6 +206,7 @@ pub fn look_up(
         }
         Call::Cell(place) => view.picture_bytes(cache_cell(place), out),
         Call::Desktop => view.desktop_bytes(out),
+        Call::Shared(one, other) => view.shared_bytes(holder(one), holder(other), out),
         Call::Lists => {
             let (windows, icons) = out.split_at_mut(LIST_SIZE);
             let answer = view.window_ids_bytes(windows);
@@ -166,12 +216,17 @@ pub fn look_up(
     })
 }
 
-/// Makes the call on the book too and compares; a text where they differ.
-pub fn compare(book: &mut BookSession, step: &Step<'_>, answer: &Answer) -> Result<(), String> {
+/// Lends to the book what the step is lent.
+pub fn lend_to_book(book: &mut BookSession, step: &Step<'_>) {
+    book.make(&Call::Lend(step.store));
     if step.lack.is_some() {
         book.make(&Call::Shorten);
     }
-    let number = book.make(&step.call).expect("a call has a number");
+}
+
+/// Makes the call on the book too and compares; a text where they differ.
+pub fn compare(book: &mut BookSession, call: &Call<'_>, answer: &Answer) -> Result<(), String> {
+    let number = book.make(call).expect("a call has a number");
     let answered = number_of(answer);
     if answered != number {
         return Err(format!("answers {answered}, the book {number}"));
@@ -196,7 +251,7 @@ pub fn compare(book: &mut BookSession, step: &Step<'_>, answer: &Answer) -> Resu
         }
         return Ok(());
     }
-    alike::found(book.book().table(), &step.call, record)
+    alike::found(book.book().table(), call, record)
 }
 
 /// The number of an answer; of an update the last one.

@@ -3,14 +3,15 @@
 //! refusal or a lookup changes no byte, calls agree on whether memory is well formed, and
 //! an emptying makes all good again.
 
-use rail::{Memory, Refusal};
+use rail::{Memory, Refusal, FEWEST_PLACES, STORE_PARTS};
 use second::generate::random::Random;
 use second::generate::session::script;
-use second::script::parts::Parts;
+use second::script::parts::{places, Parts, StoreLengths, FIRST_LENGTHS};
 use second::script::session::{Call, Session as BookSession};
 
 use crate::common::{
-    compare, lend, lengths, make, may_change, number_of, steps, Answer, Lack, Step,
+    compare, lend, lend_to_book, make, may_change, memory, number_of, steps, Answer, Lack, Step,
+    SIZES,
 };
 
 /// Faults between an emptying and the next.
@@ -54,8 +55,9 @@ pub fn run(seed: u64) -> Result<Tally, String> {
     let calls = steps(&script);
     let mut run = Run {
         random: Random::new(!seed),
-        memory: Memory::new(),
+        memory: memory(),
         lack: None,
+        store: None,
         tally: Tally::default(),
     };
     run.check(&reset())?;
@@ -79,8 +81,16 @@ pub fn run(seed: u64) -> Result<Tally, String> {
 }
 
 fn reset() -> Step<'static> {
-    let call = Call::Empty;
-    Step { call, lack: None }
+    alone(Call::Empty)
+}
+
+/// A call that is lent all that it needs.
+fn alone(call: Call<'static>) -> Step<'static> {
+    Step {
+        call,
+        lack: None,
+        store: FIRST_LENGTHS,
+    }
 }
 
 struct Run {
@@ -88,6 +98,8 @@ struct Run {
     memory: Memory,
     /// What memory lacks until the emptying.
     lack: Option<Lack>,
+    /// In what lengths the store is lent until then, if not in those of the step.
+    store: Option<StoreLengths>,
     tally: Tally,
 }
 
@@ -100,10 +112,11 @@ impl Run {
     fn answer(&mut self, step: &Step<'_>) -> Result<Answer, String> {
         let before = self.memory.clone();
         let lack = step.lack.or(self.lack);
-        let answer = make(&mut lend(&mut self.memory, lack), &step.call);
+        let store = self.store.unwrap_or(step.store);
+        let answer = make(&mut lend(&mut self.memory, lack, &store), &step.call);
         self.tally.calls += 1;
         let told = |text: &str| Err(format!("{:02x?}: {text}: {answer:?}", step.call));
-        if !may_answer(&step.call, &answer, lack.is_some()) {
+        if !may_answer(&step.call, &answer, lack, &store) {
             return told("answers a number that is not listed for it");
         }
         let changes = answer.is_ok() && may_change(&step.call);
@@ -111,7 +124,7 @@ impl Run {
             return told("changes memory that it must leave alone");
         }
         // An undo of 0 changes nothing and is refused on unfit memory only.
-        let after = lend(&mut self.memory, lack).undo(0);
+        let after = lend(&mut self.memory, lack, &store).undo(0);
         let agrees = match &answer {
             Ok((standing, _)) => after == Ok(*standing),
             Err(refusal) => after.is_err() == (*refusal == Refusal::UnfitMemory),
@@ -143,19 +156,20 @@ impl Run {
             2 => Call::Deliver(&[0x2E, 7, 0, 2, 0, 0, 4]),
             _ => Call::Desktop,
         };
-        Step { call, lack: None }
+        alone(call)
     }
 
     /// After an emptying the same calls answer as the book does.
     fn is_good_again(&mut self, calls: &[Step<'_>]) -> Result<(), String> {
-        self.lack = None;
+        (self.lack, self.store) = (None, None);
         if self.answer(&reset())?.is_err() {
             return Err("an emptying is refused".into());
         }
         let mut book = BookSession::default();
         for step in calls.iter().take(AGAIN) {
             let answer = self.answer(step)?;
-            compare(&mut book, step, &answer)
+            lend_to_book(&mut book, step);
+            compare(&mut book, &step.call, &answer)
                 .map_err(|text| format!("after an emptying, {:02x?}: {text}", step.call))?;
             self.tally.compared += 1;
         }
@@ -166,28 +180,31 @@ impl Run {
     fn strew(&mut self, older: &Memory) {
         self.tally.faults += 1;
         let random = &mut self.random;
-        let lengths = lengths(&self.memory);
-        let part = random.below(4);
+        let part = random.below(SIZES.len() + STORE_PARTS);
         let sort = random.below(20);
         if sort == 0 {
-            self.lack = Some((part, 1 + random.below(lengths[part])));
+            match part.checked_sub(SIZES.len()) {
+                None => self.lack = Some((part, 1 + random.below(SIZES[part]))),
+                Some(part) => {
+                    let mut store = FIRST_LENGTHS;
+                    store[part] = random.below(store[part] as usize) as u32;
+                    self.store = Some(store);
+                }
+            }
             return;
         }
-        let of = |memory: &mut Memory, part: usize| match part {
-            0 => std::mem::take(&mut memory.directory),
-            1 => std::mem::take(&mut memory.bodies),
-            2 => std::mem::take(&mut memory.cells),
-            _ => std::mem::take(&mut memory.journal),
-        };
-        let mut bytes = of(&mut self.memory, part);
-        let older = of(&mut older.clone(), part);
-        strew_part(random, sort, &mut bytes, &older);
-        match part {
-            0 => self.memory.directory = bytes,
-            1 => self.memory.bodies = bytes,
-            2 => self.memory.cells = bytes,
-            _ => self.memory.journal = bytes,
-        }
+        let older = part_of(&mut older.clone(), part).clone();
+        strew_part(random, sort, part_of(&mut self.memory, part), &older);
+    }
+}
+
+/// A part by its number: index, bodies, journal, then those of the store.
+fn part_of(memory: &mut Memory, part: usize) -> &mut Box<[u8]> {
+    match part {
+        0 => &mut memory.index,
+        1 => &mut memory.bodies,
+        2 => &mut memory.journal,
+        _ => &mut memory.store[part - SIZES.len()],
     }
 }
 
@@ -216,14 +233,14 @@ fn strew_part(random: &mut Random, sort: usize, bytes: &mut [u8], older: &[u8]) 
 }
 
 /// Whether a number is listed for a call, whatever its memory holds.
-fn may_answer(call: &Call<'_>, answer: &Answer, lacks: bool) -> bool {
+fn may_answer(call: &Call<'_>, answer: &Answer, lack: Option<Lack>, store: &StoreLengths) -> bool {
     let number = number_of(answer);
-    if lacks {
+    if lack.is_some() || places(store) < FEWEST_PLACES {
         return number == 1;
     }
     match call {
         Call::Empty => number == 0,
-        Call::Deliver(_) | Call::Update(..) => number <= 12,
+        Call::Deliver(_) | Call::Update(..) => number <= 12 || number == 17,
         Call::WriteRecord(_) => [0, 1, 14].contains(&number),
         Call::Mark | Call::Desktop | Call::Lists => number <= 1,
         Call::StepBack(_) => [0, 1, 13].contains(&number),

@@ -1,22 +1,26 @@
 //! A session that owns its memory.
 
+mod listed;
+
+pub use listed::{NotificationIcons, Windows};
+
 use alloc::collections::BTreeSet;
-use alloc::vec;
 use alloc::vec::Vec;
 
 use crate::answer::{Refusal, Standing};
 use crate::ids::{NotifyIconId, WindowId};
-use crate::memory::Memory;
+use crate::memory::{Memory, FEWEST_PLACES, MOST_PLACES};
 use crate::order::{orders, Change, Changed};
-use crate::record::{CacheCell, Desktop, NotificationIcon, Picture, Window};
+use crate::record::{CacheCell, Desktop, Holder, NotificationIcon, Picture, Window};
 use crate::session_record;
 use crate::update::{Report, Taken};
 
 /// What the orders of a server make of the terminal's table: windows, notification
 /// icons, icon cache and desktop.
 ///
-/// It owns its memory, about 126 KiB, which is well formed from the start and stays
-/// so: [`Refusal::UnfitMemory`] does not come here.
+/// It owns its memory, which is well formed from the start and stays so:
+/// [`Refusal::UnfitMemory`] does not come here. That is about 78 KiB, and 4,224 bytes for
+/// each place of the store of pictures, 342 KiB in all with 64 places.
 ///
 /// ```
 /// use rail::{Refusal, Session, WindowId};
@@ -55,11 +59,38 @@ fn granted<T>(answer: Result<T, Refusal>) -> T {
 }
 
 impl Session {
-    /// An empty table.
+    /// An empty table, with the most places for pictures, [`MOST_PLACES`].
     pub fn new() -> Self {
-        let mut memory = Memory::new();
+        Self::with_places(MOST_PLACES)
+    }
+
+    /// An empty table with so many places for pictures. A place is used while a cell of the
+    /// icon cache, a window (for its small or its big icon) or a notification icon has the
+    /// picture in it; where none is free for an icon that comes, its order meets
+    /// [`Refusal::StoreFull`]. The cells alone need up to 12 places, all that can have a
+    /// picture 92.
+    ///
+    /// ```
+    /// let session = rail::Session::with_places(20);
+    /// assert_eq!(session.places(), 20);
+    /// ```
+    ///
+    /// # Panics
+    /// If `places` is under [`FEWEST_PLACES`], which is 12, or over [`MOST_PLACES`], which is
+    /// 64.
+    pub fn with_places(places: usize) -> Self {
+        assert!(
+            (FEWEST_PLACES..=MOST_PLACES).contains(&places),
+            "a session has {FEWEST_PLACES} to {MOST_PLACES} places for pictures, not {places}"
+        );
+        let mut memory = Memory::with_places(places);
         let standing = granted(memory.lend().reset());
         Self { memory, standing }
+    }
+
+    /// How many places for pictures it has.
+    pub fn places(&self) -> usize {
+        self.memory.places()
     }
 
     /// Empties the table and its history, also the icon cache. It erases nothing: the
@@ -70,7 +101,7 @@ impl Session {
     }
 
     /// Empties the table as [`reset`](Self::reset) does, with every byte of the memory
-    /// zero, so that nothing of the session before stands in it.
+    /// zero before, so that nothing of the session before stands in it.
     pub fn wipe(&mut self) {
         self.memory.wipe();
         self.reset();
@@ -84,7 +115,7 @@ impl Session {
     /// [`Refusal::HistoryFull`] where the order is good and the room after the
     /// checkpoint is used up: after a [`checkpoint`](Self::checkpoint) or an
     /// [`undo`](Self::undo) it can be delivered again. Else the first of the numbers 2
-    /// to 11 that applies.
+    /// to 11 and 17 that applies.
     pub fn deliver(&mut self, order: &[u8]) -> Result<Standing, Refusal> {
         self.standing = self.memory.lend().deliver(order)?;
         Ok(self.standing)
@@ -163,7 +194,7 @@ impl Session {
     /// our own that also stands: the answer is then [`Change::AllGone`].
     ///
     /// # Errors
-    /// The first of the numbers 2 to 11 that applies.
+    /// The first of the numbers 2 to 11 and 17 that applies.
     ///
     /// ```
     /// use rail::{orders, Change, Session};
@@ -236,7 +267,7 @@ impl Session {
         bytes
     }
 
-    /// Looks up a window.
+    /// Looks up a window, with the pictures that it shows.
     ///
     /// # Errors
     /// [`Refusal::WrongId`] where it is not listed.
@@ -244,7 +275,7 @@ impl Session {
         self.memory.view().window(id).map(|found| found.record)
     }
 
-    /// Looks up a notification icon by its two ids.
+    /// Looks up a notification icon by its two ids, with the picture that it shows.
     ///
     /// # Errors
     /// [`Refusal::WrongId`] where it is not listed.
@@ -263,6 +294,42 @@ impl Session {
     /// [`Refusal::WrongId`] where the cell is empty or there is none.
     pub fn picture(&self, cell: CacheCell) -> Result<Picture, Refusal> {
         self.memory.view().picture(cell).map(|found| found.record)
+    }
+
+    /// Whether two holders of pictures share a place of the store, so that both show the
+    /// one picture that was given to them. Equal pictures can have a place each.
+    ///
+    /// ```
+    /// use rail::{CacheCell, Holder, Refusal, Session, WindowId};
+    ///
+    /// let window = WindowId(1);
+    /// let mut session = Session::new();
+    /// session.deliver(&[0x2E, 11, 0, 0, 0, 0, 0x11, 1, 0, 0, 0])?;
+    /// // A picture of one pixel in cell 0 of cache 0, for the small icon.
+    /// let small = [
+    ///     0x2E, 25, 0, 0, 0, 0, 0x41, 1, 0, 0, 0, // for window 1
+    ///     0, 0, 0, 16, 1, 0, 1, 0, 0, 0, 2, 0, 7, 7, // 16 bits, no mask, a color of 2 bytes
+    /// ];
+    /// session.deliver(&small)?;
+    /// let cell = Holder::Cell(CacheCell { cache_id: 0, cache_entry: 0 });
+    /// assert!(session.shared(Holder::Small(window), cell)?);
+    /// assert_eq!(session.shared(Holder::Big(window), cell), Err(Refusal::WrongId));
+    ///
+    /// // The cell gets another picture, for the big icon: the small one stays.
+    /// let mut big = small;
+    /// (big[4], big[24]) = (0x20, 8);
+    /// session.deliver(&big)?;
+    /// assert!(!session.shared(Holder::Small(window), cell)?);
+    /// assert!(session.shared(Holder::Big(window), cell)?);
+    /// assert_eq!(session.window(window)?.small.map(|small| small.color), Some(vec![7, 7]));
+    /// # Ok::<(), Refusal>(())
+    /// ```
+    ///
+    /// # Errors
+    /// [`Refusal::WrongId`] where one of them is not there or has no picture.
+    pub fn shared(&self, one: Holder, other: Holder) -> Result<bool, Refusal> {
+        let found = self.memory.view().shared(one, other);
+        found.map(|found| found.record)
     }
 
     /// The desktop state.
@@ -317,237 +384,5 @@ impl Default for Session {
     }
 }
 
-/// Windows with their ids; see [`Session::windows`] and
-/// [`Session::windows_in_z_order`].
-#[derive(Debug)]
-pub struct Windows<'a> {
-    session: &'a Session,
-    ids: vec::IntoIter<WindowId>,
-}
-
-impl Iterator for Windows<'_> {
-    type Item = (WindowId, Window);
-
-    fn next(&mut self) -> Option<Self::Item> {
-        let session = self.session;
-        let listed = |id| Some((id, session.window(id).ok()?));
-        self.ids.find_map(listed)
-    }
-}
-
-/// Notification icons with their ids; see [`Session::notification_icons`].
-#[derive(Debug)]
-pub struct NotificationIcons<'a> {
-    session: &'a Session,
-    ids: vec::IntoIter<(WindowId, NotifyIconId)>,
-}
-
-impl Iterator for NotificationIcons<'_> {
-    type Item = ((WindowId, NotifyIconId), NotificationIcon);
-
-    fn next(&mut self) -> Option<Self::Item> {
-        let session = self.session;
-        let listed = |(window, icon)| {
-            let record = session.notification_icon(window, icon).ok()?;
-            Some(((window, icon), record))
-        };
-        self.ids.find_map(listed)
-    }
-}
-
 #[cfg(test)]
-mod tests {
-    use super::*;
-    use crate::memory::LIST_SIZE;
-    use crate::protocol::{
-        WINDOW_ORDER_STATE_DELETED as DELETED, WINDOW_ORDER_STATE_NEW as NEW,
-        WINDOW_ORDER_TYPE_DESKTOP as DESKTOP_TYPE, WINDOW_ORDER_TYPE_NOTIFY as NOTIFICATION_TYPE,
-        WINDOW_ORDER_TYPE_WINDOW as WINDOW_TYPE,
-    };
-
-    fn order(flags: u32, ids: &[u32]) -> Vec<u8> {
-        let mut order = vec![0x2E, 7 + 4 * ids.len() as u8, 0];
-        order.extend_from_slice(&flags.to_le_bytes());
-        order.extend(ids.iter().flat_map(|id| id.to_le_bytes()));
-        order
-    }
-
-    fn new_window(id: u32) -> Vec<u8> {
-        order(NEW | WINDOW_TYPE, &[id])
-    }
-
-    fn delete_window(id: u32) -> Vec<u8> {
-        order(DELETED | WINDOW_TYPE, &[id])
-    }
-
-    fn ids(session: &Session) -> Vec<u32> {
-        session.windows().map(|(id, _)| id.0).collect()
-    }
-
-    #[test]
-    fn windows_come_and_go_with_orders_and_undo() {
-        let mut session = Session::new();
-        session.deliver(&new_window(2)).unwrap();
-        session.deliver(&new_window(1)).unwrap();
-        assert_eq!(ids(&session), [1, 2]);
-        session.deliver(&delete_window(2)).unwrap();
-        assert_eq!(ids(&session), [1]);
-        session.undo(1).unwrap();
-        assert_eq!(ids(&session), [1, 2]);
-        session.undo(1).unwrap();
-        assert_eq!(ids(&session), [2]);
-        session.reset();
-        assert!(ids(&session).is_empty());
-        assert_eq!(session.standing(), Standing::default());
-    }
-
-    /// The lists are those of the table, with all 32 windows and 16 notification icons.
-    #[test]
-    fn full_lists() {
-        let mut session = Session::new();
-        for id in (0..32).rev() {
-            session.deliver(&new_window(id << 27)).unwrap();
-        }
-        for (window, icon) in (0..16).rev().map(|i| (i / 4, u32::MAX - i % 4)) {
-            let new = order(NEW | NOTIFICATION_TYPE, &[window, icon]);
-            session.deliver(&new).unwrap();
-        }
-        let windows: Vec<WindowId> = (0..32).map(|id| WindowId(id << 27)).collect();
-        assert_eq!(session.window_ids(), windows);
-        let icons: Vec<_> = (0..16)
-            .map(|i| (WindowId(i / 4), NotifyIconId(u32::MAX - 3 + i % 4)))
-            .collect();
-        assert_eq!(session.notification_icon_ids(), icons);
-        let mut short = [0xEE; LIST_SIZE - 1];
-        let view = session.memory.view();
-        assert_eq!(
-            view.window_ids_bytes(&mut short),
-            Err(Refusal::OutputTooSmall)
-        );
-        assert_eq!(
-            view.notification_icon_ids_bytes(&mut short),
-            Err(Refusal::OutputTooSmall)
-        );
-        assert_eq!(short, [0xEE; LIST_SIZE - 1]);
-    }
-
-    /// What is deleted after a checkpoint, also by desktop none, can be brought back;
-    /// what is new after it goes.
-    #[test]
-    fn lists_after_undo() {
-        let mut session = Session::new();
-        for icon in 1..=16 {
-            let new = order(NEW | NOTIFICATION_TYPE, &[7, icon]);
-            session.deliver(&new).unwrap();
-        }
-        session.deliver(&new_window(7)).unwrap();
-        session.checkpoint();
-        let gone = order(DELETED | NOTIFICATION_TYPE, &[7, 1]);
-        session.deliver(&gone).unwrap();
-        session
-            .deliver(&order(NEW | NOTIFICATION_TYPE, &[7, 17]))
-            .unwrap();
-        session.deliver(&DESKTOP_NONE).unwrap();
-        session.deliver(&new_window(8)).unwrap();
-        session.undo(4).unwrap();
-        let icons: Vec<u32> = session
-            .notification_icons()
-            .map(|((_, i), _)| i.0)
-            .collect();
-        assert_eq!(icons, (1..=16).collect::<Vec<u32>>());
-        assert_eq!(ids(&session), [7]);
-    }
-
-    fn titled(id: u32, title: u8) -> Vec<u8> {
-        let mut order = order(NEW | WINDOW_TYPE | 4, &[id]);
-        order.extend([2, 0, title, 0]);
-        order[1] = order.len() as u8;
-        order
-    }
-
-    /// A server that tells all its windows again: those of before go first, and the
-    /// desktop stays hooked.
-    #[test]
-    fn taking_a_synchronization() {
-        let mut session = Session::new();
-        let began = order(DESKTOP_TYPE | 8, &[]);
-        let changed = session.take(&order(DESKTOP_TYPE | 10, &[])).unwrap();
-        assert_eq!(changed.what, Change::Desktop);
-        session.take(&titled(7, b'A')).unwrap();
-        session.take(&titled(8, b'B')).unwrap();
-        session.take(&order(DESKTOP_TYPE | 4, &[])).unwrap();
-        assert_eq!(session.take(&began).unwrap().what, Change::AllGone);
-        session.take(&titled(7, b'C')).unwrap();
-        let titles: Vec<_> = session.windows().map(|(id, w)| (id.0, w.title())).collect();
-        assert_eq!(titles, [(7, "C".into())]);
-        let desktop = session.desktop();
-        assert!(desktop.hooked && desktop.syncing);
-        let clash = order(DESKTOP_TYPE | 12, &[]);
-        assert_eq!(session.take(&clash), Err(Refusal::FlagsClash));
-        assert_eq!(ids(&session), [7]);
-    }
-
-    /// A full history is no fault of an order that is taken.
-    #[test]
-    fn taking_more_than_the_history_holds() {
-        let mut session = Session::new();
-        for _ in 0..=Standing::ORDERS_LIMIT {
-            session.take(&DESKTOP_HOOKED).unwrap();
-        }
-        assert_eq!(session.standing().orders, 1);
-    }
-
-    /// Resetting erases nothing, wiping does.
-    #[test]
-    fn wiping() {
-        let mut session = Session::new();
-        let secret = titled(7, 0xA7);
-        session.deliver(&secret).unwrap();
-        session.checkpoint();
-        session.deliver(&titled(8, 0xA7)).unwrap();
-        let holds = |part: &[u8]| part.contains(&0xA7);
-        session.reset();
-        assert!(holds(&session.memory.bodies) && holds(&session.memory.journal));
-        session.wipe();
-        assert!(session.memory == Memory::new());
-        assert!(ids(&session).is_empty());
-    }
-
-    #[test]
-    fn notification_icons_by_both_ids() {
-        let mut session = Session::new();
-        for ids in [[1, 1], [1, 2], [2, 1]] {
-            let new = order(NEW | NOTIFICATION_TYPE, &ids);
-            session.deliver(&new).unwrap();
-        }
-        let listed: Vec<[u32; 2]> = session
-            .notification_icons()
-            .map(|((window, icon), _)| [window.0, icon.0])
-            .collect();
-        assert_eq!(listed, [[1, 1], [1, 2], [2, 1]]);
-        assert!(session.windows().next().is_none());
-    }
-
-    /// An id that stands twice, one that is not listed, and windows that it does not
-    /// name.
-    #[test]
-    fn z_order_has_each_window_once() {
-        let mut session = Session::new();
-        for id in [1, 4, 3, 2] {
-            session.deliver(&new_window(id)).unwrap();
-        }
-        let mut desktop = order(DESKTOP_TYPE | 0x10, &[]);
-        desktop.extend([4, 3, 0, 0, 0, 9, 0, 0, 0, 1, 0, 0, 0, 3, 0, 0, 0]);
-        desktop[1] = desktop.len() as u8;
-        session.deliver(&desktop).unwrap();
-        let stacked: Vec<u32> = session.windows_in_z_order().map(|(id, _)| id.0).collect();
-        assert_eq!(stacked, [3, 1, 2, 4]);
-    }
-
-    #[test]
-    fn sessions_can_go_to_other_threads() {
-        fn shared<T: Send + Sync + 'static>() {}
-        shared::<Session>();
-        shared::<Memory>();
-    }
-}
+mod tests;
