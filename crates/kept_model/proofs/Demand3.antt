@@ -15,6 +15,7 @@ use Rattle.kept_update.specs.Outcome.{reportOn, nextOn, UpdateOutcome}
 use Rattle.kept_model.specs.Book.{Book, newBook, bookNext, bookAfter}
 use Rattle.kept_model.specs.Updates.{Step, single, update, Said, responds, reports, callsOf, replaced, bookSays, bookSaid}
 use Rattle.kept_model.specs.Claim.{Calls, none, more, moreAtOnce, PastCalls, AsBook, Demand3}
+use Rattle.kept_model.specs.Wellformed.{emptiedState}
 use Rattle.kept_model.proofs.BookState.{stateOfBook, present-book, answer-book, next-book}
 use Rattle.kept_model.proofs.BookUpdates.{report-book, next-update}
 
@@ -28,12 +29,12 @@ pub moved : (c : Call) (s : State) → nextView c (formed s) ≡ formed (next c 
 unfolding nextView
 moved c s = refl
 
--- memory that is long enough describes the new book once it is emptied
-pub emptied-view : (k : ℕ) (m : Memory) → tooShort m ≡ false → nextView (reset k) (viewOf m) ≡ formed (stateOfBook (newBook (fixedBy k)))
-unfolding viewOf nextView next run
+-- memory that is long enough describes the emptied state once it is emptied
+pub emptied-view : (k : ℕ) (m : Memory) → tooShort m ≡ false → nextView (reset k) (viewOf m) ≡ formed (emptiedState k)
+unfolding viewOf nextView next
 emptied-view k m l = rw l (go (wellFormed m))
   where
-    go : (t : Bool) → nextView (reset k) (pick t (formed (stateOf m)) unformed) ≡ formed (stateOfBook (newBook (fixedBy k)))
+    go : (t : Bool) → nextView (reset k) (pick t (formed (stateOf m)) unformed) ≡ formed (emptiedState k)
     go true = refl
     go false = refl
 
@@ -84,16 +85,18 @@ from b v none = record { answers = refl; holds = v }
 from b v (more {q = q} s k) = one-more (single-says b v s) (from (bookAfter (callsOf (single q) b) b) (single-holds b v s) k)
 from b v (moreAtOnce {limit = limit} {s = s} u k) = one-more (update-says b v u) (from (bookAfter (callsOf (update limit s) b) b) (update-holds b v u) k)
 
--- from memory that describes the new book
-pub as-book : (places : ℕ) {m e : Memory} {xs : List Step} {ys : List Said} → viewOf m ≡ formed (stateOfBook (newBook places)) → Calls m xs ys e → AsBook places xs ys e
-as-book places {xs = xs} v k =
-    let f = from (newBook places) v k in
-    let b = bookAfter (replaced xs (newBook places)) (newBook places) in
+-- from memory that describes the emptied state, which is the new book's
+pub as-book : {m e : Memory} {xs : List Step} {ys : List Said} (lent : ℕ) → viewOf m ≡ formed (emptiedState lent) → Calls m xs ys e → AsBook (fixedBy lent) xs ys e
+unfolding run
+as-book {xs = xs} lent v k =
+    let new = newBook (fixedBy lent) in
+    let f = from new v k in
+    let b = bookAfter (replaced xs new) new in
     record { answers = f .answers; holds = record { state = stateOfBook b; describes = f .holds; table = present-book b; since = refl } }
 
 pub demand-3 : Demand3
 unfolding Demand3
-demand-3 m n e r xs ys l s k = as-book (fixedBy (placesIn (m .store))) (s .holds ∙ emptied-view (placesIn (m .store)) m l) k
+demand-3 m n e r xs ys l s k = as-book (placesIn (m .store)) (s .holds ∙ emptied-view (placesIn (m .store)) m l) k
 
 -- ---- one call more at the end of a run of calls
 

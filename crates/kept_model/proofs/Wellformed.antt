@@ -11,7 +11,7 @@ use Rattle.wire.specs.Tests.{pick, either}
 use Rattle.wire.specs.Parts.{splice}
 use Rattle.kept_table.specs.Table.{number}
 use Rattle.kept_journal.specs.Limits.{mostOrders, mostBytes}
-use Rattle.kept_journal.specs.State.{State, present, run, bytesIn}
+use Rattle.kept_journal.specs.State.{State, present, bytesIn}
 use Rattle.kept_journal.specs.View.{Memory, tooShort, wellFormed, stateOf, View, short, unformed, formed, viewOf}
 use Rattle.kept_journal.proofs.Runs.{bytes-append}
 use Rattle.kept_journal.proofs.Fits.{fits}
@@ -79,7 +79,7 @@ reset-long k m e g = go (tooShort m) refl
     go true l = let z : _≡_ {A = ℕ} 0 1 = sym g ∙ ap (λ (x : Response). x .reply .number) e ∙ reset-short k m l in absurd (omega arith)
 
 pub emptied-meets : EmptiedMeets
-unfolding EmptiedMeets OnlyMeets run
+unfolding EmptiedMeets OnlyMeets
 emptied-meets k m n r s g =
     let v : viewOf n ≡ formed (emptiedState k) = s .holds ∙ emptied-view k m (reset-long k m (s .says) g) in
     (only-meets n (emptiedState k) v, v)

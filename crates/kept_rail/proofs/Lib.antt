@@ -1,0 +1,5 @@
+pub mod Exports
+pub mod States
+pub mod Chunks
+pub mod Updates
+pub mod RecordExports
