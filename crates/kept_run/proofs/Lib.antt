@@ -1,4 +1,3 @@
 pub mod Calls
 pub mod Ends
 pub mod RunLoop
-pub mod Stubs

@@ -19,9 +19,10 @@ use Rattle.kept_session.specs.Outcome.{plain, Response, replied, CallOutcome}
 use Rattle.kept_model.specs.Updates.{Step, Said}
 use Rattle.kept_model.specs.Claim.{Calls, none, AsBook}
 use Rattle.kept_model.specs.Wellformed.{emptiedState, EmptyingGranted, EmptiedMeets}
+use Rattle.kept_model.proofs.Demand3.{as-book, snoc, past-then, calls-past}
+use Rattle.kept_model.proofs.Wellformed.{reset-long, emptying-granted, emptied-meets}
 use Rattle.kept_run.specs.Script.{stepOf, firstCall, itemLength, blockOf, blockLength, endsWith, Course, endsHere, callFirst, courseFrom, courseOf, RunUnpacks, RunAs, Runs}
 use Rattle.kept_run.specs.Steps.{Takes, endNumber, EndsAt, Done}
-use Rattle.kept_run.proofs.Stubs.{as-book, snoc, past-then, calls-past, reset-long, emptying-granted, emptied-meets}
 use Rattle.kept_run.proofs.Ends.{Going, going, number-small, course-end, course-more, size-at, call-at, block-at}
 
 pub run-unpacks : RunUnpacks

@@ -1,0 +1,105 @@
+// The calls that change the state.
+use crate::lending;
+use crate::lending::Lending;
+use crate::lending::PART;
+use crate::lending::STORE;
+use kept_session::Reply;
+
+// A copy of part i of the store.
+fn copy_of(store: &[u8; STORE], i: u8) -> [u8; PART] {
+    let mut copy = [0u8; PART];
+    if 4 < i {
+        return copy;
+    }
+    wire::copy_part(&mut copy, 0, store, PART * (i as usize), PART);
+    copy
+}
+
+fn put_back(store: &mut [u8; STORE], i: u8, copy: &[u8; PART]) {
+    if 4 < i {
+        return;
+    }
+    wire::copy_at(store, PART * (i as usize), copy);
+}
+
+// A checkpoint, lent what it does not lack of the parts of the store.
+fn lent_checkpoint(
+    index: &mut [u8],
+    bodies: &mut [u8],
+    journal: &mut [u8],
+    a: &mut [u8],
+    b: &mut [u8],
+    c: &mut [u8],
+    d: &mut [u8],
+    e: &mut [u8],
+    l: Lending,
+) -> Reply {
+    let na = lending::within(a.len(), 0, l);
+    let nb = lending::within(b.len(), 1, l);
+    let nc = lending::within(c.len(), 2, l);
+    let nd = lending::within(d.len(), 3, l);
+    let ne = lending::within(e.len(), 4, l);
+    kept_session::calls::checkpoint(
+        index,
+        bodies,
+        &mut a[0..na],
+        &mut b[0..nb],
+        &mut c[0..nc],
+        &mut d[0..nd],
+        &mut e[0..ne],
+        journal,
+    )
+}
+
+// Two parts of one memory cannot be lent for writing at once, so the parts of the store are copies.
+fn checkpoint(
+    index: &mut [u8],
+    bodies: &mut [u8],
+    journal: &mut [u8],
+    store: &mut [u8; STORE],
+    l: Lending,
+) -> Reply {
+    let mut a = copy_of(store, 0);
+    let mut b = copy_of(store, 1);
+    let mut c = copy_of(store, 2);
+    let mut d = copy_of(store, 3);
+    let mut e = copy_of(store, 4);
+    let r = lent_checkpoint(
+        index,
+        bodies,
+        journal,
+        &mut a,
+        &mut b,
+        &mut c,
+        &mut d,
+        &mut e,
+        l,
+    );
+    put_back(store, 0, &a);
+    put_back(store, 1, &b);
+    put_back(store, 2, &c);
+    put_back(store, 3, &d);
+    put_back(store, 4, &e);
+    r
+}
+
+// E, D, M, B.
+pub(crate) fn call(
+    index: &mut [u8],
+    bodies: &mut [u8],
+    journal: &mut [u8],
+    store: &mut [u8; STORE],
+    kind: u8,
+    s: &[u8],
+    l: Lending,
+) -> Reply {
+    let lent = lending::places(store, l);
+    match kind {
+        b'E' => kept_session::calls::reset(index, bodies, lent, journal),
+        b'M' => checkpoint(index, bodies, journal, store, l),
+        b'B' => {
+            kept_session::calls::undo(index, bodies, lent, journal, wire::read_u32(s, 0) as u64)
+        }
+        _ => kept_session::calls::deliver(index, bodies, lent, journal, s),
+    }
+}

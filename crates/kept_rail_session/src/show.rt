@@ -1,0 +1,214 @@
+// Records as text: a name=value for each field.
+use crate::pictures;
+use kept_session::LookupTarget;
+use kept_session::Reply;
+use kept_view::DesktopRecord;
+use kept_view::NotificationRecord;
+use kept_view::Pair;
+use kept_view::Point;
+use kept_view::Rectangles;
+use kept_view::Stack;
+use kept_view::Text;
+use kept_view::WindowRecord;
+use print::byte;
+use print::field;
+use print::string;
+use print::text;
+use protocol::NotifyIconId;
+use protocol::WindowId;
+
+// A record is handed out with the pictures of its icons after it: two for a window.
+const SMALL: usize = layout::WINDOW;
+
+const BIG: usize = SMALL + layout::PICTURE;
+
+const ICON: usize = layout::NOTIFICATION;
+
+// The most bytes that a lookup hands out.
+pub(crate) const FOUND: usize = BIG + layout::PICTURE;
+
+fn point(out: &mut [u8], at: usize, name: &[u8], p: Point) -> usize {
+    let n = text(out, at, name);
+    let n = print::signed(out, n, p.x);
+    let n = byte(out, n, b',');
+    print::signed(out, n, p.y)
+}
+
+fn pair(out: &mut [u8], at: usize, name: &[u8], p: Pair) -> usize {
+    print::pair(out, at, name, p.x as u64, b',', p.y as u64)
+}
+
+fn words(out: &mut [u8], at: usize, name: &[u8], t: Text) -> usize {
+    let bytes = t.bytes;
+    string(out, at, name, &bytes, 0, t.count as usize)
+}
+
+// The first k numbers of a list of rectangles.
+fn sides(out: &mut [u8], at: usize, ns: &[u16], k: usize) -> usize {
+    if k > ns.len() {
+        return at;
+    }
+    print::rectangles(out, at, &ns[0..k])
+}
+
+fn rectangles(out: &mut [u8], at: usize, name: &[u8], r: Rectangles) -> usize {
+    let n = text(out, at, name);
+    let list = r.sides;
+    sides(out, n, &list, 4 * (r.count as usize))
+}
+
+fn window_style(out: &mut [u8], at: usize, w: WindowRecord) -> usize {
+    let n = field(out, at, b" owner=", w.owner.id as u64);
+    let n = field(out, n, b" style=", w.style as u64);
+    field(out, n, b" ext=", w.extended_style as u64)
+}
+
+fn window_title(out: &mut [u8], at: usize, w: WindowRecord) -> usize {
+    let n = field(out, at, b" show=", w.show_state as u64);
+    words(out, n, b" title=", w.title)
+}
+
+fn window_client(out: &mut [u8], at: usize, w: WindowRecord) -> usize {
+    let n = point(out, at, b" client=", w.client_offset);
+    let n = pair(out, n, b" client_size=", w.client_size);
+    field(out, n, b" rp=", w.rp_content as u64)
+}
+
+fn window_place(out: &mut [u8], at: usize, w: WindowRecord) -> usize {
+    let n = field(out, at, b" root=", w.root_parent.id as u64);
+    let n = point(out, n, b" offset=", w.window_offset);
+    point(out, n, b" delta=", w.client_delta)
+}
+
+fn window_area(out: &mut [u8], at: usize, w: WindowRecord) -> usize {
+    let n = pair(out, at, b" size=", w.window_size);
+    let n = rectangles(out, n, b" rects=", w.window_rects);
+    point(out, n, b" visible=", w.visible_offset)
+}
+
+fn window_looks(out: &mut [u8], at: usize, w: WindowRecord) -> usize {
+    let n = window_style(out, at, w);
+    let n = window_title(out, n, w);
+    window_client(out, n, w)
+}
+
+fn window_places(out: &mut [u8], at: usize, w: WindowRecord) -> usize {
+    let n = window_place(out, at, w);
+    let n = window_area(out, n, w);
+    rectangles(out, n, b" vis_rects=", w.visibility_rects)
+}
+
+fn window_icons(out: &mut [u8], at: usize, w: WindowRecord, bytes: &[u8; FOUND]) -> usize {
+    let all = &bytes[..];
+    let n = pictures::icon(out, at, b" small=", w.small, &all[SMALL..]);
+    pictures::icon(out, n, b" big=", w.big, &all[BIG..])
+}
+
+fn window_record(out: &mut [u8], at: usize, id: WindowId, bytes: &[u8; FOUND]) -> usize {
+    let w = kept_view::window(bytes);
+    let n = field(out, at, b" id=", id.id as u64);
+    let n = window_looks(out, n, w);
+    let n = window_places(out, n, w);
+    window_icons(out, n, w, bytes)
+}
+
+fn notification_tip(out: &mut [u8], at: usize, r: NotificationRecord) -> usize {
+    let n = field(out, at, b" version=", r.version as u64);
+    let n = words(out, n, b" tip=", r.tip);
+    let n = field(out, n, b" timeout=", r.timeout as u64);
+    field(out, n, b" flags=", r.flags as u64)
+}
+
+fn notification_text(out: &mut [u8], at: usize, r: NotificationRecord) -> usize {
+    let n = words(out, at, b" text=", r.text);
+    let n = words(out, n, b" title=", r.title);
+    field(out, n, b" state=", r.state as u64)
+}
+
+fn notification_record(
+    out: &mut [u8],
+    at: usize,
+    window: WindowId,
+    icon: NotifyIconId,
+    bytes: &[u8; FOUND],
+) -> usize {
+    let r = kept_view::notification(bytes);
+    let n = field(out, at, b" window=", window.id as u64);
+    let n = field(out, n, b" icon=", icon.id as u64);
+    let n = notification_tip(out, n, r);
+    let n = notification_text(out, n, r);
+    let all = &bytes[..];
+    pictures::icon(out, n, b" picture=", r.icon, &all[ICON..])
+}
+
+fn yes_number(b: bool) -> u64 {
+    if b { 1 } else { 0 }
+}
+
+// The first k numbers of a list.
+fn listed(out: &mut [u8], at: usize, ns: &[u32], k: usize) -> usize {
+    if k > ns.len() {
+        return at;
+    }
+    print::numbers(out, at, b',', &ns[0..k])
+}
+
+fn numbers_of(ids: [WindowId; 64]) -> [u32; 64] {
+    let mut ns = [0u32; 64];
+    for i in 0..64 {
+        let w = ids[i];
+        ns[i] = w.id;
+    }
+    ns
+}
+
+fn stack(out: &mut [u8], at: usize, s: Stack) -> usize {
+    let n = text(out, at, b" stack=");
+    let ids = s.ids;
+    let list = numbers_of(ids);
+    listed(out, n, &list, s.count as usize)
+}
+
+fn desktop_record(out: &mut [u8], at: usize, d: DesktopRecord) -> usize {
+    let n = field(out, at, b" active=", d.active.id as u64);
+    let n = field(out, n, b" hooked=", yes_number(d.hooked));
+    let n = field(out, n, b" syncing=", yes_number(d.syncing));
+    stack(out, n, d.stack)
+}
+
+// The kind and the number, and for a granted call the count and the bytes.
+pub(crate) fn reply(out: &mut [u8], kind: u8, r: Reply) -> usize {
+    let n = byte(out, 0, kind);
+    let n = field(out, n, b" ", r.number as u64);
+    if r.number != 0 {
+        return n;
+    }
+    print::pair(out, n, b" ", r.count as u64, b' ', r.bytes as u64)
+}
+
+// The record in the bytes that were handed out.
+fn record(out: &mut [u8], at: usize, target: LookupTarget, bytes: &[u8; FOUND]) -> usize {
+    match target {
+        LookupTarget::Window(w) => window_record(out, at, w, bytes),
+        LookupTarget::Notification(w, n) => notification_record(out, at, w, n, bytes),
+        LookupTarget::Cell(_, _) => pictures::cell(out, at, bytes),
+        LookupTarget::Desktop => desktop_record(out, at, kept_view::desktop(bytes)),
+        LookupTarget::Windows | LookupTarget::Notifications => at,
+        LookupTarget::Shares(_, _) => field(out, at, b" shared=", wire::read_u8(bytes, 0) as u64),
+    }
+}
+
+// The line of a lookup.
+pub(crate) fn found(
+    out: &mut [u8],
+    kind: u8,
+    r: Reply,
+    target: LookupTarget,
+    bytes: &[u8; FOUND],
+) -> usize {
+    let n = reply(out, kind, r);
+    if r.number != 0 {
+        return n;
+    }
+    record(out, n, target, bytes)
+}
