@@ -4,7 +4,7 @@
 # make uninstall PREFIX=.. DESTDIR=..
 # LIB_DIR=FOLDER                tries or installs the librail.a of that folder, built elsewhere: no rt is needed
 
-VERSION = 0.1.0
+VERSION = 0.2.0
 PREFIX = /usr/local
 DESTDIR =
 LIB_DIR = target/staticlib

@@ -67,15 +67,10 @@ static void print_string(const uint8_t *at, uint32_t bytes) {
     putchar('"');
 }
 
-static void print_icon(const char *name, struct rail_icon icon) {
-    static uint8_t record[RAIL_PICTURE_SIZE];
-    struct rail_picture p;
-    if (!icon.present)
-        return;
-    if (rail_number(rail_state_cell(&state, icon.cache_id, icon.cache_entry, record)) != RAIL_DONE)
-        return; /* a pointer's cell is always filled */
-    rail_picture_decode(&p, record);
-    printf(", %s icon %u x %u, %u bpp", name, p.width, p.height, p.bpp);
+/* What a window or notification icon shows, as its lookup hands it out. */
+static void print_icon(const char *name, struct rail_picture icon) {
+    if (icon.present)
+        printf(", %s icon %u x %u, %u bpp", name, icon.width, icon.height, icon.bpp);
 }
 
 static const char *show_name(uint8_t show_state) {
@@ -191,8 +186,8 @@ static uint32_t take(const uint8_t *order, size_t size) {
     return begin_sync(order, size);
 }
 
-/* First of all, for each new connection, and where the state memory describes no state since something else wrote into it. The server
- * then tells all its windows. */
+/* First of all (zeroed memory is no state), for each new connection, and where the state memory describes no state since something else
+ * wrote into it. The server then tells all its windows. */
 static void start_afresh(void) {
     rail_state_reset(&state);
 }
@@ -213,7 +208,7 @@ static void take_update(const uint8_t *update, size_t size) {
             number = rail_number(take(update + at, length));
             if (number == RAIL_DONE)
                 taken++;
-            else if (number != RAIL_BAD_STATE)
+            else if (number != RAIL_BAD_STATE) /* 17 too: the record keeps what it shows */
                 printf("  order at byte %zu refused, %u: %s\n", at, number, rail_number_words(number));
             at += length;
         }

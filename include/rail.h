@@ -2,8 +2,8 @@
  * docs/GUIDE.md leads through it; `make install` puts the documents named here into share/doc/rail.
  *
  * The library keeps the table that a server's windowing orders describe (32 windows, 16 notification icons, an icon cache of
- * 2 x 6 cells and the desktop state) with a history that can be stepped back, and reads and writes the control messages of
- * MS-RDPERP, whole or in the chunks of the channel. An order or a message is used whole or refused whole; a refusal changes no byte
+ * 2 x 6 cells, the pictures that all these show, and the desktop state) with a history that can be stepped back, and reads and
+ * writes the control messages of MS-RDPERP, whole or in the chunks of the channel. An order or a message is used whole or refused whole; a refusal changes no byte
  * of what was lent, but for what rail/chunk.h says of an unfinished message.
  *
  * Rules for the caller
@@ -12,10 +12,13 @@
  *   Lifetimes  Nothing is kept: what a call was given may be freed or moved once it has returned.
  *   Threads    The library has no state of its own and allocates nothing. Calls on different memory may run in parallel, and so
  *              may lookups on the same memory. A call that writes has its memory for itself: serialize those.
- *   Stack      A call takes less than 16 KB of stack.
- *   State      Its bytes may be stored and copied, but only rail_ calls should write them. Zeros are a state, the emptied one.
- *              Whatever the bytes are, every call ends with a number of its list: memory that describes no state meets
- *              RAIL_BAD_STATE, and rail_reset mends it. Damage that happens to describe another state is not seen.
+ *   Stack      A call takes less than 32 KB of stack.
+ *   State      rail_reset comes first: memory of zeros is no state, and meets RAIL_BAD_STATE. The bytes may be stored and copied,
+ *              those of the store with the others, but only rail_ calls should write them. Whatever they are, every call ends with
+ *              a number of its list: memory that describes no state meets RAIL_BAD_STATE, and rail_reset mends it. Damage that
+ *              happens to describe another state is not seen.
+ *   Store      rail_reset fixes how many places it has, 12 to 64, by what is lent to it. Later calls need as many, in the same
+ *              cut; one that is lent fewer meets RAIL_BAD_STATE.
  *   Secrets    No call erases: after rail_reset, rail_undo and a delete the bytes of titles and icons still stand in the
  *              parts. rail_wipe erases.
  *
@@ -32,21 +35,22 @@
 
 /* ---- Measures, in bytes. A longer part is fine; what lies past the measure is never changed. rail_size tells them too. */
 
-#define RAIL_DIRECTORY_SIZE 444   /* state memory, part 0 */
-#define RAIL_BODIES_SIZE 44884    /* part 1 */
-#define RAIL_CELLS_SIZE 50880     /* part 2 */
-#define RAIL_JOURNAL_SIZE 32770   /* part 3 */
-#define RAIL_WINDOW_SIZE 850      /* records handed out by lookups: rail/records.h has their fields */
-#define RAIL_NOTIFICATION_SIZE 916
+#define RAIL_INDEX_SIZE 589       /* state memory: the index, */
+#define RAIL_BODIES_SIZE 45780    /* the bodies, */
+#define RAIL_PLACE_SIZE 4224      /* the store of pictures, of which this is one place, */
+#define RAIL_JOURNAL_SIZE 32770   /* and the journal */
+#define RAIL_WINDOW_SIZE 9320     /* records handed out by lookups: rail/records.h has their fields */
+#define RAIL_NOTIFICATION_SIZE 5151
 #define RAIL_DESKTOP_SIZE 263
 #define RAIL_PICTURE_SIZE 4235
 #define RAIL_LIST_SIZE 132        /* lists of ids handed out: a count of 4 bytes, room for all ids, zeros past the last */
+#define RAIL_SHARED_SIZE 1        /* what rail_shared hands out */
 
 /* What rail_size is asked for. */
 enum rail_measure {
-    RAIL_MEASURE_DIRECTORY = 0,
+    RAIL_MEASURE_INDEX = 0,
     RAIL_MEASURE_BODIES = 1,
-    RAIL_MEASURE_CELLS = 2,
+    RAIL_MEASURE_PLACE = 2,
     RAIL_MEASURE_JOURNAL = 3,
     RAIL_MEASURE_WINDOW = 4,
     RAIL_MEASURE_NOTIFICATION = 5,
@@ -63,6 +67,9 @@ enum rail_measure {
 #define RAIL_NOTIFICATIONS_MAX 16
 #define RAIL_ICON_CACHES 2        /* to be announced as NumIconCaches */
 #define RAIL_ICON_CACHE_ENTRIES 6 /* to be announced as NumIconCacheEntries */
+#define RAIL_STORE_PARTS 5        /* the store is lent in so many */
+#define RAIL_PLACES_MIN 12        /* of the store */
+#define RAIL_PLACES_MAX 64
 #define RAIL_HISTORY_ORDERS_MAX 128
 #define RAIL_HISTORY_BYTES_MAX 32768
 #define RAIL_TITLE_MAX 520        /* bytes, as the three below */
@@ -89,6 +96,7 @@ enum rail_numbers {
     RAIL_UNKNOWN_ID = 9,       /* the id must be in the table and is not, or must not be and is */
     RAIL_TABLE_FULL = 10,      /* a new record is asked for and its table is full */
     RAIL_NO_CELL = 11,         /* icon with cache id FF, or cached icon naming an empty cell */
+    RAIL_NO_PLACE = 17,        /* the order brings an icon, and every place of the store is pointed at */
     RAIL_HISTORY_FULL = 12,    /* history room would be passed: rail_checkpoint makes room */
     RAIL_TOO_MANY_STEPS = 13,  /* more steps back than stand after the mark */
     RAIL_OUTPUT_TOO_SMALL = 14, /* output memory too small */
@@ -127,21 +135,34 @@ static inline const char *rail_number_words(uint32_t number) {
         "output memory too small",
         "chunk under 8 bytes",
         "chunk is compressed; not first with nothing begun; a total of 0 or over 17,052; a total differing from the first's; or data past the total or, in a last chunk, short of it",
+        "every place is pointed at",
+        "fewer than 2 bytes, or than 2 plus 8 for each counted order, or an offset plus size past the end",
+        "count over 128, sizes over 32,768 in all, offsets not those of the layout, or bytes left over",
+        "a kind from the wrong end",
+        "a program not permitted",
     };
-    if (number == RAIL_RECORD_CUT)
-        return "fewer than 2 bytes, or than 2 plus 8 for each counted order, or an offset plus size past the end";
-    if (number == RAIL_RECORD_DIFFERS)
-        return "count over 128, sizes over 32,768 in all, offsets not those of the layout, or bytes left over";
-    if (number == RAIL_WRONG_END)
-        return "a kind from the wrong end";
-    if (number == RAIL_NOT_PERMITTED)
-        return "a program not permitted";
     return number < sizeof words / sizeof words[0] ? words[number] : "no number of this library";
 }
 
-/* ---- State calls. State memory is lent in four parts, always in this order. The table that it describes is the one at the mark
- * with the orders since then applied in turn. A window is known by its id, a notification icon by the id of its window and its own;
- * the two kinds of ids are separate, and one never serves for the other. */
+/* ---- State calls. State memory is lent in eight parts, always in this order: index, bodies, the five parts of the store, journal.
+ * rail/state.h has them in one struct, and the same calls on it with all parts put in: rail_state_reset and so on. A part of the store
+ * may have any length, 0 too, and counts the places of RAIL_PLACE_SIZE bytes that fit it whole; places are numbered through the
+ * parts. The table that the memory describes is the one at the mark with the orders since then applied in turn. A window is known by
+ * its id, a notification icon by the id of its window and its own; the two kinds of ids are separate, and one never serves for the
+ * other.
+ *
+ * Pictures. A window or notification icon keeps the picture it was given, small and big apart, until it is given another or is
+ * removed: filling a cell again changes what no other shows. An icon takes a place that nothing but its cell and its pointer then
+ * points at; a cached icon shares the place of its cell. A place is used while a cell, window or notification icon points at it, and
+ * free again after. What steps back need is kept in the journal and takes no place. */
+
+/* The parameters of a part, read or written, and of those that most calls only read. Undefined again below. */
+#define RAIL_READ(part) const uint8_t *part, size_t part##_size
+#define RAIL_WRITE(part) uint8_t *part, size_t part##_size
+#define RAIL_READ_STORE RAIL_READ(store_a), RAIL_READ(store_b), RAIL_READ(store_c), RAIL_READ(store_d), RAIL_READ(store_e)
+#define RAIL_WRITE_STORE RAIL_WRITE(store_a), RAIL_WRITE(store_b), RAIL_WRITE(store_c), RAIL_WRITE(store_d), RAIL_WRITE(store_e)
+#define RAIL_READ_TABLE RAIL_READ(index), RAIL_READ(bodies), RAIL_READ_STORE
+#define RAIL_READ_STATE RAIL_READ_TABLE, RAIL_READ(journal)
 
 #ifdef __cplusplus
 extern "C" {
@@ -150,72 +171,68 @@ extern "C" {
 /* The measure `what` (enum rail_measure) in bytes, and 0 for any other number. */
 uint32_t rail_size(uint32_t what);
 
-/* Empties: no window, no icon, no filled cell, not hooked, not syncing, nothing after the mark. Takes memory with any contents, and
- * erases none of it (rail_wipe does). Refuses with 1, and only where a part is too short. */
-uint32_t rail_reset(uint8_t *directory, size_t directory_size, uint8_t *bodies, size_t bodies_size,
-                    const uint8_t *cells, size_t cells_size, uint8_t *journal, size_t journal_size);
+/* Empties: no window, no icon, no filled cell, not hooked, not syncing, nothing after the mark. Fixes the number of places: those that
+ * the store lent here has, and 64 where it has more. Takes memory with any contents, and erases none of it (rail_wipe does). Refuses
+ * with 1, and only where a part is too short or the store has fewer than 12 places. */
+uint32_t rail_reset(RAIL_WRITE(index), RAIL_WRITE(bodies), RAIL_READ_STORE, RAIL_WRITE(journal));
 
 /* Delivers one windowing order as the server sends it, from its byte 2E on, cut to its OrderSize. Where it is granted the order
- * stands after the mark, and the table has exactly its flagged fields changed. Refuses with 1 to 12. Only the journal is written. */
-uint32_t rail_deliver(const uint8_t *directory, size_t directory_size, const uint8_t *bodies, size_t bodies_size,
-                      const uint8_t *cells, size_t cells_size, uint8_t *journal, size_t journal_size,
-                      const uint8_t *order, size_t order_size);
+ * stands after the mark, and the table has exactly its flagged fields changed. Refuses with 1 to 12, and with 17 after 11 and before
+ * 12: the order brings an icon, and every place is still pointed at once the cell and the pointer it sets have let go. Only the
+ * journal is written. */
+uint32_t rail_deliver(RAIL_READ_TABLE, RAIL_WRITE(journal), RAIL_READ(order));
 
 /* Delivers the orders of a whole update, which stand in it back to back, one by one until `limit` are granted, none is left or one is
  * refused. Each is cut by its OrderSize; where that is missing, under 7 or past the end, all that is left is delivered as one, and refused.
  * The state memory is looked at once. Orders granted before a refusal stay, the refused one changes nothing. Its lower half
  * (rail_update_answer) is the last number with what then stands after the mark, told whatever the number is, but for RAIL_BAD_STATE, where
  * all else is 0; the upper one has the orders that this call granted and their bytes, so the next order begins at
- * update + rail_update_bytes(). A limit of 0 or no bytes: nothing is delivered, and the number is 0. Refuses with 1 to 12. Only the journal
- * is written. */
-uint64_t rail_update(const uint8_t *directory, size_t directory_size, const uint8_t *bodies, size_t bodies_size,
-                     const uint8_t *cells, size_t cells_size, uint8_t *journal, size_t journal_size,
-                     uint32_t limit, const uint8_t *update, size_t update_size);
+ * update + rail_update_bytes(). A limit of 0 or no bytes: nothing is delivered, and the number is 0. Refuses as rail_deliver does. Only
+ * the journal is written. */
+uint64_t rail_update(RAIL_READ_TABLE, RAIL_WRITE(journal), uint32_t limit, RAIL_READ(update));
 static inline uint32_t rail_update_answer(uint64_t report) { return (uint32_t)(report & 0xFFFFFFFFu); }
 static inline uint32_t rail_update_orders(uint64_t report) { return (uint32_t)(report >> 32 & 0xFFFFu); }
 static inline uint32_t rail_update_bytes(uint64_t report) { return (uint32_t)(report >> 48); }
 
-/* Sets the mark to the present table: nothing stands after it, all history room is free, and no step back goes over it.
- * Refuses with 1. */
-uint32_t rail_checkpoint(uint8_t *directory, size_t directory_size, uint8_t *bodies, size_t bodies_size,
-                         uint8_t *cells, size_t cells_size, uint8_t *journal, size_t journal_size);
+/* Sets the mark to the present table: nothing stands after it, all history room is free, and no step back goes over it. The pictures
+ * that orders brought since the last mark go into the store; no other call writes there. Refuses with 1. */
+uint32_t rail_checkpoint(RAIL_WRITE(index), RAIL_WRITE(bodies), RAIL_WRITE_STORE, RAIL_WRITE(journal));
 
-/* Takes the last `steps` granted orders back; the table, its cells too, is as it was before them. 0 steps are granted and change
- * nothing. Refuses with 1 and 13. Only the journal is written. */
-uint32_t rail_undo(const uint8_t *directory, size_t directory_size, const uint8_t *bodies, size_t bodies_size,
-                   const uint8_t *cells, size_t cells_size, uint8_t *journal, size_t journal_size, uint64_t steps);
+/* Takes the last `steps` granted orders back; the table, its cells and what each record shows are as before them. 0 steps are granted
+ * and change nothing. Refuses with 1 and 13. Only the journal is written. */
+uint32_t rail_undo(RAIL_READ_TABLE, RAIL_WRITE(journal), uint64_t steps);
 
-/* Lookups: the whole record as the present table has it, in the first RAIL_.._SIZE bytes of `out`; no other byte is written.
- * Refuse with 1, with 9 where there is no such record (an absent id, an empty cell or one outside the caches; never for the
- * desktop), and then with 14 where `out` is smaller than the record. */
-uint32_t rail_window(const uint8_t *directory, size_t directory_size, const uint8_t *bodies, size_t bodies_size,
-                     const uint8_t *cells, size_t cells_size, const uint8_t *journal, size_t journal_size,
-                     uint32_t window_id, uint8_t *out, size_t out_size);
-uint32_t rail_notification(const uint8_t *directory, size_t directory_size, const uint8_t *bodies, size_t bodies_size,
-                           const uint8_t *cells, size_t cells_size, const uint8_t *journal, size_t journal_size,
-                           uint32_t window_id, uint32_t notify_icon_id, uint8_t *out, size_t out_size);
-uint32_t rail_cell(const uint8_t *directory, size_t directory_size, const uint8_t *bodies, size_t bodies_size,
-                   const uint8_t *cells, size_t cells_size, const uint8_t *journal, size_t journal_size,
-                   uint8_t cache_id, uint16_t cache_entry, uint8_t *out, size_t out_size);
-uint32_t rail_desktop(const uint8_t *directory, size_t directory_size, const uint8_t *bodies, size_t bodies_size,
-                      const uint8_t *cells, size_t cells_size, const uint8_t *journal, size_t journal_size,
-                      uint8_t *out, size_t out_size);
+/* Lookups: the whole record as the present table has it, in the first RAIL_.._SIZE bytes of `out`; no other byte is written. A window
+ * and a notification icon come with the pictures that they show. Refuse with 1, with 9 where there is no such record (an absent id,
+ * an empty cell or one outside the caches; never for the desktop), and then with 14 where `out` is smaller than the record. */
+uint32_t rail_window(RAIL_READ_STATE, uint32_t window_id, RAIL_WRITE(out));
+uint32_t rail_notification(RAIL_READ_STATE, uint32_t window_id, uint32_t notify_icon_id, RAIL_WRITE(out));
+uint32_t rail_cell(RAIL_READ_STATE, uint8_t cache_id, uint16_t cache_entry, RAIL_WRITE(out));
+uint32_t rail_desktop(RAIL_READ_STATE, RAIL_WRITE(out));
 
 /* Lists: the ids of all listed windows, or of all notification icons, each once and ascending (notification icons by window id and
  * then by notify-icon id), in the first RAIL_LIST_SIZE bytes of `out`; no other byte is written. rail/records.h has the structs.
  * Refuse with 1, and then with 14 where `out` is smaller than a list. */
-uint32_t rail_windows(const uint8_t *directory, size_t directory_size, const uint8_t *bodies, size_t bodies_size,
-                      const uint8_t *cells, size_t cells_size, const uint8_t *journal, size_t journal_size,
-                      uint8_t *out, size_t out_size);
-uint32_t rail_notifications(const uint8_t *directory, size_t directory_size, const uint8_t *bodies, size_t bodies_size,
-                            const uint8_t *cells, size_t cells_size, const uint8_t *journal, size_t journal_size,
-                            uint8_t *out, size_t out_size);
+uint32_t rail_windows(RAIL_READ_STATE, RAIL_WRITE(out));
+uint32_t rail_notifications(RAIL_READ_STATE, RAIL_WRITE(out));
+
+/* Whether two holders share a place, and so show one picture that was sent once: 1 or 0 in the first byte of `out`. A holder is its
+ * kind and two numbers, as enum rail_holder_kind says. Refuses with 1, with 9 where a holder is absent, outside the caches or points
+ * at nothing, and then with 14 where `out` has no byte. Pictures of equal bytes that came in two orders share no place. */
+enum rail_holder_kind {
+    RAIL_HOLDER_CELL = 0,         /* cache id, cache entry; so is every kind that is not listed */
+    RAIL_HOLDER_SMALL_ICON = 1,   /* window id, 0 */
+    RAIL_HOLDER_BIG_ICON = 2,     /* window id, 0 */
+    RAIL_HOLDER_NOTIFICATION = 3  /* window id, notify-icon id */
+};
+uint32_t rail_shared(RAIL_READ_STATE, uint8_t kind, uint32_t first, uint32_t second, uint8_t other_kind, uint32_t other_first,
+                     uint32_t other_second, RAIL_WRITE(out));
 
 /* ---- A list of calls in one. Empties the state memory and does the calls of `script` on it, in turn. A call is its kind (1 byte), the
  * size of what it carries (2 bytes) and so many bytes: an order, 8 bytes of steps, a limit of 4 bytes and an update, or the ids of a lookup as
- * its function takes them, in 4 bytes each (a cell: 1 and 2 bytes). What is missing of them counts 0. Each answer takes a block of `out`: the 4
- * bytes that the call itself answers (an update: 8), and for a lookup RAIL_.._SIZE bytes more (for the session record
- * RAIL_RECORD_MAX), zeros where it is refused. Numbers are little-endian.
+ * its function takes them, in 4 bytes each (a cell: 1 and 2 bytes; of two holders the kinds in 1 byte each). What is missing of them
+ * counts 0. Each answer takes a block of `out`: the 4 bytes that the call itself answers (an update: 8), and for a lookup RAIL_.._SIZE
+ * bytes more (for the session record RAIL_RECORD_MAX), zeros where it is refused. Numbers are little-endian.
  * Answers how many calls were done and why no further one: RAIL_DONE at the end of the script; RAIL_BAD_STATE where a part is too short, and
  * then no byte is changed; before an item that is not done RAIL_TOO_SHORT (fewer than 3 bytes are left), RAIL_LENGTH_DIFFERS (it is cut),
  * RAIL_UNKNOWN_TYPE (no such kind), RAIL_OUTPUT_TOO_SMALL (`out` has no room for its block). Of these the first that applies is given; the
@@ -232,11 +249,10 @@ enum rail_call {
     RAIL_CALL_UPDATE = 8,
     RAIL_CALL_RECORD = 9, /* carries nothing; its block has RAIL_RECORD_MAX bytes, zeros behind the record */
     RAIL_CALL_WINDOWS = 10,
-    RAIL_CALL_NOTIFICATIONS = 11
+    RAIL_CALL_NOTIFICATIONS = 11,
+    RAIL_CALL_SHARED = 12 /* two holders of 9 bytes */
 };
-uint64_t rail_run(uint8_t *directory, size_t directory_size, uint8_t *bodies, size_t bodies_size,
-                  uint8_t *cells, size_t cells_size, uint8_t *journal, size_t journal_size,
-                  const uint8_t *script, size_t script_size, uint8_t *out, size_t out_size);
+uint64_t rail_run(RAIL_WRITE(index), RAIL_WRITE(bodies), RAIL_WRITE_STORE, RAIL_WRITE(journal), RAIL_READ(script), RAIL_WRITE(out));
 static inline uint32_t rail_run_number(uint64_t answer) { return (uint32_t)(answer & 255u); }
 static inline uint64_t rail_run_calls(uint64_t answer) { return answer >> 8; }
 
@@ -259,6 +275,12 @@ uint32_t rail_pdu_write(const uint32_t words[12], const uint8_t *strings, size_t
 #include "rail/chunk.h"
 #include "rail/counter.h"
 #include "rail/session_record.h"
+#undef RAIL_READ
+#undef RAIL_WRITE
+#undef RAIL_READ_STORE
+#undef RAIL_WRITE_STORE
+#undef RAIL_READ_TABLE
+#undef RAIL_READ_STATE
 #include "rail/messages.h"
 #include "rail/records.h"
 #include "rail/orders.h"

@@ -50,12 +50,19 @@ enum rail_change_kind {
     RAIL_CHANGE_ALL_GONE = 8 /* desktop none: no window, no notification icon, no z-order */
 };
 
+/* A cell of the icon cache. */
+struct rail_icon {
+    uint8_t present; /* 0: none, and the next two are 0 */
+    uint8_t cache_id;
+    uint16_t cache_entry;
+};
+
 struct rail_change {
     enum rail_change_kind kind;
     uint32_t flags;          /* FieldsPresentFlags */
     uint32_t window_id;      /* 0 for the desktop */
     uint32_t notify_icon_id; /* 0 but for a notification icon */
-    struct rail_icon filled; /* the cell with a new picture: all that points at it changed too */
+    struct rail_icon filled; /* the cell with a new picture: no record but this order's shows it, all others keep theirs */
 };
 
 /* Behind a string whose length stands at `at`; `size` where it does not lie in the order. */

@@ -3,12 +3,13 @@
 #ifndef RAIL_RECORDS_H
 #define RAIL_RECORDS_H
 
+#include <stddef.h>
 #include <stdint.h>
 #include <string.h>
 
 /* ---- Places: a window (RAIL_WINDOW_SIZE bytes) */
 
-#define RAIL_WINDOW_AT_SMALL_ICON 0           /* 1 byte: 0 for none, else 1 + 6 * cache id + cache entry */
+#define RAIL_WINDOW_AT_SMALL_ICON 0           /* 1 byte: 1 where it shows a small picture, else 0 */
 #define RAIL_WINDOW_AT_BIG_ICON 1             /* 1, as above */
 #define RAIL_WINDOW_AT_OWNER_WINDOW_ID 2      /* 4 */
 #define RAIL_WINDOW_AT_STYLE 6                /* 4 */
@@ -34,6 +35,8 @@
 #define RAIL_WINDOW_AT_VISIBLE_OFFSET_Y 716   /* 4, signed */
 #define RAIL_WINDOW_AT_NUM_VISIBILITY_RECTS 720 /* 2 */
 #define RAIL_WINDOW_AT_VISIBILITY_RECTS 722   /* as WINDOW_RECTS */
+#define RAIL_WINDOW_AT_SMALL_PICTURE 850      /* RAIL_PICTURE_SIZE, zeros where there is none */
+#define RAIL_WINDOW_AT_BIG_PICTURE 5085       /* as above */
 #define RAIL_RECTANGLE_SIZE 8
 
 /* ---- Places: a notification icon (RAIL_NOTIFICATION_SIZE) */
@@ -49,6 +52,7 @@
 #define RAIL_NOTIFICATION_AT_TITLE_BYTES 784  /* 2 */
 #define RAIL_NOTIFICATION_AT_TITLE 786        /* up to 126 */
 #define RAIL_NOTIFICATION_AT_STATE 912        /* 4 */
+#define RAIL_NOTIFICATION_AT_PICTURE 916      /* as a window's */
 
 /* ---- Places: the desktop state (RAIL_DESKTOP_SIZE) */
 
@@ -81,10 +85,13 @@ struct rail_string {
     uint32_t bytes;
 };
 
-struct rail_icon {
-    uint8_t present; /* 0: none, and the next two are 0 */
-    uint8_t cache_id;
-    uint16_t cache_entry;
+/* What a window, notification icon or cell shows. */
+struct rail_picture {
+    uint8_t present; /* 0: none, and all below is 0 or NULL */
+    uint8_t bpp;
+    uint16_t width, height;
+    const uint8_t *bits_mask, *color_table, *bits_color;
+    uint32_t cb_bits_mask, cb_color_table, cb_bits_color;
 };
 
 struct rail_rectangle {
@@ -92,7 +99,7 @@ struct rail_rectangle {
 };
 
 struct rail_window {
-    struct rail_icon small_icon, big_icon;
+    struct rail_picture small_icon, big_icon;
     uint32_t owner_window_id, style, extended_style;
     uint8_t show_state;
     struct rail_string title;
@@ -111,7 +118,7 @@ struct rail_window {
 };
 
 struct rail_notification {
-    struct rail_icon icon;
+    struct rail_picture icon;
     uint32_t version;
     struct rail_string tool_tip;
     uint32_t timeout, info_flags;
@@ -140,13 +147,6 @@ struct rail_notifications {
     struct rail_notification_ids ids[RAIL_NOTIFICATIONS_MAX];
 };
 
-struct rail_picture {
-    uint8_t bpp;
-    uint16_t width, height;
-    const uint8_t *bits_mask, *color_table, *bits_color;
-    uint32_t cb_bits_mask, cb_color_table, cb_bits_color;
-};
-
 /* ---- Numbers in bytes */
 
 static inline uint32_t rail_get16(const uint8_t *p) { return p[0] + 256u * p[1]; }
@@ -169,17 +169,6 @@ static inline struct rail_string rail_get_string(const uint8_t *p, uint32_t limi
     return string;
 }
 
-/* Where an icon lies: give both numbers to rail_cell. */
-static inline struct rail_icon rail_get_icon(const uint8_t *p) {
-    struct rail_icon icon = {0, 0, 0};
-    if (*p != 0) {
-        icon.present = 1;
-        icon.cache_id = (uint8_t)((*p - 1) / RAIL_ICON_CACHE_ENTRIES);
-        icon.cache_entry = (uint16_t)((*p - 1) % RAIL_ICON_CACHE_ENTRIES);
-    }
-    return icon;
-}
-
 static inline struct rail_rectangle rail_get_rectangle(const uint8_t *p) {
     struct rail_rectangle rectangle;
     rectangle.left = (uint16_t)rail_get16(p);
@@ -197,11 +186,56 @@ static inline uint32_t rail_get_rectangles(const uint8_t *p, struct rail_rectang
     return rail_at_most(rail_get16(p), RAIL_RECTANGLES_MAX);
 }
 
+/* ---- Pictures */
+
+/* A picture, also one that rail_cell handed out. */
+static inline void rail_picture_decode(struct rail_picture *p, const uint8_t record[RAIL_PICTURE_SIZE]) {
+    const uint8_t bpp = record[RAIL_PICTURE_AT_BPP];
+    const int indexed = bpp == 1 || bpp == 4 || bpp == 8;
+    const uint8_t *at = record + RAIL_PICTURE_AT_LENGTHS;
+    uint32_t room = RAIL_ICON_BITS_MAX;
+    p->present = 1;
+    p->bpp = bpp;
+    p->width = (uint16_t)rail_get16(record + RAIL_PICTURE_AT_WIDTH);
+    p->height = (uint16_t)rail_get16(record + RAIL_PICTURE_AT_HEIGHT);
+    p->cb_color_table = indexed ? rail_get16(at) : 0;
+    at += indexed ? 2 : 0;
+    p->cb_bits_mask = rail_at_most(rail_get16(at), room);
+    room -= p->cb_bits_mask;
+    p->cb_color_table = rail_at_most(p->cb_color_table, room);
+    room -= p->cb_color_table;
+    p->cb_bits_color = rail_at_most(rail_get16(at + 2), room);
+    p->bits_mask = at + 4;
+    p->color_table = p->bits_mask + p->cb_bits_mask;
+    p->bits_color = p->color_table + p->cb_color_table;
+}
+
+/* What a record shows: `present` is its byte that says whether, `picture` where it then stands. */
+static inline struct rail_picture rail_get_picture(const uint8_t *present, const uint8_t *picture) {
+    struct rail_picture p = {0, 0, 0, 0, NULL, NULL, NULL, 0, 0, 0};
+    if (*present != 0)
+        rail_picture_decode(&p, picture);
+    return p;
+}
+
+/* The pictures of a window and of a notification icon alone, where the rest is not needed. */
+static inline struct rail_picture rail_window_small_icon(const uint8_t record[RAIL_WINDOW_SIZE]) {
+    return rail_get_picture(record + RAIL_WINDOW_AT_SMALL_ICON, record + RAIL_WINDOW_AT_SMALL_PICTURE);
+}
+
+static inline struct rail_picture rail_window_big_icon(const uint8_t record[RAIL_WINDOW_SIZE]) {
+    return rail_get_picture(record + RAIL_WINDOW_AT_BIG_ICON, record + RAIL_WINDOW_AT_BIG_PICTURE);
+}
+
+static inline struct rail_picture rail_notification_icon(const uint8_t record[RAIL_NOTIFICATION_SIZE]) {
+    return rail_get_picture(record + RAIL_NOTIFICATION_AT_ICON, record + RAIL_NOTIFICATION_AT_PICTURE);
+}
+
 /* ---- Records */
 
 static inline void rail_window_decode(struct rail_window *w, const uint8_t record[RAIL_WINDOW_SIZE]) {
-    w->small_icon = rail_get_icon(record + RAIL_WINDOW_AT_SMALL_ICON);
-    w->big_icon = rail_get_icon(record + RAIL_WINDOW_AT_BIG_ICON);
+    w->small_icon = rail_window_small_icon(record);
+    w->big_icon = rail_window_big_icon(record);
     w->owner_window_id = rail_get32(record + RAIL_WINDOW_AT_OWNER_WINDOW_ID);
     w->style = rail_get32(record + RAIL_WINDOW_AT_STYLE);
     w->extended_style = rail_get32(record + RAIL_WINDOW_AT_EXTENDED_STYLE);
@@ -226,7 +260,7 @@ static inline void rail_window_decode(struct rail_window *w, const uint8_t recor
 }
 
 static inline void rail_notification_decode(struct rail_notification *n, const uint8_t record[RAIL_NOTIFICATION_SIZE]) {
-    n->icon = rail_get_icon(record + RAIL_NOTIFICATION_AT_ICON);
+    n->icon = rail_notification_icon(record);
     n->version = rail_get32(record + RAIL_NOTIFICATION_AT_VERSION);
     n->tool_tip = rail_get_string(record + RAIL_NOTIFICATION_AT_TOOL_TIP_BYTES, RAIL_TOOL_TIP_MAX);
     n->timeout = rail_get32(record + RAIL_NOTIFICATION_AT_TIMEOUT);
@@ -260,26 +294,6 @@ static inline void rail_notifications_decode(struct rail_notifications *n, const
         n->ids[i].window_id = rail_get32(list + RAIL_LIST_AT_IDS + 8 * i);
         n->ids[i].notify_icon_id = rail_get32(list + RAIL_LIST_AT_IDS + 8 * i + 4);
     }
-}
-
-static inline void rail_picture_decode(struct rail_picture *p, const uint8_t record[RAIL_PICTURE_SIZE]) {
-    const uint8_t bpp = record[RAIL_PICTURE_AT_BPP];
-    const int indexed = bpp == 1 || bpp == 4 || bpp == 8;
-    const uint8_t *at = record + RAIL_PICTURE_AT_LENGTHS;
-    uint32_t room = RAIL_ICON_BITS_MAX;
-    p->bpp = bpp;
-    p->width = (uint16_t)rail_get16(record + RAIL_PICTURE_AT_WIDTH);
-    p->height = (uint16_t)rail_get16(record + RAIL_PICTURE_AT_HEIGHT);
-    p->cb_color_table = indexed ? rail_get16(at) : 0;
-    at += indexed ? 2 : 0;
-    p->cb_bits_mask = rail_at_most(rail_get16(at), room);
-    room -= p->cb_bits_mask;
-    p->cb_color_table = rail_at_most(p->cb_color_table, room);
-    room -= p->cb_color_table;
-    p->cb_bits_color = rail_at_most(rail_get16(at + 2), room);
-    p->bits_mask = at + 4;
-    p->color_table = p->bits_mask + p->cb_bits_mask;
-    p->bits_color = p->color_table + p->cb_color_table;
 }
 
 #endif

@@ -16,9 +16,7 @@ extern "C" {
 /* Writes the record of the orders since the mark to the start of `out`, and no byte past it. Refuses with 1, and then with 14 where
  * `out` is smaller than the record; RAIL_RECORD_MAX bytes are always enough. Answers as the state calls do; rail_record_length tells
  * the bytes written. */
-uint32_t rail_record_write(const uint8_t *directory, size_t directory_size, const uint8_t *bodies, size_t bodies_size,
-                           const uint8_t *cells, size_t cells_size, const uint8_t *journal, size_t journal_size,
-                           uint8_t *out, size_t out_size);
+uint32_t rail_record_write(RAIL_READ_STATE, RAIL_WRITE(out));
 
 /* Checks a whole record: rail_number, and where that is 0 how many bodies it has (rail_count) and their bytes (rail_bytes). Refuses
  * with 18, then 19. The bodies are whatever the record holds: an order is judged when it is delivered. */

@@ -14,15 +14,19 @@ uint8_t *fenced(size_t size);
 /* Every byte of the `size` ones is `value`. */
 int filled(const uint8_t *p, size_t size, uint8_t value);
 
-/* The state that the tests use, each part before a fence of its own. */
+/* The state that the tests use, each part before a fence of its own. The store has 64 places, cut as struct rail_state cuts it. */
 struct parts {
-    uint8_t *directory, *bodies, *cells, *journal;
+    uint8_t *index, *bodies, *store[RAIL_STORE_PARTS], *journal;
+    size_t store_size[RAIL_STORE_PARTS];
 };
 extern struct parts now;
-#define NOW                                                                                                         \
-    now.directory, RAIL_DIRECTORY_SIZE, now.bodies, RAIL_BODIES_SIZE, now.cells, RAIL_CELLS_SIZE, now.journal,      \
-        RAIL_JOURNAL_SIZE
+#define PARTS(index_size, bodies_size, journal_size)                                                                \
+    now.index, index_size, now.bodies, bodies_size, now.store[0], now.store_size[0], now.store[1],                  \
+        now.store_size[1], now.store[2], now.store_size[2], now.store[3], now.store_size[3], now.store[4],          \
+        now.store_size[4], now.journal, journal_size
+#define NOW PARTS(RAIL_INDEX_SIZE, RAIL_BODIES_SIZE, RAIL_JOURNAL_SIZE)
 
+struct parts new_parts(const size_t store_size[RAIL_STORE_PARTS], uint8_t value); /* filled with that value */
 void empty_state(void);  /* empties it and checks that this is granted */
 void remember(void);     /* keeps a copy of all its bytes */
 int unchanged(void);     /* all its bytes are those kept */
@@ -56,6 +60,8 @@ void test_window(void);
 void test_notification(void);
 void test_desktop(void);
 void test_pictures(void);
+void test_kept_pictures(void);
+void test_store(void);
 void test_lookups(void);
 void test_orders(void);
 void test_memory(void);

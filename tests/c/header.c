@@ -43,12 +43,16 @@ int filled(const uint8_t *p, size_t size, uint8_t value) {
     return 1;
 }
 
-static struct parts new_parts(void) {
+struct parts new_parts(const size_t store_size[RAIL_STORE_PARTS], uint8_t value) {
     struct parts parts;
-    parts.directory = fenced(RAIL_DIRECTORY_SIZE);
-    parts.bodies = fenced(RAIL_BODIES_SIZE);
-    parts.cells = fenced(RAIL_CELLS_SIZE);
-    parts.journal = fenced(RAIL_JOURNAL_SIZE);
+    int i;
+    parts.index = (uint8_t *)memset(fenced(RAIL_INDEX_SIZE), value, RAIL_INDEX_SIZE);
+    parts.bodies = (uint8_t *)memset(fenced(RAIL_BODIES_SIZE), value, RAIL_BODIES_SIZE);
+    parts.journal = (uint8_t *)memset(fenced(RAIL_JOURNAL_SIZE), value, RAIL_JOURNAL_SIZE);
+    for (i = 0; i < RAIL_STORE_PARTS; i++) {
+        parts.store_size[i] = store_size[i];
+        parts.store[i] = (uint8_t *)memset(fenced(store_size[i]), value, store_size[i]);
+    }
     return parts;
 }
 
@@ -56,17 +60,22 @@ void empty_state(void) {
     CHECK(rail_reset(NOW) == RAIL_DONE);
 }
 
+/* The copy has room for the greatest store that a test lends. */
 void remember(void) {
-    memcpy(kept.directory, now.directory, RAIL_DIRECTORY_SIZE);
+    int i;
+    memcpy(kept.index, now.index, RAIL_INDEX_SIZE);
     memcpy(kept.bodies, now.bodies, RAIL_BODIES_SIZE);
-    memcpy(kept.cells, now.cells, RAIL_CELLS_SIZE);
     memcpy(kept.journal, now.journal, RAIL_JOURNAL_SIZE);
+    for (i = 0; i < RAIL_STORE_PARTS; i++)
+        memcpy(kept.store[i], now.store[i], now.store_size[i]);
 }
 
 int unchanged(void) {
-    return memcmp(kept.directory, now.directory, RAIL_DIRECTORY_SIZE) == 0 &&
-           memcmp(kept.bodies, now.bodies, RAIL_BODIES_SIZE) == 0 &&
-           memcmp(kept.cells, now.cells, RAIL_CELLS_SIZE) == 0 &&
+    int i;
+    for (i = 0; i < RAIL_STORE_PARTS; i++)
+        if (memcmp(kept.store[i], now.store[i], now.store_size[i]) != 0)
+            return 0;
+    return memcmp(kept.index, now.index, RAIL_INDEX_SIZE) == 0 && memcmp(kept.bodies, now.bodies, RAIL_BODIES_SIZE) == 0 &&
            memcmp(kept.journal, now.journal, RAIL_JOURNAL_SIZE) == 0;
 }
 
@@ -160,18 +169,19 @@ void refuse(uint32_t number) {
 }
 
 int main(void) {
-    now = new_parts();
-    kept = new_parts();
+    static const size_t usual[RAIL_STORE_PARTS] = {15 * RAIL_PLACE_SIZE, 15 * RAIL_PLACE_SIZE, 15 * RAIL_PLACE_SIZE,
+                                                   15 * RAIL_PLACE_SIZE, 4 * RAIL_PLACE_SIZE};
+    static const size_t greatest[RAIL_STORE_PARTS] = {131072, 131072, 131072, 131072, 131072};
+    now = new_parts(usual, 0xA5);
+    kept = new_parts(greatest, 0);
     order.at = fenced(70000);
-    memset(now.directory, 0xA5, RAIL_DIRECTORY_SIZE);
-    memset(now.bodies, 0xA5, RAIL_BODIES_SIZE);
-    memset(now.cells, 0xA5, RAIL_CELLS_SIZE);
-    memset(now.journal, 0xA5, RAIL_JOURNAL_SIZE);
     test_constants();
     test_window();
     test_notification();
     test_desktop();
     test_pictures();
+    test_kept_pictures();
+    test_store();
     test_lookups();
     test_orders();
     test_memory();

@@ -28,22 +28,25 @@ static void set_owner(uint32_t owner_id) {
     put32(owner_id);
 }
 
-/* A step back restores the cell that its order overwrote, and the pointer. */
+/* A step back restores the cell that its order overwrote, and what the window shows. */
 static void undo_of_icon(void) {
-    uint8_t one[RAIL_PICTURE_SIZE], other[RAIL_PICTURE_SIZE];
+    static uint8_t one[RAIL_PICTURE_SIZE], other[RAIL_PICTURE_SIZE], before[RAIL_WINDOW_SIZE], after[RAIL_WINDOW_SIZE];
     begin_window(WINDOW_ORDER_ICON, 7);
     put_icon(2, 1, 24, 4, 0, 8, 0x10);
     grant();
     CHECK(rail_number(rail_cell(NOW, 1, 2, one, sizeof one)) == RAIL_DONE);
     CHECK(rail_number(rail_checkpoint(NOW)) == RAIL_DONE);
+    CHECK(rail_number(rail_window(NOW, 7, before, sizeof before)) == RAIL_DONE);
     begin_window(WINDOW_ORDER_ICON, 7);
     put_icon(2, 1, 24, 8, 0, 4, 0x60);
     grant();
     CHECK(rail_number(rail_cell(NOW, 1, 2, other, sizeof other)) == RAIL_DONE);
     CHECK(memcmp(one, other, sizeof one) != 0);
+    CHECK(rail_number(rail_window(NOW, 7, after, sizeof after)) == RAIL_DONE && memcmp(before, after, sizeof before) != 0);
     CHECK(undo(1) == RAIL_DONE);
     CHECK(rail_number(rail_cell(NOW, 1, 2, other, sizeof other)) == RAIL_DONE);
     CHECK(memcmp(one, other, sizeof one) == 0);
+    CHECK(rail_number(rail_window(NOW, 7, after, sizeof after)) == RAIL_DONE && memcmp(before, after, sizeof before) == 0);
 }
 
 /* 128 orders after a mark and no more. */
@@ -120,7 +123,7 @@ static void deliver_to(struct rail_state *s) {
 
 /* Both states hold the same bytes in every part that has a meaning, and answer alike. */
 static void compare(const struct rail_state *s) {
-    uint8_t one[RAIL_PICTURE_SIZE], other[RAIL_PICTURE_SIZE];
+    static uint8_t one[RAIL_WINDOW_SIZE], other[RAIL_WINDOW_SIZE];
     CHECK(rail_state_window(s, 7, one) == rail_window(NOW, 7, other, RAIL_WINDOW_SIZE));
     CHECK(memcmp(one, other, RAIL_WINDOW_SIZE) == 0);
     CHECK(rail_state_notification(s, 7, 9, one) == rail_notification(NOW, 7, 9, other, RAIL_NOTIFICATION_SIZE));
@@ -136,9 +139,24 @@ static void compare(const struct rail_state *s) {
     CHECK(rail_state_cell(s, 0, 5, one) == RAIL_UNKNOWN_ID);
 }
 
+/* The cell of the icon, the window that it was sent for and the notification icon that took it from the cell share one place. */
+static void compare_holders(const struct rail_state *s) {
+    const struct rail_holder cell = rail_cell_holder(1, 5), small = rail_small_icon_holder(7), big = rail_big_icon_holder(7);
+    const struct rail_holder icon = rail_notification_holder(7, 9);
+    uint8_t shared = 0xEE, raw = 0xEE;
+    CHECK(rail_state_shared(s, cell, small, &shared) == rail_shared(NOW, 0, 1, 5, 1, 7, 0, &raw, 1) && shared == 1 && raw == 1);
+    shared = raw = 0xEE;
+    CHECK(rail_state_shared(s, icon, small, &shared) == rail_shared(NOW, 3, 7, 9, 1, 7, 0, &raw, 1) && shared == 1 && raw == 1);
+    shared = raw = 0xEE;
+    CHECK(rail_state_shared(s, big, small, &shared) == RAIL_UNKNOWN_ID && rail_shared(NOW, 2, 7, 0, 1, 7, 0, &raw, 1) == RAIL_UNKNOWN_ID);
+    CHECK(rail_state_shared(s, cell, rail_cell_holder(0, 5), &shared) == RAIL_UNKNOWN_ID);
+    CHECK(rail_state_shared(s, cell, rail_notification_holder(9, 7), &shared) == RAIL_UNKNOWN_ID);
+    CHECK(shared == 0xEE && raw == 0xEE);
+}
+
 void test_wrappers(void) {
     struct rail_state *s = (struct rail_state *)(void *)fenced(sizeof *s);
-    CHECK(sizeof *s == 128978);
+    CHECK(RAIL_PLACES == 64 && sizeof *s == 349475);
     CHECK(rail_state_reset(s) == RAIL_DONE);
     empty_state();
     begin_window(WINDOW_ORDER_STATE_NEW | WINDOW_ORDER_FIELD_TITLE, 7);
@@ -155,6 +173,7 @@ void test_wrappers(void) {
     put32(7);
     deliver_to(s);
     compare(s);
+    compare_holders(s);
     CHECK(rail_state_deliver(s, NULL, 0) == RAIL_TOO_SHORT);
     CHECK(rail_state_history(s) == undo(0) && rail_count(undo(0)) == 4);
     CHECK(rail_state_undo(s, 1) == undo(1));
@@ -176,10 +195,13 @@ static void decode_any(uint8_t *w, uint8_t *n, uint8_t *d, uint8_t *p) {
     rail_window_decode(&window, w);
     CHECK(window.title.bytes <= RAIL_TITLE_MAX);
     CHECK(window.num_window_rects <= RAIL_RECTANGLES_MAX && window.num_visibility_rects <= RAIL_RECTANGLES_MAX);
-    CHECK(window.small_icon.cache_entry < RAIL_ICON_CACHE_ENTRIES);
+    CHECK(window.small_icon.present == 1 && window.big_icon.present == 1);
+    CHECK(window.small_icon.bits_color + window.small_icon.cb_bits_color <= w + RAIL_WINDOW_AT_BIG_PICTURE);
+    CHECK(window.big_icon.bits_color + window.big_icon.cb_bits_color <= w + RAIL_WINDOW_SIZE);
     rail_notification_decode(&notification, n);
     CHECK(notification.tool_tip.bytes <= RAIL_TOOL_TIP_MAX && notification.info_tip_text.bytes <= RAIL_INFO_TIP_TEXT_MAX);
     CHECK(notification.title.bytes <= RAIL_INFO_TIP_TITLE_MAX);
+    CHECK(notification.icon.present == 1 && notification.icon.bits_color + notification.icon.cb_bits_color <= n + RAIL_NOTIFICATION_SIZE);
     rail_desktop_decode(&desktop, d);
     CHECK(desktop.num_window_ids <= RAIL_WINDOW_IDS_MAX);
     rail_windows_decode(&windows, w + RAIL_WINDOW_SIZE - RAIL_LIST_SIZE);
@@ -211,12 +233,12 @@ void test_decoders(void) {
     CHECK(rail_number(RAIL_MESSAGE_MAX * 65536u) == RAIL_DONE && rail_bytes(RAIL_MESSAGE_MAX * 65536u) == RAIL_MESSAGE_MAX);
     CHECK(strcmp(rail_number_words(RAIL_OUTPUT_TOO_SMALL), "output memory too small") == 0);
     CHECK(strcmp(rail_number_words(RAIL_CHUNK_TOO_SHORT), "chunk under 8 bytes") == 0);
-    CHECK(strcmp(rail_number_words(RAIL_BAD_CHUNK), rail_number_words(17)) != 0);
+    CHECK(strcmp(rail_number_words(RAIL_NO_PLACE), "every place is pointed at") == 0);
+    CHECK(strcmp(rail_number_words(RAIL_BAD_CHUNK), rail_number_words(22)) != 0);
     CHECK(strcmp(rail_number_words(RAIL_FLAGS_CLASH), "order flags clash") == 0);
-    CHECK(strcmp(rail_number_words(17), rail_number_words(UINT32_MAX)) == 0);
-    CHECK(strcmp(rail_number_words(RAIL_RECORD_CUT), rail_number_words(17)) != 0);
-    CHECK(strcmp(rail_number_words(RAIL_RECORD_DIFFERS), rail_number_words(17)) != 0);
+    CHECK(strcmp(rail_number_words(22), rail_number_words(UINT32_MAX)) == 0);
+    CHECK(strcmp(rail_number_words(RAIL_RECORD_CUT), rail_number_words(22)) != 0);
+    CHECK(strcmp(rail_number_words(RAIL_RECORD_DIFFERS), rail_number_words(22)) != 0);
     CHECK(strcmp(rail_number_words(RAIL_WRONG_END), "a kind from the wrong end") == 0);
     CHECK(strcmp(rail_number_words(RAIL_NOT_PERMITTED), "a program not permitted") == 0);
-    CHECK(strcmp(rail_number_words(22), rail_number_words(17)) == 0);
 }

@@ -1,4 +1,4 @@
-/* Icons: the cells that they fill and the pointers that records hold. Lookups into memory too small, just enough and more. */
+/* Icons: the cells that they fill and the pictures that records show. Lookups into memory too small, just enough and more. */
 #include "check.h"
 
 /* The picture that put_icon makes stands in the cell, with zeros behind. */
@@ -7,7 +7,7 @@ static void check_picture(const uint8_t *r, uint32_t bpp, size_t mask, size_t ta
     struct rail_picture p;
     size_t i, wrong = 0;
     rail_picture_decode(&p, r);
-    CHECK(r[RAIL_PICTURE_AT_BPP] == bpp && p.bpp == bpp);
+    CHECK(p.present == 1 && r[RAIL_PICTURE_AT_BPP] == bpp && p.bpp == bpp);
     CHECK(rail_get16(r + RAIL_PICTURE_AT_WIDTH) == RAIL_ICON_SIDE_MAX && p.width == RAIL_ICON_SIDE_MAX);
     CHECK(rail_get16(r + RAIL_PICTURE_AT_HEIGHT) == 1 && p.height == 1);
     CHECK(p.cb_bits_mask == mask && p.cb_color_table == table && p.cb_bits_color == color);
@@ -24,7 +24,21 @@ static void give_window_icon(uint32_t flags, uint32_t entry, uint32_t cache, uin
     grant();
 }
 
-/* Fills all cells; in turn the small and the big icon of the window point at them. */
+/* The struct and its accessor alone have the picture that stands in the record. */
+static void check_shown(struct rail_picture shown, struct rail_picture alone, const uint8_t *picture) {
+    struct rail_picture p;
+    rail_picture_decode(&p, picture);
+    CHECK(shown.present == 1 && shown.bpp == p.bpp && shown.width == p.width && shown.height == p.height);
+    CHECK(shown.bits_mask == p.bits_mask && shown.color_table == p.color_table && shown.bits_color == p.bits_color);
+    CHECK(shown.cb_bits_mask == p.cb_bits_mask && shown.cb_color_table == p.cb_color_table && shown.cb_bits_color == p.cb_bits_color);
+    CHECK(alone.present == 1 && alone.bits_mask == p.bits_mask && alone.cb_bits_color == p.cb_bits_color);
+}
+
+static int shows_nothing(struct rail_picture shown) {
+    return shown.present == 0 && shown.bpp == 0 && shown.width == 0 && shown.bits_mask == NULL && shown.cb_bits_color == 0;
+}
+
+/* Fills all cells, in turn for the small and the big icon of the window, which shows the last of each. */
 static void fill_cells(uint8_t *window, uint8_t *picture) {
     uint32_t cell;
     struct rail_window w;
@@ -36,16 +50,28 @@ static void fill_cells(uint8_t *window, uint8_t *picture) {
         CHECK(rail_number(rail_cell(NOW, (uint8_t)cache, (uint16_t)entry, picture, RAIL_PICTURE_SIZE)) == RAIL_DONE);
         check_picture(picture, 32, 3, 0, 5, (uint8_t)(16 * cell));
         CHECK(rail_number(rail_window(NOW, 7, window, RAIL_WINDOW_SIZE)) == RAIL_DONE);
-        CHECK(window[big ? RAIL_WINDOW_AT_BIG_ICON : RAIL_WINDOW_AT_SMALL_ICON] == cell + 1);
-        CHECK(window[big ? RAIL_WINDOW_AT_SMALL_ICON : RAIL_WINDOW_AT_BIG_ICON] == cell);
         rail_window_decode(&w, window);
-        CHECK((big ? w.big_icon : w.small_icon).cache_id == cache && (big ? w.big_icon : w.small_icon).cache_entry == entry);
-        CHECK((big ? w.big_icon : w.small_icon).present == 1);
+        CHECK(window[RAIL_WINDOW_AT_SMALL_ICON] == 1 && window[RAIL_WINDOW_AT_BIG_ICON] == (cell == 0 ? 0 : 1));
+        check_picture(window + RAIL_WINDOW_AT_SMALL_PICTURE, 32, 3, 0, 5, (uint8_t)(16 * (big ? cell - 1 : cell)));
+        check_shown(w.small_icon, rail_window_small_icon(window), window + RAIL_WINDOW_AT_SMALL_PICTURE);
+        if (cell == 0) {
+            CHECK(shows_nothing(w.big_icon) && shows_nothing(rail_window_big_icon(window)));
+            CHECK(filled(window + RAIL_WINDOW_AT_BIG_PICTURE, RAIL_PICTURE_SIZE, 0));
+        } else {
+            check_picture(window + RAIL_WINDOW_AT_BIG_PICTURE, 32, 3, 0, 5, (uint8_t)(16 * (big ? cell : cell - 1)));
+            check_shown(w.big_icon, rail_window_big_icon(window), window + RAIL_WINDOW_AT_BIG_PICTURE);
+        }
     }
 }
 
 static void notification_icons(uint8_t *notification, uint8_t *picture) {
     struct rail_notification n;
+    begin_notification(WINDOW_ORDER_STATE_NEW, 7, 8);
+    grant();
+    CHECK(rail_number(rail_notification(NOW, 7, 8, notification, RAIL_NOTIFICATION_SIZE)) == RAIL_DONE);
+    rail_notification_decode(&n, notification);
+    CHECK(shows_nothing(n.icon) && shows_nothing(rail_notification_icon(notification)));
+    CHECK(filled(notification, RAIL_NOTIFICATION_SIZE, 0));
     begin_notification(WINDOW_ORDER_STATE_NEW | WINDOW_ORDER_ICON, 7, 9);
     put_icon(4, 1, 8, 7, 11, 13, 0x40);
     grant();
@@ -53,15 +79,15 @@ static void notification_icons(uint8_t *notification, uint8_t *picture) {
     check_picture(picture, 8, 7, 11, 13, 0x40);
     CHECK(rail_number(rail_notification(NOW, 7, 9, notification, RAIL_NOTIFICATION_SIZE)) == RAIL_DONE);
     rail_notification_decode(&n, notification);
-    CHECK(notification[RAIL_NOTIFICATION_AT_ICON] == 11 && notification[1] == 0);
-    CHECK(n.icon.present && n.icon.cache_id == 1 && n.icon.cache_entry == 4);
+    CHECK(notification[RAIL_NOTIFICATION_AT_ICON] == 1 && notification[1] == 0);
+    check_picture(notification + RAIL_NOTIFICATION_AT_PICTURE, 8, 7, 11, 13, 0x40);
+    check_shown(n.icon, rail_notification_icon(notification), notification + RAIL_NOTIFICATION_AT_PICTURE);
     begin_notification(WINDOW_ORDER_CACHED_ICON, 7, 9);
     put16(2);
     put8(0);
     grant();
     CHECK(rail_number(rail_notification(NOW, 7, 9, notification, RAIL_NOTIFICATION_SIZE)) == RAIL_DONE);
-    rail_notification_decode(&n, notification);
-    CHECK(n.icon.present && n.icon.cache_id == 0 && n.icon.cache_entry == 2);
+    check_picture(notification + RAIL_NOTIFICATION_AT_PICTURE, 32, 3, 0, 5, 2 * 16); /* what cell 0/2 holds */
 }
 
 void test_pictures(void) {
@@ -82,7 +108,8 @@ void test_pictures(void) {
     put8(0);
     grant();
     CHECK(rail_number(rail_window(NOW, 7, window, RAIL_WINDOW_SIZE)) == RAIL_DONE);
-    CHECK(window[RAIL_WINDOW_AT_BIG_ICON] == 6 && window[RAIL_WINDOW_AT_SMALL_ICON] == 11);
+    check_picture(window + RAIL_WINDOW_AT_BIG_PICTURE, 32, 3, 0, 5, 5 * 16);
+    check_picture(window + RAIL_WINDOW_AT_SMALL_PICTURE, 32, 3, 0, 5, 10 * 16); /* cell 1/4 was filled again, the window keeps its own */
     for (i = 0; i < sizeof depths; i++) { /* the greatest picture of each depth */
         const size_t table = depths[i] < 16 ? 1024 : 0;
         begin_window(WINDOW_ORDER_ICON, 7);
@@ -90,6 +117,11 @@ void test_pictures(void) {
         grant();
         CHECK(rail_number(rail_cell(NOW, 1, 3, picture, RAIL_PICTURE_SIZE)) == RAIL_DONE);
         check_picture(picture, depths[i], 128, table, RAIL_ICON_BITS_MAX - 128 - table, (uint8_t)i);
+        CHECK(rail_number(rail_window(NOW, 7, window, RAIL_WINDOW_SIZE)) == RAIL_DONE);
+        CHECK(memcmp(window + RAIL_WINDOW_AT_SMALL_PICTURE, picture, RAIL_PICTURE_SIZE) == 0);
+        CHECK(rail_number(rail_checkpoint(NOW)) == RAIL_DONE); /* the same from the store */
+        CHECK(rail_number(rail_window(NOW, 7, window, RAIL_WINDOW_SIZE)) == RAIL_DONE);
+        CHECK(memcmp(window + RAIL_WINDOW_AT_SMALL_PICTURE, picture, RAIL_PICTURE_SIZE) == 0);
     }
 }
 
@@ -101,13 +133,14 @@ static uint32_t look(int which, uint8_t *out, size_t size) {
     case 2: return rail_cell(NOW, 1, 5, out, size);
     case 3: return rail_windows(NOW, out, size);
     case 4: return rail_notifications(NOW, out, size);
+    case 5: return rail_shared(NOW, RAIL_HOLDER_CELL, 1, 5, RAIL_HOLDER_SMALL_ICON, 7, 0, out, size);
     default: return rail_desktop(NOW, out, size);
     }
 }
 
 void test_lookups(void) {
     static const size_t sizes[] = {RAIL_WINDOW_SIZE, RAIL_NOTIFICATION_SIZE, RAIL_PICTURE_SIZE,
-                                   RAIL_LIST_SIZE, RAIL_LIST_SIZE, RAIL_DESKTOP_SIZE};
+                                   RAIL_LIST_SIZE, RAIL_LIST_SIZE, RAIL_SHARED_SIZE, RAIL_DESKTOP_SIZE};
     int which;
     uint32_t history;
     empty_state();
@@ -117,7 +150,7 @@ void test_lookups(void) {
     begin_notification(WINDOW_ORDER_STATE_NEW, 7, 9);
     history = deliver();
     CHECK(rail_number(history) == RAIL_DONE && rail_count(history) == 3 && rail_bytes(history) == 11 + 11 + 20 + 15);
-    for (which = 0; which < 6; which++) {
+    for (which = 0; which < 7; which++) {
         const size_t size = sizes[which];
         uint8_t *less = fenced(size - 1), *more = fenced(size + 999);
         memset(less, 0xEE, size - 1);

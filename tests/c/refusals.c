@@ -1,50 +1,82 @@
 /* Every number that a state call can answer, and that a refusal changes no byte. */
 #include "check.h"
 
-/* Call `which` of the ten state calls on memory whose parts have these sizes. */
-static uint32_t call(int which, const size_t size[4], uint8_t *out) {
-#define SIZED now.directory, size[0], now.bodies, size[1], now.cells, size[2], now.journal, size[3]
+#define CALLS 11
+#define STATE_PARTS (3 + RAIL_STORE_PARTS)
+#define OUT_SIZE RAIL_WINDOW_SIZE /* the longest record */
+
+/* The parts at their measure, with a store of 64 places. */
+static const size_t whole[STATE_PARTS] = {RAIL_INDEX_SIZE, RAIL_BODIES_SIZE, 15 * RAIL_PLACE_SIZE, 15 * RAIL_PLACE_SIZE,
+                                          15 * RAIL_PLACE_SIZE, 15 * RAIL_PLACE_SIZE, 4 * RAIL_PLACE_SIZE, RAIL_JOURNAL_SIZE};
+
+/* Call `which` of the state calls on memory whose parts have these sizes. */
+static uint32_t call(int which, const size_t size[STATE_PARTS], uint8_t *out) {
+#define SIZED                                                                                                       \
+    now.index, size[0], now.bodies, size[1], now.store[0], size[2], now.store[1], size[3], now.store[2], size[4],   \
+        now.store[3], size[5], now.store[4], size[6], now.journal, size[7]
     switch (which) {
     case 0: return rail_reset(SIZED);
     case 1: return rail_deliver(SIZED, order.at, order.size);
     case 2: return rail_checkpoint(SIZED);
     case 3: return rail_undo(SIZED, 0);
-    case 4: return rail_window(SIZED, 7, out, RAIL_PICTURE_SIZE);
-    case 5: return rail_notification(SIZED, 7, 9, out, RAIL_PICTURE_SIZE);
-    case 6: return rail_cell(SIZED, 0, 0, out, RAIL_PICTURE_SIZE);
-    case 7: return rail_windows(SIZED, out, RAIL_PICTURE_SIZE);
-    case 8: return rail_notifications(SIZED, out, RAIL_PICTURE_SIZE);
-    default: return rail_desktop(SIZED, out, RAIL_PICTURE_SIZE);
+    case 4: return rail_window(SIZED, 7, out, OUT_SIZE);
+    case 5: return rail_notification(SIZED, 7, 9, out, OUT_SIZE);
+    case 6: return rail_cell(SIZED, 0, 0, out, OUT_SIZE);
+    case 7: return rail_windows(SIZED, out, OUT_SIZE);
+    case 8: return rail_notifications(SIZED, out, OUT_SIZE);
+    case 9: return rail_shared(SIZED, RAIL_HOLDER_CELL, 0, 0, RAIL_HOLDER_SMALL_ICON, 7, 0, out, OUT_SIZE);
+    default: return rail_desktop(SIZED, out, OUT_SIZE);
     }
 }
 
 /* All calls from `first` on answer 1 and change nothing. */
-static void all_meet_1(int first, const size_t size[4], uint8_t *out) {
+static void all_meet_1(int first, const size_t size[STATE_PARTS], uint8_t *out) {
     int which;
     remember();
-    memset(out, 0xEE, RAIL_PICTURE_SIZE);
-    for (which = first; which < 10; which++)
+    memset(out, 0xEE, OUT_SIZE);
+    for (which = first; which < CALLS; which++)
         CHECK(call(which, size, out) == RAIL_BAD_STATE);
-    CHECK(unchanged() && filled(out, RAIL_PICTURE_SIZE, 0xEE));
+    CHECK(unchanged() && filled(out, OUT_SIZE, 0xEE));
+}
+
+/* A byte changed: all calls but emptying meet 1. It is changed back. */
+static void unformed(uint8_t *at, uint8_t value, uint8_t *out) {
+    const uint8_t before = *at;
+    *at = value;
+    all_meet_1(1, whole, out);
+    *at = before;
+    CHECK(rail_number(call(3, whole, out)) == RAIL_DONE);
+}
+
+/* The index (docs/MEMORY.md): the number of places, the pointers of 12 cells and of the slots' icons, the slots. */
+static void unformed_index(uint8_t *out) {
+    unformed(now.index, RAIL_PLACES_MIN - 1, out);
+    unformed(now.index, RAIL_PLACES_MAX + 1, out);
+    unformed(now.index, 0, out);
+    unformed(now.index + 1, RAIL_PLACES_MAX + 1, out); /* a cell past the places */
+    unformed(now.index + 13 + 3 * 47, 1, out);         /* an icon of a slot that has no record */
+    unformed(now.index + 157, 2, out);                 /* neither free nor used */
 }
 
 void test_state_refusals(void) {
-    static const size_t whole[4] = {RAIL_DIRECTORY_SIZE, RAIL_BODIES_SIZE, RAIL_CELLS_SIZE, RAIL_JOURNAL_SIZE};
-    uint8_t *out = fenced(RAIL_PICTURE_SIZE);
-    size_t size[4];
+    uint8_t *out = fenced(OUT_SIZE);
+    size_t size[STATE_PARTS];
     int part;
     empty_state();
     begin_window(WINDOW_ORDER_STATE_NEW, 7);
     grant();
-    for (part = 0; part < 4; part++) {
+    for (part = 0; part < STATE_PARTS; part++) {
+        const int first = part >= 2 && part < 7; /* emptying takes a smaller store */
         memcpy(size, whole, sizeof size);
         size[part] = whole[part] - 1;
-        all_meet_1(0, size, out);
+        all_meet_1(first, size, out);
         size[part] = 0;
-        all_meet_1(0, size, out);
+        all_meet_1(first, size, out);
     }
-    now.directory[0] = 2; /* neither free nor used */
-    all_meet_1(1, whole, out);
+    unformed_index(out);
+    CHECK(rail_checkpoint(NOW) == RAIL_DONE);
+    unformed_index(out);
+    now.index[157] = 2;
     CHECK(call(0, whole, out) == RAIL_DONE); /* emptying takes any contents */
     now.journal[0] = RAIL_HISTORY_ORDERS_MAX + 1;
     all_meet_1(1, whole, out);
@@ -58,24 +90,29 @@ void test_state_refusals(void) {
 
 /* Parts longer than needed: the calls answer as on the measure, and what lies behind is untouched. */
 void test_longer_parts(void) {
-    static const size_t longer[4] = {RAIL_DIRECTORY_SIZE + 999, RAIL_BODIES_SIZE + 999, RAIL_CELLS_SIZE + 999, 65536};
+    static const size_t longer[STATE_PARTS] = {RAIL_INDEX_SIZE + 999, RAIL_BODIES_SIZE + 999, 15 * RAIL_PLACE_SIZE + 999,
+                                               15 * RAIL_PLACE_SIZE + 999, 15 * RAIL_PLACE_SIZE + 999, 15 * RAIL_PLACE_SIZE + 999,
+                                               5 * RAIL_PLACE_SIZE + 999, 65536};
     const struct parts exact = now;
-    uint8_t *out = fenced(RAIL_PICTURE_SIZE);
+    uint8_t *out = fenced(OUT_SIZE);
     int which;
-    now.directory = (uint8_t *)memset(fenced(longer[0]), 0xEE, longer[0]);
+    now.index = (uint8_t *)memset(fenced(longer[0]), 0xEE, longer[0]);
     now.bodies = (uint8_t *)memset(fenced(longer[1]), 0xEE, longer[1]);
-    now.cells = (uint8_t *)memset(fenced(longer[2]), 0xEE, longer[2]);
-    now.journal = (uint8_t *)memset(fenced(longer[3]), 0xEE, longer[3]);
+    for (which = 0; which < RAIL_STORE_PARTS; which++)
+        now.store[which] = (uint8_t *)memset(fenced(longer[2 + which]), 0xEE, longer[2 + which]);
+    now.journal = (uint8_t *)memset(fenced(longer[7]), 0xEE, longer[7]);
     begin_window(WINDOW_ORDER_STATE_NEW, 7);
     order.at[1] = (uint8_t)order.size;
     CHECK(call(0, longer, out) == RAIL_DONE);
     CHECK(call(1, longer, out) == 65536 * 11 + 256);
-    for (which = 3; which < 10; which++)
-        CHECK(call(which, longer, out) == (which == 5 || which == 6 ? RAIL_UNKNOWN_ID : 65536 * 11 + 256));
+    for (which = 3; which < CALLS; which++)
+        CHECK(call(which, longer, out) == (which == 5 || which == 6 || which == 9 ? RAIL_UNKNOWN_ID : 65536 * 11 + 256));
     CHECK(call(2, longer, out) == RAIL_DONE);
     CHECK(call(4, longer, out) == RAIL_DONE);
-    CHECK(filled(now.directory + RAIL_DIRECTORY_SIZE, 999, 0xEE) && filled(now.bodies + RAIL_BODIES_SIZE, 999, 0xEE));
-    CHECK(filled(now.cells + RAIL_CELLS_SIZE, 999, 0xEE) && filled(now.journal + RAIL_JOURNAL_SIZE, 65536 - RAIL_JOURNAL_SIZE, 0xEE));
+    CHECK(filled(now.index + RAIL_INDEX_SIZE, 999, 0xEE) && filled(now.bodies + RAIL_BODIES_SIZE, 999, 0xEE));
+    for (which = 0; which < RAIL_STORE_PARTS; which++)
+        CHECK(filled(now.store[which], longer[2 + which], 0xEE)); /* no picture was brought */
+    CHECK(filled(now.journal + RAIL_JOURNAL_SIZE, 65536 - RAIL_JOURNAL_SIZE, 0xEE));
     now = exact;
 }
 
@@ -226,15 +263,15 @@ static void refuse_ids(uint8_t *out) {
     refuse(RAIL_UNKNOWN_ID);
     begin_notification(WINDOW_ORDER_STATE_NEW, 0, 0);
     refuse(RAIL_UNKNOWN_ID);
-    memset(out, 0xEE, RAIL_PICTURE_SIZE);
+    memset(out, 0xEE, OUT_SIZE);
     CHECK(rail_window(NOW, 99, out, 0) == RAIL_UNKNOWN_ID);
     CHECK(rail_notification(NOW, 9, 0, out, 0) == RAIL_UNKNOWN_ID);
-    CHECK(rail_notification(NOW, 0, 9, out, RAIL_PICTURE_SIZE) == RAIL_UNKNOWN_ID);
-    CHECK(rail_cell(NOW, 0, 0, out, RAIL_PICTURE_SIZE) == RAIL_UNKNOWN_ID);
-    CHECK(rail_cell(NOW, 0, RAIL_ICON_CACHE_ENTRIES, out, RAIL_PICTURE_SIZE) == RAIL_UNKNOWN_ID);
-    CHECK(rail_cell(NOW, RAIL_ICON_CACHES, 0, out, RAIL_PICTURE_SIZE) == RAIL_UNKNOWN_ID);
+    CHECK(rail_notification(NOW, 0, 9, out, OUT_SIZE) == RAIL_UNKNOWN_ID);
+    CHECK(rail_cell(NOW, 0, 0, out, OUT_SIZE) == RAIL_UNKNOWN_ID);
+    CHECK(rail_cell(NOW, 0, RAIL_ICON_CACHE_ENTRIES, out, OUT_SIZE) == RAIL_UNKNOWN_ID);
+    CHECK(rail_cell(NOW, RAIL_ICON_CACHES, 0, out, OUT_SIZE) == RAIL_UNKNOWN_ID);
     CHECK(rail_cell(NOW, 255, 65535, out, 0) == RAIL_UNKNOWN_ID);
-    CHECK(filled(out, RAIL_PICTURE_SIZE, 0xEE) && unchanged());
+    CHECK(filled(out, OUT_SIZE, 0xEE) && unchanged());
 }
 
 /* 10: the window after the last. A delete makes a place. */
@@ -248,7 +285,7 @@ static void fill_windows(uint8_t *out) {
     refuse(RAIL_TABLE_FULL);
     begin_window(WINDOW_ORDER_STATE_DELETED, 5);
     grant();
-    CHECK(rail_window(NOW, 5, out, RAIL_PICTURE_SIZE) == RAIL_UNKNOWN_ID);
+    CHECK(rail_window(NOW, 5, out, OUT_SIZE) == RAIL_UNKNOWN_ID);
     begin_window(WINDOW_ORDER_STATE_NEW, id);
     grant();
 }
@@ -263,11 +300,11 @@ static void fill_notifications(uint8_t *out) {
     refuse(RAIL_TABLE_FULL);
     begin_notification(WINDOW_ORDER_STATE_DELETED, 0, 3);
     grant();
-    CHECK(rail_notification(NOW, 0, 3, out, RAIL_PICTURE_SIZE) == RAIL_UNKNOWN_ID);
+    CHECK(rail_notification(NOW, 0, 3, out, OUT_SIZE) == RAIL_UNKNOWN_ID);
 }
 
 void test_table_refusals(void) {
-    uint8_t *out = fenced(RAIL_PICTURE_SIZE);
+    uint8_t *out = fenced(OUT_SIZE);
     empty_state();
     begin_window(WINDOW_ORDER_STATE_NEW, 0);
     grant();

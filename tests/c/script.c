@@ -3,7 +3,7 @@
 
 #include <string.h>
 
-static uint8_t script[4096], expected[16384 + 2 * RAIL_RECORD_MAX];
+static uint8_t script[4096], expected[65536 + 2 * RAIL_RECORD_MAX];
 static size_t script_size, expected_size, calls;
 
 /* The block of a call that was answered so, with `size` bytes for a record. */
@@ -98,6 +98,13 @@ static void add_lists(void) {
     add(RAIL_CALL_NOTIFICATIONS, script, 0);
 }
 
+static void add_shared(uint8_t cache, uint8_t entry, uint8_t window) {
+    const uint8_t arg[18] = {RAIL_HOLDER_CELL, cache, 0, 0, 0, entry, 0, 0, 0, RAIL_HOLDER_SMALL_ICON, window, 0, 0, 0, 0, 0, 0, 0};
+    uint8_t *const shared = block(0, RAIL_SHARED_SIZE);
+    answered(shared, rail_shared(NOW, RAIL_HOLDER_CELL, cache, entry, RAIL_HOLDER_SMALL_ICON, window, 0, shared, RAIL_SHARED_SIZE));
+    add(RAIL_CALL_SHARED, arg, sizeof arg);
+}
+
 static void add_calls(void) {
     begin_window(WINDOW_ORDER_STATE_NEW | WINDOW_ORDER_FIELD_TITLE, 7);
     put_string(40, 0x41);
@@ -110,6 +117,8 @@ static void add_calls(void) {
     add_window(8); /* 9 */
     add_cell(1, 2);
     add_cell(2, 0); /* 9 */
+    add_shared(1, 2, 7);
+    add_shared(1, 2, 8); /* 9 */
     block(rail_checkpoint(NOW), 0);
     add(RAIL_CALL_CHECKPOINT, script, 0);
     begin_notification(WINDOW_ORDER_STATE_NEW | WINDOW_ORDER_FIELD_NOTIFY_TIP, 7, 3);
@@ -147,14 +156,15 @@ void test_script(void) {
     memset(&other, 0xA5, sizeof other);
     memset(out, 0xA5, sizeof out);
 #define OTHER                                                                                                       \
-    other.directory, RAIL_DIRECTORY_SIZE, other.bodies, RAIL_BODIES_SIZE, other.cells, RAIL_CELLS_SIZE,             \
-        other.journal
+    other.index, RAIL_INDEX_SIZE, other.bodies, RAIL_BODIES_SIZE, RAIL_STATE_STORE(&other, 0),                      \
+        RAIL_STATE_STORE(&other, 1), RAIL_STATE_STORE(&other, 2), RAIL_STATE_STORE(&other, 3),                      \
+        RAIL_STATE_STORE(&other, 4), other.journal
     CHECK(rail_run(OTHER, RAIL_JOURNAL_SIZE - 1, script, script_size, out, sizeof out) == RAIL_BAD_STATE);
     CHECK(filled((const uint8_t *)&other, sizeof other, 0xA5) && filled(out, sizeof out, 0xA5));
     CHECK(ends(rail_run(OTHER, RAIL_JOURNAL_SIZE, script, script_size, out, last), RAIL_DONE, calls));
     CHECK(memcmp(out, expected, last) == 0);
     CHECK(filled(out + last, sizeof out - last, 0xA5));
-    CHECK(memcmp(other.directory, now.directory, RAIL_DIRECTORY_SIZE) == 0);
+    CHECK(memcmp(other.index, now.index, RAIL_INDEX_SIZE) == 0);
     /* no script at all: emptied, and nothing done */
     CHECK(ends(rail_run(OTHER, RAIL_JOURNAL_SIZE, script, 0, out, 0), RAIL_DONE, 0));
     CHECK(rail_number(rail_window(OTHER, RAIL_JOURNAL_SIZE, 7, out, sizeof out)) == RAIL_UNKNOWN_ID);
@@ -168,7 +178,7 @@ void test_script(void) {
     /* an emptying, and then an item that is no call: less than its head, cut, of an unknown kind, and in this order */
     add(RAIL_CALL_RESET, script, 0);
     add(RAIL_CALL_WINDOW, script, 0);
-    script[script_size] = RAIL_CALL_NOTIFICATIONS + 1;
+    script[script_size] = RAIL_CALL_SHARED + 1;
     script[script_size + 1] = script[script_size + 2] = 0;
     CHECK(ends(rail_run(OTHER, RAIL_JOURNAL_SIZE, script, script_size + 2, out, sizeof out), RAIL_TOO_SHORT, calls));
     CHECK(ends(rail_run(OTHER, RAIL_JOURNAL_SIZE, script, script_size + 3, out, sizeof out), RAIL_UNKNOWN_TYPE, calls));

@@ -45,8 +45,7 @@ static void writing(void) {
     CHECK(write_to(36) == RAIL_OUTPUT_TOO_SMALL && unchanged() && filled(room, RAIL_RECORD_MAX, 0xEE));
     CHECK(write_to(0) == RAIL_OUTPUT_TOO_SMALL && filled(room, RAIL_RECORD_MAX, 0xEE));
     CHECK(rail_record_length(RAIL_OUTPUT_TOO_SMALL) == 0);
-    CHECK(rail_record_write(now.directory, RAIL_DIRECTORY_SIZE - 1, now.bodies, RAIL_BODIES_SIZE, now.cells, RAIL_CELLS_SIZE,
-                            now.journal, RAIL_JOURNAL_SIZE, room, 0) == RAIL_BAD_STATE);
+    CHECK(rail_record_write(PARTS(RAIL_INDEX_SIZE - 1, RAIL_BODIES_SIZE, RAIL_JOURNAL_SIZE), room, 0) == RAIL_BAD_STATE);
 }
 
 /* The record in `out` has this answer, with no body to be had where that is a refusal. */

@@ -32,22 +32,27 @@ static void alike(uint32_t orders) {
     static struct rail_state other;
     size_t at = 0;
     memset(&other, 0, sizeof other);
+    CHECK(rail_state_reset(&other) == RAIL_DONE);
     for (; orders != 0; orders--) {
         const size_t size = rail_order_size(update + at, update_size - at);
         CHECK(rail_number(rail_state_deliver(&other, update + at, size)) == RAIL_DONE);
         at += size;
     }
-    CHECK(memcmp(other.directory, now.directory, RAIL_DIRECTORY_SIZE) == 0);
+    CHECK(memcmp(other.index, now.index, RAIL_INDEX_SIZE) == 0);
     CHECK(memcmp(other.bodies, now.bodies, RAIL_BODIES_SIZE) == 0);
-    CHECK(memcmp(other.cells, now.cells, RAIL_CELLS_SIZE) == 0);
+    CHECK(filled(now.store[0], now.store_size[0], 0) && filled(now.store[4], now.store_size[4], 0));
     CHECK(memcmp(other.journal, now.journal, RAIL_JOURNAL_SIZE) == 0);
 }
 
-static void zero_state(void) {
-    memset(now.directory, 0, RAIL_DIRECTORY_SIZE);
+/* Zeros, emptied. */
+static void fresh_state(void) {
+    int i;
+    memset(now.index, 0, RAIL_INDEX_SIZE);
     memset(now.bodies, 0, RAIL_BODIES_SIZE);
-    memset(now.cells, 0, RAIL_CELLS_SIZE);
     memset(now.journal, 0, RAIL_JOURNAL_SIZE);
+    for (i = 0; i < RAIL_STORE_PARTS; i++)
+        memset(now.store[i], 0, now.store_size[i]);
+    empty_state();
 }
 
 static void limits(void) {
@@ -58,13 +63,13 @@ static void limits(void) {
     for (limit = 0; limit <= 7; limit++) {
         const uint32_t orders = limit < 5 ? limit : 5;
         uint64_t report;
-        zero_state();
+        fresh_state();
         report = rail_update(NOW, limit, update, update_size);
         CHECK(is(report, RAIL_DONE, orders, 11 * orders) && stand(report, orders, 11 * orders));
         alike(orders);
     }
     /* the next begins where the granted ones end */
-    zero_state();
+    fresh_state();
     CHECK(is(rail_update(NOW, 2, update, update_size), RAIL_DONE, 2, 22));
     CHECK(stand(rail_update(NOW, UINT32_MAX, update + 22, update_size - 22), 5, 55));
     alike(5);
@@ -82,14 +87,14 @@ static void refusals(void) {
     add_window(2);
     add_window(1); /* 9 */
     add_window(3);
-    zero_state();
+    fresh_state();
     report = rail_update(NOW, 4, update, update_size);
     CHECK(is(report, RAIL_UNKNOWN_ID, 2, 22) && stand(report, 2, 22));
     alike(2);
     CHECK(is(rail_update(NOW, 4, update + 22, update_size - 22), RAIL_UNKNOWN_ID, 0, 0));
     alike(2);
     CHECK(is(rail_update(NOW, 4, update + 33, update_size - 33), RAIL_DONE, 1, 11));
-    zero_state();
+    fresh_state();
     update_size = 0;
     add(none, sizeof none);
     add(cut, sizeof cut);
@@ -112,11 +117,9 @@ static void refusals(void) {
 static void unfit(void) {
     update_size = 0;
     add_window(1);
-    zero_state();
-    CHECK(rail_update(now.directory, RAIL_DIRECTORY_SIZE - 1, now.bodies, RAIL_BODIES_SIZE, now.cells, RAIL_CELLS_SIZE, now.journal,
-                      RAIL_JOURNAL_SIZE, 1, update, update_size) == RAIL_BAD_STATE);
-    CHECK(rail_update(now.directory, RAIL_DIRECTORY_SIZE, now.bodies, RAIL_BODIES_SIZE, now.cells, RAIL_CELLS_SIZE, now.journal,
-                      RAIL_JOURNAL_SIZE - 1, 0, update, 0) == RAIL_BAD_STATE);
+    fresh_state();
+    CHECK(rail_update(PARTS(RAIL_INDEX_SIZE - 1, RAIL_BODIES_SIZE, RAIL_JOURNAL_SIZE), 1, update, update_size) == RAIL_BAD_STATE);
+    CHECK(rail_update(PARTS(RAIL_INDEX_SIZE, RAIL_BODIES_SIZE, RAIL_JOURNAL_SIZE - 1), 0, update, 0) == RAIL_BAD_STATE);
     alike(0);
     now.journal[0] = 129;
     CHECK(rail_update(NOW, 0, update, 0) == RAIL_BAD_STATE);
@@ -134,7 +137,7 @@ static void longer(void) {
         return;
     for (at = 0; at < size; at += sizeof none)
         memcpy(all + at, none, sizeof none);
-    zero_state();
+    fresh_state();
     for (at = 0; at < size;) {
         const uint64_t report = rail_update(NOW, UINT32_MAX, all + at, size - at);
         const uint32_t number = rail_number(rail_update_answer(report));
@@ -145,7 +148,7 @@ static void longer(void) {
             break;
     }
     CHECK(at == size && orders == size / sizeof none);
-    zero_state();
+    fresh_state();
     all[7 + 1] = 0; /* under 7: the rest of 139,993 bytes is one */
     CHECK(is(rail_update(NOW, 9, all, size), RAIL_LENGTH_DIFFERS, 1, 7));
     all[7 + 1] = (139993 & 255);

@@ -5,13 +5,32 @@
 
 #include "script.h"
 
-static struct rail_state state, before;
-static uint8_t *const part[4] = {state.directory, state.bodies, state.cells, state.journal};
-static const size_t whole[4] = {RAIL_DIRECTORY_SIZE, RAIL_BODIES_SIZE, RAIL_CELLS_SIZE, RAIL_JOURNAL_SIZE};
-static size_t lent[4];
-static uint8_t out[RAIL_PICTURE_SIZE + 64]; /* what a lookup hands out; the two lists one after the other */
+/* The parts: index, bodies, journal, and those of the store, whose memory stays where it is while they are lent shorter. */
+enum { INDEX, BODIES, JOURNAL, STORE, PARTS = STORE + RAIL_STORE_PARTS };
+#define PART_MAX 65536
 
-#define LENT part[0], lent[0], part[1], lent[1], part[2], lent[2], part[3], lent[3]
+static uint8_t part[PARTS][PART_MAX], before[PARTS][PART_MAX];
+static size_t whole[PARTS] = {RAIL_INDEX_SIZE, RAIL_BODIES_SIZE, RAIL_JOURNAL_SIZE, 15 * RAIL_PLACE_SIZE, 15 * RAIL_PLACE_SIZE,
+                              15 * RAIL_PLACE_SIZE, 15 * RAIL_PLACE_SIZE, 4 * RAIL_PLACE_SIZE};
+static size_t short_by[PARTS], lent[PARTS]; /* what an item T takes away; what the next call is lent */
+static uint8_t out[RAIL_WINDOW_SIZE + 64]; /* what a lookup hands out; the two lists one after the other */
+
+#define LENT                                                                                                        \
+    part[INDEX], lent[INDEX], part[BODIES], lent[BODIES], part[STORE], lent[STORE], part[STORE + 1],                \
+        lent[STORE + 1], part[STORE + 2], lent[STORE + 2], part[STORE + 3], lent[STORE + 3], part[STORE + 4],       \
+        lent[STORE + 4], part[JOURNAL], lent[JOURNAL]
+
+static void lend_parts(void) {
+    int i;
+    for (i = 0; i < PARTS; i++)
+        lent[i] = short_by[i] > whole[i] ? 0 : whole[i] - short_by[i];
+}
+
+/* After a call nothing is missing any more. */
+static void lend_whole(void) {
+    memset(short_by, 0, sizeof short_by);
+    lend_parts();
+}
 
 static void print_point(const char *name, int32_t x, int32_t y) {
     printf(" %s=%d,%d", name, (int)x, (int)y);
@@ -28,11 +47,15 @@ static void print_rectangles(const char *name, const struct rail_rectangle *r, u
         printf("%s%u,%u,%u,%u", i == 0 ? "" : ";", r[i].left, r[i].top, r[i].right, r[i].bottom);
 }
 
-static void print_icon(const char *name, struct rail_icon icon) {
-    if (icon.present)
-        printf(" %s=%u/%u", name, icon.cache_id, icon.cache_entry);
-    else
+static void print_picture(const char *name, struct rail_picture p) {
+    if (!p.present) {
         printf(" %s=none", name);
+        return;
+    }
+    printf(" %s=%u,%u,%u", name, p.bpp, p.width, p.height);
+    print_hex(",", p.bits_mask, p.cb_bits_mask);
+    print_hex(",", p.color_table, p.cb_color_table);
+    print_hex(",", p.bits_color, p.cb_bits_color);
 }
 
 static void print_window(uint32_t id) {
@@ -49,8 +72,8 @@ static void print_window(uint32_t id) {
     print_rectangles("rects", w.window_rects, w.num_window_rects);
     print_point("visible", w.visible_offset_x, w.visible_offset_y);
     print_rectangles("vis_rects", w.visibility_rects, w.num_visibility_rects);
-    print_icon("small", w.small_icon);
-    print_icon("big", w.big_icon);
+    print_picture("small", w.small_icon);
+    print_picture("big", w.big_icon);
 }
 
 static void print_notification(uint32_t window_id, uint32_t notify_icon_id) {
@@ -62,7 +85,7 @@ static void print_notification(uint32_t window_id, uint32_t notify_icon_id) {
     print_hex(" text=", n.info_tip_text.at, n.info_tip_text.bytes);
     print_hex(" title=", n.title.at, n.title.bytes);
     printf(" state=%u", n.state);
-    print_icon("picture", n.icon);
+    print_picture("picture", n.icon);
 }
 
 static void print_cell(void) {
@@ -97,12 +120,20 @@ static void print_lists(void) {
         printf("%s%u/%u", i == 0 ? "" : ",", icons.ids[i].window_id, icons.ids[i].notify_icon_id);
 }
 
-/* Which of the parts from 0 on differ from those before the call. */
-static int changed(int parts) {
-    return memcmp(state.directory, before.directory, sizeof state.directory) != 0 ||
-           memcmp(state.bodies, before.bodies, sizeof state.bodies) != 0 ||
-           memcmp(state.cells, before.cells, sizeof state.cells) != 0 ||
-           (parts == 4 && memcmp(state.journal, before.journal, sizeof state.journal) != 0);
+#define BIT(part) (1u << (part))
+#define JOURNAL_ONLY BIT(JOURNAL)
+#define ALL_BUT_STORE (BIT(INDEX) | BIT(BODIES) | BIT(JOURNAL))
+#define ALL (BIT(PARTS) - 1)
+
+/* A part that is not among those named differs from before the call, or one of the store past what is lent. */
+static int changed(unsigned may) {
+    int i;
+    for (i = 0; i < PARTS; i++) {
+        const size_t from = (may & BIT(i)) == 0 ? 0 : lent[i];
+        if (memcmp(part[i] + from, before[i] + from, PART_MAX - from) != 0)
+            return 1;
+    }
+    return 0;
 }
 
 static int untouched(size_t from) {
@@ -116,9 +147,9 @@ static int untouched(size_t from) {
 static int is_wrong(int kind, uint32_t number, size_t record) {
     if (!untouched(number == RAIL_DONE ? record : 0))
         return 1;
-    if (number != RAIL_DONE || strchr("WNCSI", kind) != NULL)
-        return changed(4);
-    return strchr("DB", kind) != NULL && changed(3);
+    if (number != RAIL_DONE || strchr("WNCSIH", kind) != NULL)
+        return changed(0);
+    return changed(kind == 'M' ? ALL : kind == 'E' ? ALL_BUT_STORE : JOURNAL_ONLY);
 }
 
 /* Both lists; they answer alike. */
@@ -141,6 +172,9 @@ static uint32_t call(const struct item *item, size_t *record) {
     case 'N': return rail_notification(LENT, rail_get32(p), rail_get32(p + 4), out, *record = RAIL_NOTIFICATION_SIZE);
     case 'C': return rail_cell(LENT, p[2], (uint16_t)rail_get16(p), out, *record = RAIL_PICTURE_SIZE);
     case 'I': return lists(record);
+    case 'H':
+        return rail_shared(LENT, p[0], rail_get32(p + 1), rail_get32(p + 5), p[9], rail_get32(p + 10), rail_get32(p + 14), out,
+                           *record = RAIL_SHARED_SIZE);
     default: return rail_desktop(LENT, out, *record = RAIL_DESKTOP_SIZE);
     }
 }
@@ -149,8 +183,9 @@ static uint32_t call(const struct item *item, size_t *record) {
 static int run_update(const struct item *item) {
     const uint64_t report = rail_update(LENT, rail_get32(item->payload), item->payload + 4, item->size - 4);
     const uint32_t answer = rail_update_answer(report);
-    memcpy(lent, whole, sizeof lent);
-    if (changed(rail_update_orders(report) == 0 ? 4 : 3)) {
+    const int wrong = changed(rail_update_orders(report) == 0 ? 0 : JOURNAL_ONLY);
+    lend_whole();
+    if (wrong) {
         puts("memory changed");
         return 0;
     }
@@ -169,12 +204,12 @@ static int run_record(const struct item *item) {
     size_t length, i;
     memset(record, 0xEE, sizeof record);
     answer = rail_record_write(LENT, record, size);
-    memcpy(lent, whole, sizeof lent);
+    lend_whole();
     length = rail_record_length(answer);
     for (i = length; i < sizeof record; i++)
         if (record[i] != 0xEE)
             break;
-    if (changed(4) || length > size || i < sizeof record) {
+    if (changed(0) || length > size || i < sizeof record) {
         puts("memory changed");
         return 0;
     }
@@ -211,33 +246,74 @@ static void print_found(const struct item *item) {
     case 'C': print_cell(); break;
     case 'S': print_desktop(); break;
     case 'I': print_lists(); break;
+    case 'H': printf(" shared=%u", out[0]); break;
     default: break;
     }
 }
 
-/* T and X: no call. Whether the item is a good one. */
+/* T: the next call is lent a part shorter; a second one before that call takes the place of the first. */
+static int shorten(uint32_t which, size_t missing) {
+    if (which >= PARTS || missing == 0 || (which < STORE && missing > whole[which]))
+        return 0;
+    memset(short_by, 0, sizeof short_by);
+    short_by[which] = missing;
+    lend_parts();
+    return 1;
+}
+
+/* X: a byte changes; of the store also one that is not lent. */
+static int damage(uint32_t which, size_t offset, uint8_t value) {
+    if (which >= PARTS || offset >= (which < STORE ? whole[which] : PART_MAX))
+        return 0;
+    part[which][offset] ^= value;
+    return 1;
+}
+
+/* L: other lengths of the store. What the next call lacks by an item T it goes on to lack. */
+static int lend(const uint8_t *p) {
+    int i;
+    for (i = 0; i < RAIL_STORE_PARTS; i++)
+        if (rail_get32(p + 4 * i) > PART_MAX)
+            return 0;
+    for (i = 0; i < RAIL_STORE_PARTS; i++)
+        whole[STORE + i] = rail_get32(p + 4 * i);
+    lend_parts();
+    return 1;
+}
+
+/* Z: the state memory, its parts end to end, and then the places of the store, at most 64. */
+static int print_memory(void) {
+    size_t left = RAIL_PLACES_MAX;
+    int i;
+    print_hex("Z ", part[INDEX], whole[INDEX]);
+    print_hex("", part[BODIES], whole[BODIES]);
+    print_hex("", part[JOURNAL], whole[JOURNAL]);
+    for (i = STORE; i < PARTS; i++) {
+        const size_t places = whole[i] / RAIL_PLACE_SIZE < left ? whole[i] / RAIL_PLACE_SIZE : left;
+        print_hex("", part[i], places * RAIL_PLACE_SIZE);
+        left -= places;
+    }
+    putchar('\n');
+    return 1;
+}
+
+/* T, X, L and Z: no call. Whether the item is a good one. */
 static int prepare(const struct item *item) {
     const uint8_t *p = item->payload;
-    if (p[0] > 3)
-        return 0;
-    if (item->kind == 'T') {
-        const size_t missing = rail_get16(p + 1);
-        if (missing == 0 || missing > whole[p[0]])
-            return 0;
-        lent[p[0]] = whole[p[0]] - missing;
-    } else {
-        if (rail_get32(p + 1) >= whole[p[0]])
-            return 0;
-        part[p[0]][rail_get32(p + 1)] ^= p[5];
+    switch (item->kind) {
+    case 'T': return shorten(p[0], rail_get16(p + 1));
+    case 'X': return damage(p[0], rail_get32(p + 1), p[5]);
+    case 'L': return lend(p);
+    default: return print_memory();
     }
-    return 1;
 }
 
 /* Makes a call and prints its line. Whether the run goes on. */
 static int run(const struct item *item) {
     size_t record;
     uint32_t answer;
-    before = state;
+    int wrong;
+    memcpy(before, part, sizeof before);
     if (item->kind == 'U')
         return run_update(item);
     if (item->kind == 'O')
@@ -246,8 +322,9 @@ static int run(const struct item *item) {
         return run_read(item);
     memset(out, 0xEE, sizeof out);
     answer = call(item, &record);
-    memcpy(lent, whole, sizeof lent);
-    if (is_wrong(item->kind, rail_number(answer), record)) {
+    wrong = is_wrong(item->kind, rail_number(answer), record);
+    lend_whole();
+    if (wrong) {
         puts("memory changed");
         return 0;
     }
@@ -260,22 +337,34 @@ static int run(const struct item *item) {
     return 1;
 }
 
+/* A holder of H: its kind, and the second number of a window, which is 0. */
+static int is_holder(const uint8_t *p) {
+    return p[0] <= RAIL_HOLDER_NOTIFICATION &&
+           ((p[0] != RAIL_HOLDER_SMALL_ICON && p[0] != RAIL_HOLDER_BIG_ICON) || rail_get32(p + 5) == 0);
+}
+
 /* The item's kind and length are listed. */
 static int listed(const struct item *item) {
-    static const char kinds[] = "EMBWNCSITXO";
-    static const size_t sizes[] = {0, 0, 4, 4, 8, 3, 0, 0, 3, 6, 2};
+    static const char kinds[] = "EMBWNCSITXOHLZ";
+    static const size_t sizes[] = {0, 0, 4, 4, 8, 3, 0, 0, 3, 6, 2, 18, 20, 0};
     const char *kind = item->kind == '\0' ? NULL : strchr(kinds, item->kind);
-    return item->kind == 'D' || item->kind == 'V' || (item->kind == 'U' && item->size >= 4) || (kind != NULL && sizes[kind - kinds] == item->size);
+    if (item->kind == 'D' || item->kind == 'V')
+        return 1;
+    if (item->kind == 'U')
+        return item->size >= 4;
+    if (kind == NULL || sizes[kind - kinds] != item->size)
+        return 0;
+    return item->kind != 'H' || (is_holder(item->payload) && is_holder(item->payload + 9));
 }
 
 int main(void) {
     static struct item item;
     int got;
-    memcpy(lent, whole, sizeof lent);
-    if (rail_state_reset(&state) != RAIL_DONE)
+    lend_whole();
+    if (rail_reset(LENT) != RAIL_DONE)
         return 1;
     while ((got = next_item(&item)) == 1 && listed(&item)) {
-        if (item.kind == 'T' || item.kind == 'X') {
+        if (strchr("TXLZ", item.kind) != NULL) {
             if (!prepare(&item))
                 break;
         } else if (!run(&item)) {
