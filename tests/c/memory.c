@@ -91,8 +91,9 @@ static void erasing(void) {
     CHECK(rail_state_wipe(s) == RAIL_DONE);
     CHECK(!holds((const uint8_t *)s, sizeof *s, 0xA7, 1) && filled(s->store, sizeof s->store, 0));
     emptied(s);
+    memset(order.at, 0xA7, 4);
     rail_wipe(order.at, 3);
-    CHECK(filled(order.at, 3, 0) && order.at[3] != 0);
+    CHECK(filled(order.at, 3, 0) && order.at[3] == 0xA7);
     free(s);
 }
 
