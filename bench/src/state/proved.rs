@@ -60,7 +60,7 @@ impl State for Proved {
                     cache_id,
                     cache_entry,
                 };
-                view.shared_bytes(Holder::Small(WindowId(window)), cell.into(), out)
+                view.shared_bytes(Holder::SmallIcon(WindowId(window)), cell.into(), out)
             }
         };
         let standing = standing.map_err(Refusal::number)?;

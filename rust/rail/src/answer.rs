@@ -52,7 +52,7 @@ pub enum Refusal {
     BadChunk = 16,
     /// 17: an icon comes, and every place of the store is pointed at, also once its cell and
     /// what it is for have let go.
-    StoreFull = 17,
+    NoPlace = 17,
     /// 18: a session record without its whole count or table of contents, or with a body
     /// past its end.
     RecordCut = 18,
@@ -83,7 +83,7 @@ impl Refusal {
         Refusal::OutputTooSmall,
         Refusal::ChunkTooShort,
         Refusal::BadChunk,
-        Refusal::StoreFull,
+        Refusal::NoPlace,
         Refusal::RecordCut,
         Refusal::RecordDiffers,
         Refusal::WrongEnd,
@@ -121,7 +121,7 @@ impl Refusal {
                  a total differing from the first's; \
                  or data past the total or, in a last chunk, short of it"
             }
-            Refusal::StoreFull => "every place is pointed at",
+            Refusal::NoPlace => "every place is pointed at",
             Refusal::RecordCut => {
                 "fewer than 2 bytes, or than 2 plus 8 for each counted order, \
                  or an offset plus size past the end"

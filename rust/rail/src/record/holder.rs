@@ -13,9 +13,9 @@ pub enum Holder {
     /// A cell of the icon cache.
     Cell(CacheCell),
     /// The small icon of a window.
-    Small(WindowId),
+    SmallIcon(WindowId),
     /// The big icon of a window.
-    Big(WindowId),
+    BigIcon(WindowId),
     /// A notification icon.
     NotificationIcon(WindowId, NotifyIconId),
 }
@@ -25,8 +25,8 @@ impl Holder {
     pub(crate) fn numbers(self) -> (u8, u32, u32) {
         match self {
             Holder::Cell(cell) => (0, cell.cache_id.into(), cell.cache_entry.into()),
-            Holder::Small(window) => (1, window.0, 0),
-            Holder::Big(window) => (2, window.0, 0),
+            Holder::SmallIcon(window) => (1, window.0, 0),
+            Holder::BigIcon(window) => (2, window.0, 0),
             Holder::NotificationIcon(window, icon) => (3, window.0, icon.0),
         }
     }

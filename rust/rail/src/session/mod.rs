@@ -67,7 +67,7 @@ impl Session {
     /// An empty table with so many places for pictures. A place is used while a cell of the
     /// icon cache, a window (for its small or its big icon) or a notification icon has the
     /// picture in it; where none is free for an icon that comes, its order meets
-    /// [`Refusal::StoreFull`]. The cells alone need up to 12 places, all that can have a
+    /// [`Refusal::NoPlace`]. The cells alone need up to 12 places, all that can have a
     /// picture 92.
     ///
     /// ```
@@ -312,15 +312,15 @@ impl Session {
     /// ];
     /// session.deliver(&small)?;
     /// let cell = Holder::Cell(CacheCell { cache_id: 0, cache_entry: 0 });
-    /// assert!(session.shared(Holder::Small(window), cell)?);
-    /// assert_eq!(session.shared(Holder::Big(window), cell), Err(Refusal::WrongId));
+    /// assert!(session.shared(Holder::SmallIcon(window), cell)?);
+    /// assert_eq!(session.shared(Holder::BigIcon(window), cell), Err(Refusal::WrongId));
     ///
     /// // The cell gets another picture, for the big icon: the small one stays.
     /// let mut big = small;
     /// (big[4], big[24]) = (0x20, 8);
     /// session.deliver(&big)?;
-    /// assert!(!session.shared(Holder::Small(window), cell)?);
-    /// assert!(session.shared(Holder::Big(window), cell)?);
+    /// assert!(!session.shared(Holder::SmallIcon(window), cell)?);
+    /// assert!(session.shared(Holder::BigIcon(window), cell)?);
     /// assert_eq!(session.window(window)?.small.map(|small| small.color), Some(vec![7, 7]));
     /// # Ok::<(), Refusal>(())
     /// ```

@@ -236,10 +236,10 @@ fn pictures_stay() {
     }
     let cell = CacheCell::default();
     assert_eq!(session.picture(cell).unwrap().color, [20, 20]);
-    let with_cell = |id| session.shared(cell.into(), Holder::Small(WindowId(id)));
+    let with_cell = |id| session.shared(cell.into(), Holder::SmallIcon(WindowId(id)));
     assert_eq!((with_cell(20), with_cell(19)), (Ok(true), Ok(false)));
     assert_eq!(with_cell(21), Err(Refusal::WrongId));
-    let big = Holder::Big(WindowId(20));
+    let big = Holder::BigIcon(WindowId(20));
     assert_eq!(session.shared(big, cell.into()), Err(Refusal::WrongId));
 }
 
@@ -256,13 +256,13 @@ fn a_full_store() {
         let [window, icon] = new_window_with_icon(99, 3, 99);
         session.deliver(&window).unwrap();
         let before = session.memory.clone();
-        assert_eq!(session.deliver(&icon), Err(Refusal::StoreFull));
+        assert_eq!(session.deliver(&icon), Err(Refusal::NoPlace));
         assert!(session.memory == before);
-        assert_eq!(session.update(9, &icon).refusal, Some(Refusal::StoreFull));
+        assert_eq!(session.update(9, &icon).refusal, Some(Refusal::NoPlace));
         session.deliver(&delete_window(1)).unwrap();
         session.take(&icon).unwrap();
         session.undo(2).unwrap();
-        assert_eq!(session.deliver(&icon), Err(Refusal::StoreFull));
+        assert_eq!(session.deliver(&icon), Err(Refusal::NoPlace));
         // Its own window lets go of the place that only it and the cell have.
         let [_, again] = new_window_with_icon(places, 3, 98);
         session.deliver(&again).unwrap();

@@ -185,8 +185,8 @@ fn holder(holder: table::Holder) -> Holder {
             cache_id: cache.try_into().unwrap_or(u8::MAX),
             cache_entry: entry.try_into().unwrap_or(u16::MAX),
         }),
-        table::Holder::Small(id) => Holder::Small(WindowId(id.0)),
-        table::Holder::Big(id) => Holder::Big(WindowId(id.0)),
+        table::Holder::Small(id) => Holder::SmallIcon(WindowId(id.0)),
+        table::Holder::Big(id) => Holder::BigIcon(WindowId(id.0)),
         table::Holder::Notification(window, icon) => {
             Holder::NotificationIcon(WindowId(window.0), NotifyIconId(icon.0))
         }
