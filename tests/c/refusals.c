@@ -58,6 +58,31 @@ static void unformed_index(uint8_t *out) {
     unformed(now.index + 157, 2, out);                 /* neither free nor used */
 }
 
+/* With pictures at the mark: two cells at one place, and a head outside its set where something points at its place. */
+static void unformed_pictures(uint8_t *out) {
+    uint8_t *heads = now.bodies + 49 * 916, *cells = now.index + 1;
+    uint32_t place;
+    begin_window(WINDOW_ORDER_ICON, 7);
+    put_icon(0, 0, 32, 1, 0, 1, 0);
+    grant();
+    begin_window(WINDOW_ORDER_ICON | WINDOW_ORDER_FIELD_ICON_BIG, 7);
+    put_icon(1, 0, 32, 1, 0, 1, 0);
+    grant();
+    CHECK(rail_checkpoint(NOW) == RAIL_DONE);
+    CHECK(cells[0] != 0 && cells[1] != 0 && cells[0] != cells[1] && cells[2] == 0);
+    unformed(cells + 1, cells[0], out);
+    unformed(cells + 2, cells[0], out);
+    for (place = 1; place <= RAIL_PLACES_MAX; place++) {
+        uint8_t *head = heads + 14 * (place - 1);
+        if (place != cells[0] && place != cells[1])
+            continue;
+        unformed(head + 3, 2, out);                      /* bits per pixel */
+        unformed(head + 4, 0, out);                      /* the width */
+        unformed(head + 6, RAIL_ICON_SIDE_MAX + 1, out); /* the height */
+        unformed(head + 11, 0xFF, out);                  /* a length of color that the place has not */
+    }
+}
+
 void test_state_refusals(void) {
     uint8_t *out = fenced(OUT_SIZE);
     size_t size[STATE_PARTS];
@@ -76,6 +101,7 @@ void test_state_refusals(void) {
     unformed_index(out);
     CHECK(rail_checkpoint(NOW) == RAIL_DONE);
     unformed_index(out);
+    unformed_pictures(out);
     now.index[157] = 2;
     CHECK(call(0, whole, out) == RAIL_DONE); /* emptying takes any contents */
     now.journal[0] = RAIL_HISTORY_ORDERS_MAX + 1;
