@@ -216,15 +216,15 @@ met-none (suc n) test h = rw (h n (omega arith)) (met-none n test (λ k l. h k (
 met-some : (n : ℕ) (test : ℕ → Bool) (k : ℕ) → k < n → test k ≡ true → met n test ≡ true
 unfolding met
 met-some zero test k l e = absurd (omega arith)
-met-some (suc n) test k l e = go (test n) refl
+met-some (suc n) test k l e = go (test n) refl (λ m. met-some n test k m e)
   where
-    go : (t : Bool) → test n ≡ t → either t (met n test) ≡ true
-    go true f = refl
-    go false f = met-some n test k (before (eqb k n) refl) e
-      where
-        before : (u : Bool) → eqb k n ≡ u → k < n
-        before true g = never (sym f ∙ ap test (sym (eqb-true k n g)) ∙ e)
-        before false g = let ne = eqb-false k n g in omega (arith, ne)
+    before : test n ≡ false → (u : Bool) → eqb k n ≡ u → k < n
+    before f true g = never (sym f ∙ ap test (sym (eqb-true k n g)) ∙ e)
+    before f false g = let ne = eqb-false k n g in omega (arith, ne)
+
+    go : (t : Bool) → test n ≡ t → (k < n → met n test ≡ true) → either t (met n test) ≡ true
+    go true f inner = refl
+    go false f inner = inner (before f (eqb k n) refl)
 
 first-met : (n i : ℕ) (test : ℕ → Bool) → onFound (firstFrom n i test) false (λ k. true) ≡ met n (λ k. test (i + k))
 first-met n i test = go (firstFrom n i test) refl
