@@ -12,7 +12,7 @@
  *   Lifetimes  Nothing is kept: what a call was given may be freed or moved once it has returned.
  *   Threads    The library has no state of its own and allocates nothing. Calls on different memory may run in parallel, and so
  *              may lookups on the same memory. A call that writes has its memory for itself: serialize those.
- *   Stack      A call takes less than 32 KB of stack.
+ *   Stack      A call takes less than 16 KB of stack.
  *   State      rail_reset comes first: memory of zeros is no state, and meets RAIL_BAD_STATE. The bytes may be stored and copied,
  *              those of the store with the others, but only rail_ calls should write them. Whatever they are, every call ends with
  *              a number of its list: memory that describes no state meets RAIL_BAD_STATE, and rail_reset mends it. Damage that

@@ -8,7 +8,7 @@
 
 #define STACK 524288
 #define OUT_SIZE 65536
-#define STACK_MAX 32768 /* rail.h says so */
+#define STACK_MAX 16384 /* rail.h says so */
 #define CALLS 20
 
 static uint8_t *out;
