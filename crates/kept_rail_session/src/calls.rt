@@ -22,6 +22,12 @@ fn put_back(store: &mut [u8; STORE], i: u8, copy: &[u8; PART]) {
     wire::copy_at(store, PART * (i as usize), copy);
 }
 
+// Of a copy of part i of the store what is lent.
+fn lent_of(copy: &mut [u8], i: u8, l: Lending) -> &mut [u8] {
+    let n = lending::within(copy.len(), i, l);
+    &mut copy[0..n]
+}
+
 // A checkpoint, lent what it does not lack of the parts of the store.
 fn lent_checkpoint(
     index: &mut [u8],
@@ -34,19 +40,14 @@ fn lent_checkpoint(
     e: &mut [u8],
     l: Lending,
 ) -> Reply {
-    let na = lending::within(a.len(), 0, l);
-    let nb = lending::within(b.len(), 1, l);
-    let nc = lending::within(c.len(), 2, l);
-    let nd = lending::within(d.len(), 3, l);
-    let ne = lending::within(e.len(), 4, l);
     kept_session::calls::checkpoint(
         index,
         bodies,
-        &mut a[0..na],
-        &mut b[0..nb],
-        &mut c[0..nc],
-        &mut d[0..nd],
-        &mut e[0..ne],
+        lent_of(a, 0, l),
+        lent_of(b, 1, l),
+        lent_of(c, 2, l),
+        lent_of(d, 3, l),
+        lent_of(e, 4, l),
         journal,
     )
 }
