@@ -9,13 +9,14 @@ use Rattle.order.specs.Rows.{firstOf, lenOf, okOf, cutOf, fieldOf, stepOf, walk
 use Rattle.order.specs.Icons.{pictureFit}
 use Rattle.order.specs.Judge.{flagsOf, orderOf, fieldsFit, judgeOf}
 use Rattle.wire.specs.Parts.{slice}
-use Rattle.directory.specs.Plans.{cellAt, iconNumber}
-use Rattle.directory.specs.Directory.{recordNumber, numberIn}
+use Rattle.places.specs.Sharing.{drop, cellsOnly}
+use Rattle.places.specs.Counts.{countBelow}
+use Rattle.index.specs.Index as index
 use Rattle.body.specs.Bodies.{setFlagged, emptyFields, emptyBody}
-use Rattle.table.specs.Table.{emptied, directory, number, bodyAfter, changeRecord, desktopAfter, changeDesktop, after}
+use Rattle.table.specs.Table.{emptied, number, recordFields, fieldsAfter, shownAfter, changeRecord, desktopAfter, changeDesktop, after}
 use Rattle.model.specs.Book.{makes, tableOf, bytesOf, bookNext, bookAfter, bookAnswer, bookAnswers}
 use Rattle.cases.specs.Cases.{CasesHold}
 
 pub cases-hold : CasesHold
-unfolding CasesHold readOf readNumber bodyNumber answerAs recordAs recordOf known widths numsAt numAt sizeOf allowed firstOf lenOf okOf cutOf fieldOf stepOf walkOf pictureFit flagsOf orderOf fieldsFit judgeOf slice cellAt iconNumber recordNumber numberIn setFlagged emptyFields emptyBody emptied directory number bodyAfter changeRecord desktopAfter changeDesktop after makes tableOf bytesOf bookNext bookAnswer bookAnswers bookAfter
+unfolding CasesHold readOf readNumber bodyNumber answerAs recordAs recordOf known widths numsAt numAt sizeOf allowed firstOf lenOf okOf cutOf fieldOf stepOf walkOf pictureFit flagsOf orderOf fieldsFit judgeOf slice drop cellsOnly countBelow index.recordNumber index.notThere index.noRoom index.noPicture index.noPlace index.numberIn index.pictured index.changeRecord index.changeDesktop index.emptyIndex setFlagged emptyFields emptyBody emptied number recordFields fieldsAfter shownAfter changeRecord desktopAfter changeDesktop after makes tableOf bytesOf bookNext bookAnswer bookAnswers bookAfter
 cases-hold = refl

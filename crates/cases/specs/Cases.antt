@@ -1,8 +1,9 @@
 -- Document 01's cases marked (T), "Edges, with bytes": one table and the claim over it. Assumes nothing.
 use Prim.Native.Nat.{ℕ}
 use mathlib.Core.Path.{_≡_}
+use mathlib.Core.Bool.{true, false}
 use mathlib.Core.List.{List, [], _∷_, map}
-use mathlib.Core.Option.{none, some}
+use mathlib.Core.Option.{none}
 use Rattle.wire.specs.Tests.{pick}
 use Rattle.pdu.specs.declared.Read.{Read}
 use Rattle.pdu.specs.declared.Read.the-variants.{Message, Refused}
@@ -11,16 +12,19 @@ use Rattle.pdu.specs.Reading.{readOf}
 use Rattle.order.specs.declared.Judged.{Judged}
 use Rattle.order.specs.declared.Judged.the-variants.{Window, Desktop}
 use Rattle.order.specs.Judge.{refuse, judgeOf}
-use Rattle.directory.specs.Directory.{windows, sameFamily, sameRecord}
+use Rattle.places.specs.declared.Family.the-variants as family
+use Rattle.places.specs.Holder.{sameFamily}
+use Rattle.index.specs.Families.{sameRecord}
+use Rattle.index.specs.Index.{emptyIndex}
 use Rattle.body.specs.Bodies.{Body}
 use Rattle.table.specs.Table.{Table}
 use Rattle.session.specs.declared.LookupTarget.the-variants as T
-use Rattle.session.specs.Calls.{Call, deliver, look, Payload, nothing, body}
+use Rattle.session.specs.Calls.{Call, deliver, look, Payload, nothing, listed, body}
 use Rattle.session.specs.Calls as S
 use Rattle.model.specs.Book.{Book, newBook, tableOf, bookAfter, bookAnswers}
 
--- what is asked, and what the rules answer: of a message; of an order, what its bytes alone say; of calls on an emptied state, what
--- the plain book says, and the standing orders and the table that they leave
+-- what is asked, and what the rules answer: of a message; of an order, what its bytes alone say; of calls on an emptied state with 64
+-- places, what the plain book says, and the standing orders and the table that they leave
 pub data Question : Type 0 where
   readPdu : List ℕ → Question
   judgeOrder : List ℕ → Question
@@ -33,11 +37,14 @@ pub data Answer : Type 0 where
   bookSays : List S.Answer → Answer
   left : Book → Table → Answer
 
+abbrev pub places : ℕ
+places = 64
+
 abbrev pub ask : Question → Answer
 ask (readPdu bytes) = readAs (readOf bytes)
 ask (judgeOrder bytes) = judgedAs (judgeOf bytes)
-ask (askBook calls) = bookSays (bookAnswers calls newBook)
-ask (endOf calls) = left (bookAfter calls newBook) (tableOf (bookAfter calls newBook))
+ask (askBook calls) = bookSays (bookAnswers calls (newBook places))
+ask (endOf calls) = left (bookAfter calls (newBook places)) (tableOf (bookAfter calls (newBook places)))
 
 -- an answer of a state call
 abbrev pub granted : ℕ → ℕ → Payload → S.Answer
@@ -59,42 +66,50 @@ four = 0 ∷ 0 ∷ 0 ∷ 0 ∷ []
 abbrev pub eight : List ℕ
 eight = 0 ∷ 0 ∷ 0 ∷ 0 ∷ 0 ∷ 0 ∷ 0 ∷ 0 ∷ []
 
-abbrev pub windowA : Body
+abbrev pub windowA : List (List ℕ)
 windowA =
-    record {
-      first = 0;
-      second = 0;
-      fields =
-          four
-          ∷ eight
-          ∷ (0 ∷ [])
-          ∷ (0x02 ∷ 0x00 ∷ 0x41 ∷ 0x00 ∷ [])
-          ∷ eight
-          ∷ eight
-          ∷ (0 ∷ [])
-          ∷ four
-          ∷ eight
-          ∷ eight
-          ∷ eight
-          ∷ (0 ∷ 0 ∷ [])
-          ∷ eight
-          ∷ (0 ∷ 0 ∷ [])
-          ∷ [];
-    }
+    four
+    ∷ eight
+    ∷ (0 ∷ [])
+    ∷ (0x02 ∷ 0x00 ∷ 0x41 ∷ 0x00 ∷ [])
+    ∷ eight
+    ∷ eight
+    ∷ (0 ∷ [])
+    ∷ four
+    ∷ eight
+    ∷ eight
+    ∷ eight
+    ∷ (0 ∷ 0 ∷ [])
+    ∷ eight
+    ∷ (0 ∷ 0 ∷ [])
+    ∷ []
 
 -- a desktop state with no active window and no stacking list, neither hooked nor syncing
 abbrev pub desktopNone : Body
 desktopNone = record { first = 0; second = 0; fields = four ∷ (0 ∷ []) ∷ [] }
 
--- a table with this window alone, no cell filled, and an emptied desktop
+-- a table with this window alone, no picture, and an emptied desktop
 abbrev pub tableA : Table
 tableA =
     record {
-      records = λ f a b. pick (sameRecord windows 65624 0 f a b) (some windowA) none;
-      many = λ f. pick (sameFamily windows f) 1 0;
-      cells = λ c. none;
+      index =
+          record {
+            listed = λ f a b. pick (sameRecord family.Windows 65624 0 f a b) true false;
+            many = λ f. pick (sameFamily f family.Windows) 1 0;
+            sharing = emptyIndex places .sharing;
+          };
+      fields = λ f a b. pick (sameRecord family.Windows 65624 0 f a b) windowA [];
+      shown = λ h. none;
       desktop = desktopNone;
     }
+
+-- standing orders after the mark
+abbrev pub standing : List (List ℕ) → Book
+standing os = record { places = places; old = []; new = os }
+
+-- what a lookup of the window hands out: its fields, and no picture for either icon
+abbrev pub windowShown : Payload
+windowShown = listed family.Windows windowA (none ∷ none ∷ [])
 
 -- the window of cases 4 and 5 looked up
 abbrev pub lookA : Call
@@ -138,11 +153,11 @@ cases =
       answer = judgedAs (refuse 5 3);
     }
     -- 4 on an emptied state: one window, title "A"; delivered again: 9, nothing changed
-    ∷ record { question = endOf (deliver newA ∷ []); answer = left (record { old = []; new = newA ∷ [] }) tableA }
-    ∷ record { question = endOf (deliver newA ∷ deliver newA ∷ []); answer = left (record { old = []; new = newA ∷ [] }) tableA }
+    ∷ record { question = endOf (deliver newA ∷ []); answer = left (standing (newA ∷ [])) tableA }
+    ∷ record { question = endOf (deliver newA ∷ deliver newA ∷ []); answer = left (standing (newA ∷ [])) tableA }
     ∷ record {
       question = askBook (deliver newA ∷ lookA ∷ deliver newA ∷ lookA ∷ []);
-      answer = bookSays (granted 1 15 nothing ∷ granted 1 15 (body windowA) ∷ refused 9 ∷ granted 1 15 (body windowA) ∷ []);
+      answer = bookSays (granted 1 15 nothing ∷ granted 1 15 windowShown ∷ refused 9 ∷ granted 1 15 windowShown ∷ []);
     }
     -- 5: then the window gone; on an empty table 9
     ∷ record {

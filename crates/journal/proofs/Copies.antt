@@ -1,107 +1,174 @@
--- Memories that agree in their first 444 bytes describe the same directory. Assumes nothing.
-use mathlib.Core.Path.{_≡_, refl, sym, ap, _∙_}
+-- Memories that agree in their first 589 bytes describe the same index, and show the same pictures. Assumes nothing.
+use mathlib.Core.Path.{_≡_, refl, sym, ap, _∙_, fun-ext}
 use mathlib.Core.Bool.{Bool, true, false}
 use mathlib.Core.List.{List}
-use Prim.Native.Nat.{ℕ, _+_, _*_, _≤_, _<_}
+use Prim.Native.Nat.{ℕ, _+_, _*_, _-_, _≤_, _<_}
 use native.Mathlib.Nat.{zero-add}
 use native.Mathlib.Omega.{arith}
-use lib.Dec.{eqb, ltb}
+use lib.Dec.{ltb}
 use borrow.Author.Tests.{ltb-true}
-use lib.ListN.{length, take, drop}
+use lib.ListN.{length, getD, take, drop}
 use lib.Seq.{take-at}
-use Rattle.wire.specs.Tests.{both}
+use Rattle.wire.specs.Tests.{pick}
 use Rattle.wire.specs.Numbers.{numAt}
 use Rattle.wire.specs.Parts.{slice, splice}
 use Rattle.wire.proofs.Parts.{length-slice, length-splice, slice-cong, splice-start}
-use Rattle.wire.proofs.Numbers.{num-cong}
-use Rattle.directory.specs.declared.Found.{Found}
-use Rattle.directory.specs.Slots.{isUsed, isAt, firstFrom, onFound, filledAt}
-use Rattle.directory.specs.Directory.{Family, start, most, manyIn, directoryOf}
-use Rattle.directory.specs.Sound.{slotOk, marksOk, soundDirectory}
-use Rattle.directory.proofs.Search.{first-cong, count-cong}
-use Rattle.directory.proofs.Memory.{Same, same-used, same-at}
-use Rattle.directory.proofs.Soundness.{highest, Within, within-slots, sound-has, sound-is}
-use Rattle.directory.proofs.After.{same-directory}
+use Rattle.wire.proofs.Numbers.{num1-is, num-cong}
+use Rattle.places.specs.declared.Family.{Family}
+use Rattle.places.specs.declared.Found.{Found}
+use Rattle.places.specs.Counts.{onFound}
+use Rattle.places.specs.Memory.{placesOf, pointerAt, shownOf, shown}
+use Rattle.places.specs.Holder.{Holder, numberOf}
+use Rattle.places.proofs.Counting.{count-cong, first-cong}
+use Rattle.places.proofs.Validity.{valid-has, valid-is}
+use Rattle.index.specs.Families.{start, capacity, highest}
+use Rattle.index.specs.Slots.{usedAt, firstId, secondId, isUsed, isAt, slotOf, manyIn}
+use Rattle.index.specs.Memory.{indexOf}
+use Rattle.index.specs.Sound.{noPointers, slotOk, soundIndex}
+use Rattle.index.proofs.Memory.{Same, same-used, same-at, Still, still-decode}
+use Rattle.index.proofs.Soundness.{Within, within-slots, sound-has, sound-is}
+use Rattle.index.proofs.After.{same-index}
+use Rattle.table.specs.Table.{Table}
+use Rattle.table.specs.Memory.{shownIn}
+use Rattle.follow.specs.declared.Want.{Want}
+use Rattle.follow.specs.declared.Want.the-variants.{Nothing, Window, Notification, Pictures, Desktop}
+use Rattle.follow.specs.Follow.{heldOrigins, originAt, presentPictures, PicturesHeld, Holds}
 
-module _ (x y : List ℕ) (agree : take 444 x ≡ take 444 y) where
-  num-same : (w i : ℕ) → i + w ≤ 444 → numAt w y i ≡ numAt w x i
+module _ (x y : List ℕ) (agree : take 589 x ≡ take 589 y) where
+  num-same : (w i : ℕ) → i + w ≤ 589 → numAt w y i ≡ numAt w x i
   num-same w i h =
       ap (numAt w y) (sym (zero-add i))
-      ∙ num-cong w y x 0 0 444 i h (slice-cong y x 0 444 444 (omega arith) (sym agree))
+      ∙ num-cong w y x 0 0 589 i h (slice-cong y x 0 589 589 (omega arith) (sym agree))
       ∙ ap (numAt w x) (zero-add i)
 
+  byte-same : (i : ℕ) → i < 589 → getD y i 0 ≡ getD x i 0
+  byte-same i h = num1-is y i ∙ num-same 1 i (omega arith) ∙ sym (num1-is x i)
+
+  -- ---- the holders
+
+  pub places-same : placesOf y ≡ placesOf x
+  unfolding placesOf
+  places-same = byte-same 0 (omega arith)
+
+  pub pointers-same : pointerAt y ≡ pointerAt x
+  unfolding pointerAt
+  pointers-same = fun-ext (λ h. go h (ltb h 156) refl)
+    where
+      go : (h : ℕ) (t : Bool) → ltb h 156 ≡ t → pick t (getD y (h + 1) 0) 0 ≡ pick t (getD x (h + 1) 0) 0
+      go h true e =
+          let l = ltb-true h 156 e in
+          byte-same (h + 1) (omega arith)
+      go h false e = refl
+
+  still : Still x y
+  still = record { places = places-same; pointers = pointers-same }
+
+  -- ---- the slots
+
   slot-same : (j : ℕ) → j < 48 → Same x y j
+  unfolding usedAt firstId secondId
   slot-same j h =
       record {
-        used = num-same 1 (9 * j) (omega arith);
-        first = num-same 4 (9 * j + 1) (omega arith);
-        second = num-same 4 (9 * j + 5) (omega arith);
+        used = num-same 1 (157 + 9 * j) (omega arith);
+        first = num-same 4 (157 + 9 * j + 1) (omega arith);
+        second = num-same 4 (157 + 9 * j + 5) (omega arith);
       }
 
-  family-slot : (f : Family) (j : ℕ) → start f ≤ j → j < start f + most f → Same x y j
+  family-slot : (f : Family) (j : ℕ) → start f ≤ j → j < start f + capacity f → Same x y j
   family-slot f j l u = slot-same j (within-slots f j (record { low = l; high = u }))
 
-  find-same : (f : Family) (a b : ℕ) → firstFrom (most f) (start f) (isAt y a b) ≡ firstFrom (most f) (start f) (isAt x a b)
-  find-same f a b = first-cong (most f) (start f) (isAt y a b) (isAt x a b) (λ j l u. same-at x y j (family-slot f j l u) a b)
+  slots-same : slotOf y ≡ slotOf x
+  slots-same = fun-ext (λ f. fun-ext (λ a. fun-ext (λ b. first-cong (capacity f) (start f) (isAt y a b) (isAt x a b) (λ j l u. same-at x y j (family-slot f j l u) a b))))
 
-  many-same : (f : Family) → manyIn f y ≡ manyIn f x
-  many-same f = count-cong (most f) (start f) (isUsed y) (isUsed x) (λ j l u. same-used x y j (family-slot f j l u))
+  many-same : (f : Family) → manyIn y f ≡ manyIn x f
+  many-same f =
+      count-cong (capacity f) (λ k. isUsed x (start f + k)) (λ k. isUsed y (start f + k))
+      (λ k l. same-used x y (start f + k) (family-slot f (start f + k) (omega arith) (omega arith)))
 
-  filled-same : (c : ℕ) → filledAt y c ≡ filledAt x c
-  unfolding filledAt
-  filled-same c = go (ltb c 12) refl
-    where
-      go : (t : Bool) → ltb c 12 ≡ t → both t (eqb (numAt 1 y (432 + c)) 1) ≡ both t (eqb (numAt 1 x (432 + c)) 1)
-      go true e =
-          let h = ltb-true c 12 e in
-          rw (num-same 1 (432 + c) (omega arith))
-      go false e = refl
+  -- ---- the index
 
-  pub directory-same : directoryOf y ≡ directoryOf x
-  unfolding directoryOf
-  directory-same =
-      same-directory (directoryOf y) (directoryOf x) (λ f a b. ap (λ (w : Found). onFound w false (λ i. true)) (find-same f a b)) many-same filled-same
+  pub index-same : indexOf y ≡ indexOf x
+  unfolding indexOf
+  index-same =
+      same-index (indexOf y) (indexOf x) (λ f a b. ap (λ (s : Family → ℕ → ℕ → Found). onFound (s f a b) false (λ i. true)) slots-same) many-same
+      (rw (slots-same, still-decode x y still))
 
-  slot-ok : (f : Family) (i : ℕ) → Within f i → slotOk y (start f) (most f) (highest f) i ≡ slotOk x (start f) (most f) (highest f) i
-  unfolding slotOk
+  slot-ok : (f : Family) (i : ℕ) → Within f i → slotOk y (start f) (capacity f) (highest f) i ≡ slotOk x (start f) (capacity f) (highest f) i
+  unfolding slotOk noPointers
   slot-ok f i w =
       let s = family-slot f i (w .low) (w .high) in
-      rw (s .used, s .first, s .second, find-same f (numAt 4 x (9 * i + 1)) (numAt 4 x (9 * i + 5)))
+      let e : slotOf y f (firstId x i) (secondId x i) ≡ slotOf x f (firstId x i) (secondId x i) = ap (λ (s : Family → ℕ → ℕ → Found). s f (firstId x i) (secondId x i)) slots-same in
+      rw (s .used, s .first, s .second, pointers-same, e)
 
-  mark-ok : (c : ℕ) → c < 12 → marksOk y c ≡ marksOk x c
-  unfolding marksOk
-  mark-ok c h = rw (num-same 1 (432 + c) (omega arith))
-
-  pub sound-same : 444 ≤ length y → soundDirectory x ≡ true → soundDirectory y ≡ true
+  pub sound-same : 589 ≤ length y → soundIndex x ≡ true → soundIndex y ≡ true
   sound-same long h =
       let s = sound-has x h in
+      let v = valid-has x (s .holders) in
       sound-is y
       (record {
         long = long;
+        holders =
+            valid-is y
+            (record {
+              long = omega arith;
+              few = rw places-same (v .few);
+              many = rw places-same (v .many);
+              within = rw (places-same, pointers-same) (v .within);
+              apart = rw pointers-same (v .apart);
+            });
         slots = λ f i w. slot-ok f i w ∙ s .slots f i w;
-        marks = λ c u. mark-ok c u ∙ s .marks c u;
       })
+
+  -- ---- what is shown
+
+  shown-same : (pictures : ℕ → List ℕ) (h : Holder) → shownIn y pictures h ≡ shownIn x pictures h
+  unfolding shown
+  shown-same pictures h =
+      ap (λ (s : Family → ℕ → ℕ → Found). shownOf (pointerAt y) pictures (numberOf s h)) slots-same
+      ∙ ap (λ (ptr : ℕ → ℕ). shownOf ptr pictures (numberOf (slotOf x) h)) pointers-same
+
+  held-same : (t : Table) (origins : List ℕ) (marked since : ℕ → List ℕ) (ok : ℕ → Bool) → PicturesHeld t x origins marked since ok → PicturesHeld t y origins marked since ok
+  held-same t origins marked since ok p =
+      record { shows = λ h. p .shows h ∙ sym (shown-same (presentPictures marked since origins) h); heads = λ h. go h (ap (λ (ptr : ℕ → ℕ). ptr h) pointers-same) }
+    where
+      go : (h : ℕ) → pointerAt y h ≡ pointerAt x h → (pointerAt y h ≡ 0 → ⊥) → originAt origins (pointerAt y h - 1) ≡ 0 → ok (pointerAt y h - 1) ≡ true
+      go h e n z = rw e (p .heads h (λ q. n (e ∙ q)) (ap (λ (k : ℕ). originAt origins (k - 1)) (sym e) ∙ z))
+
+  pub holds-same : (want : Want) (t : Table) (m : List ℕ) (marked since : ℕ → List ℕ) (ok : ℕ → Bool) → Holds want t x m marked since ok → Holds want t y m marked since ok
+  unfolding Holds
+  holds-same Nothing t m marked since ok h = h
+  holds-same (Window w) t m marked since ok h = (h .0, held-same t (heldOrigins (Window w) m) marked since ok (h .1))
+  holds-same (Notification w n) t m marked since ok h = (h .0, held-same t (heldOrigins (Notification w n) m) marked since ok (h .1))
+  holds-same Pictures t m marked since ok h = held-same t (heldOrigins Pictures m) marked since ok h
+  holds-same Desktop t m marked since ok h = h
 
 -- ---- a copy
 
-module _ (d dir : List ℕ) (room : length d ≡ 444) (long : 444 ≤ length dir) where
+module _ (d index : List ℕ) (room : length d ≡ 589) (long : 589 ≤ length index) where
   abbrev copy : List ℕ
-  copy = splice d 0 (slice dir 0 444)
+  copy = splice d 0 (slice index 0 589)
 
-  part-long : length (slice dir 0 444) ≡ 444
-  part-long = length-slice dir 0 444 (omega (arith, long))
+  part-long : length (slice index 0 589) ≡ 589
+  part-long = length-slice index 0 589 (omega (arith, long))
 
-  copy-agrees : take 444 dir ≡ take 444 copy
+  copy-agrees : take 589 index ≡ take 589 copy
   unfolding slice
   copy-agrees =
       sym
-      (ap (take 444) (splice-start d (slice dir 0 444)) ∙ take-at (slice dir 0 444) (drop (length (slice dir 0 444)) d) 444 part-long)
+      (ap (take 589) (splice-start d (slice index 0 589)) ∙ take-at (slice index 0 589) (drop (length (slice index 0 589)) d) 589 part-long)
 
-  copy-long : length copy ≡ 444
-  copy-long = length-splice d 0 (slice dir 0 444) (omega (arith, part-long, room)) ∙ room
+  pub copy-long : length copy ≡ 589
+  copy-long = length-splice d 0 (slice index 0 589) (omega (arith, part-long, room)) ∙ room
 
-  pub copied-directory : {x : List ℕ} → x ≡ copy → directoryOf x ≡ directoryOf dir
-  copied-directory e = ap directoryOf e ∙ directory-same dir copy copy-agrees
+  pub copied-index : indexOf copy ≡ indexOf index
+  copied-index = index-same index copy copy-agrees
 
-  pub copied-sound : {x : List ℕ} → x ≡ copy → soundDirectory dir ≡ true → soundDirectory x ≡ true
-  copied-sound e h = ap soundDirectory e ∙ sound-same dir copy copy-agrees (omega (arith, copy-long)) h
+  pub copied-places : placesOf copy ≡ placesOf index
+  copied-places = places-same index copy copy-agrees
+
+  pub copied-sound : soundIndex index ≡ true → soundIndex copy ≡ true
+  copied-sound h = sound-same index copy copy-agrees (omega (arith, copy-long)) h
+
+  pub copied-holds : (want : Want) (t : Table) (m : List ℕ) (marked since : ℕ → List ℕ) (ok : ℕ → Bool) → Holds want t index m marked since ok
+      → Holds want t copy m marked since ok
+  copied-holds = holds-same index copy copy-agrees

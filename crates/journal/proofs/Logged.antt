@@ -15,57 +15,66 @@ use Rattle.wire.specs.Parts.{splice}
 use Rattle.wire.proofs.Tests.{both-left, both-right}
 use Rattle.wire.proofs.Numbers.{length-bytes}
 use Rattle.wire.proofs.Parts.{length-splice, drop-splice}
+use Rattle.places.specs.Sizes.{fewestPlaces}
+use Rattle.places.specs.Memory.{placesOf}
+use Rattle.index.specs.Families.{indexLength}
+use Rattle.store.specs.Store.{placesIn}
 use Rattle.table.specs.Table.{Table, number}
-use Rattle.table.specs.Memory.{decode, soundTable}
+use Rattle.table.specs.Memory.{bodiesLength, decode, soundTable}
+use Rattle.table.proofs.Past.{same-store}
 use Rattle.journal.specs.declared.JournalExtent.{JournalExtent}
-use Rattle.journal.specs.Limits.{indexLength, bodiesLength, cellsLength, journalLength, mostOrders, logStart}
+use Rattle.journal.specs.Limits.{journalLength, mostOrders, logStart}
 use Rattle.journal.specs.State.{run, bytesIn, allAccepted}
 use Rattle.journal.specs.Journal.{countOf, sizeAt, ordersFrom, endFrom, withinFrom, logOf}
-use Rattle.journal.specs.View.{Memory, memory, Past, tooShort, wellFormed, meetsRule, stateOf, formed, viewOf}
+use Rattle.journal.specs.View.{Memory, memory, Past, shortOf, tooShort, wellFormed, meetsRule, stateOf, formed, viewOf}
 use Rattle.journal.specs.Replay.{extentOf}
 use Rattle.journal.proofs.Runs.{accepted-more, accepted-take, accepted-order}
 use Rattle.journal.proofs.Stored.{Stored, none, stored, stored-end, stored-room, stored-take, stored-reads, fails, counted-count, counted-length, counted-stored, put-length, put-two, put-stored}
 
 -- ---- lengths
 
-pub record Long (m : Memory) : Type 0 where
-  pub dir : indexLength ≤ length (m .dir)
-  pub bodies : bodiesLength ≤ length (m .bodies)
-  pub cells : cellsLength ≤ length (m .cells)
-  pub journal : journalLength ≤ length (m .journal)
+-- the parts are long enough, and enough places are lent
+pub record Long (x b : List ℕ) (lent : ℕ) (j : List ℕ) : Type 0 where
+  pub index : indexLength ≤ length x
+  pub bodies : bodiesLength ≤ length b
+  pub places : fewestPlaces ≤ lent
+  pub journal : journalLength ≤ length j
 
 neither : (a b : Bool) → either a b ≡ false → (a ≡ false) × (b ≡ false)
 neither true b e = let z : _≡_ {A = ℕ} 0 1 = cc in absurd (omega arith)
 neither false b e = (refl, e)
 
-pub long-has : (m : Memory) → tooShort m ≡ false → Long m
-long-has m e =
-    let a = ltb (length (m .dir)) indexLength in
-    let b = ltb (length (m .bodies)) bodiesLength in
-    let c = ltb (length (m .cells)) cellsLength in
-    let x = neither (either (either a b) c) (ltb (length (m .journal)) journalLength) e in
-    let y = neither (either a b) c (x .0) in
-    let z = neither a b (y .0) in
+pub long-has : (x b : List ℕ) (lent : ℕ) (j : List ℕ) → shortOf x b lent j ≡ false → Long x b lent j
+long-has x b lent j e =
+    let f = ltb (length x) indexLength in
+    let g = ltb (length b) bodiesLength in
+    let h = ltb lent fewestPlaces in
+    let u = neither (either (either f g) h) (ltb (length j) journalLength) e in
+    let v = neither (either f g) h (u .0) in
+    let w = neither f g (v .0) in
     record {
-      dir = ltb-false (length (m .dir)) indexLength (z .0);
-      bodies = ltb-false (length (m .bodies)) bodiesLength (z .1);
-      cells = ltb-false (length (m .cells)) cellsLength (y .1);
-      journal = ltb-false (length (m .journal)) journalLength (x .1);
+      index = ltb-false (length x) indexLength (w .0);
+      bodies = ltb-false (length b) bodiesLength (w .1);
+      places = ltb-false lent fewestPlaces (v .1);
+      journal = ltb-false (length j) journalLength (u .1);
     }
 
-pub long-is : (m : Memory) → Long m → tooShort m ≡ false
-long-is m l =
-    rw (le-ltb (length (m .dir)) indexLength (l .dir), le-ltb (length (m .bodies)) bodiesLength (l .bodies), le-ltb (length (m .cells)) cellsLength (l .cells), le-ltb (length (m .journal)) journalLength (l .journal))
+pub long-is : {x b : List ℕ} {lent : ℕ} {j : List ℕ} → Long x b lent j → shortOf x b lent j ≡ false
+long-is {x = x} {b = b} {lent = lent} {j = j} l =
+    rw (le-ltb (length x) indexLength (l .index), le-ltb (length b) bodiesLength (l .bodies), le-ltb lent fewestPlaces (l .places), le-ltb (length j) journalLength (l .journal))
+
+abbrev pub LongIn : Memory → Type 0
+LongIn m = Long (m .index) (m .bodies) (placesIn (m .store)) (m .journal)
 
 -- ---- the rule as facts
 
 abbrev pub markedIn : Memory → Table
-markedIn m = decode (m .dir) (m .bodies) (m .cells)
+markedIn m = decode (m .index) (m .bodies) (m .store)
 
 -- m meets the rule, its orders are os, and w says how many and where they end
 pub record Logged (m : Memory) (w : JournalExtent) (os : List (List ℕ)) : Type 0 where
-  pub long : Long m
-  pub sound : soundTable (m .dir) (m .bodies) (m .cells) ≡ true
+  pub long : LongIn m
+  pub sound : soundTable (m .index) (m .bodies) (placesIn (m .store)) ≡ true
   pub stored : Stored (m .journal) logStart os (w .end)
   pub count : countOf (m .journal) ≡ length os
   pub many : w .count ≡ length os
@@ -89,7 +98,7 @@ module _ {m : Memory} {w : JournalExtent} {os : List (List ℕ)} (l : Logged m w
 
   pub logged-view : viewOf m ≡ formed (record { marked = markedIn m; log = os })
   unfolding viewOf
-  logged-view = rw (long-is m (l .long), logged-formed, logged-state)
+  logged-view = rw (long-is (l .long), logged-formed, logged-state)
 
   -- the bytes stand between
   pub logged-bytes : bytesIn os ≡ w .end - 2
@@ -126,15 +135,15 @@ pub formed-logged : (m : Memory) → tooShort m ≡ false → wellFormed m ≡ t
     → Logged m (record { count = countOf (m .journal); end = endFrom (countOf (m .journal)) logStart (m .journal) }) (logOf (m .journal))
 unfolding wellFormed logOf
 formed-logged m t f =
-    let a = fails (not (soundTable (m .dir) (m .bodies) (m .cells))) (pick (ltb mostOrders (countOf (m .journal))) false (pick (not (withinFrom (countOf (m .journal)) logStart (m .journal))) false (allAccepted (markedIn m) (logOf (m .journal))))) f in
+    let a = fails (not (soundTable (m .index) (m .bodies) (placesIn (m .store)))) (pick (ltb mostOrders (countOf (m .journal))) false (pick (not (withinFrom (countOf (m .journal)) logStart (m .journal))) false (allAccepted (markedIn m) (logOf (m .journal))))) f in
     let b = fails (ltb mostOrders (countOf (m .journal))) (pick (not (withinFrom (countOf (m .journal)) logStart (m .journal))) false (allAccepted (markedIn m) (logOf (m .journal)))) (a .1) in
     let c = fails (not (withinFrom (countOf (m .journal)) logStart (m .journal))) (allAccepted (markedIn m) (logOf (m .journal))) (b .1) in
-    let l = long-has m t in
+    let l = long-has (m .index) (m .bodies) (placesIn (m .store)) (m .journal) t in
     let s = stored (markedIn m) (countOf (m .journal)) logStart (m .journal) (l .journal) (omega arith) (not-false (withinFrom (countOf (m .journal)) logStart (m .journal)) (c .0)) (c .1) in
     let n = sym (length-orders (countOf (m .journal)) logStart (m .journal)) in
     record {
       long = l;
-      sound = not-false (soundTable (m .dir) (m .bodies) (m .cells)) (a .0);
+      sound = not-false (soundTable (m .index) (m .bodies) (placesIn (m .store))) (a .0);
       stored = s;
       count = n;
       many = n;
@@ -151,11 +160,11 @@ extent-formed m r = rw r (formed-logged m (meets m r .0) (meets m r .1))
 
 -- the journal in place of another
 abbrev pub withJournal : Memory → List ℕ → Memory
-withJournal m j = memory (m .dir) (m .bodies) (m .cells) j
+withJournal m j = memory (m .index) (m .bodies) (m .store) j
 
 module _ {m : Memory} {w : JournalExtent} {os : List (List ℕ)} (l : Logged m w os) where
-  long-with : {j : List ℕ} → length j ≡ length (m .journal) → Long (withJournal m j)
-  long-with e = record { dir = l .long .dir; bodies = l .long .bodies; cells = l .long .cells; journal = omega (arith, e, l .long .journal) }
+  long-with : {j : List ℕ} → length j ≡ length (m .journal) → LongIn (withJournal m j)
+  long-with e = record { index = l .long .index; bodies = l .long .bodies; places = l .long .places; journal = omega (arith, e, l .long .journal) }
 
   two : 2 ≤ length (m .journal)
   two = omega (arith, l .long .journal)
@@ -165,9 +174,9 @@ module _ {m : Memory} {w : JournalExtent} {os : List (List ℕ)} (l : Logged m w
   past-counted k =
       let n = length-bytes 2 k in
       record {
-        dir = refl;
+        index = refl;
         bodies = refl;
-        cells = refl;
+        store = same-store (placesOf (m .index)) (m .store);
         journal = drop-splice (m .journal) 0 (bytesOf 2 k) (omega (arith, l .long .journal)) journalLength (omega arith);
       }
 
@@ -178,9 +187,9 @@ module _ {m : Memory} {w : JournalExtent} {os : List (List ℕ)} (l : Logged m w
       let fits : w .end + length s ≤ length (m .journal) = omega (arith, l .long .journal) in
       let p = length-splice (m .journal) (w .end) s fits in
       record {
-        dir = refl;
+        index = refl;
         bodies = refl;
-        cells = refl;
+        store = same-store (placesOf (m .index)) (m .store);
         journal =
             drop-splice (splice (m .journal) (w .end) s) 0 (bytesOf 2 (w .count + 1)) (omega (arith, l .long .journal)) journalLength (omega arith)
             ∙ drop-splice (m .journal) (w .end) s fits journalLength room;
@@ -223,13 +232,13 @@ module _ {m : Memory} {w : JournalExtent} {os : List (List ℕ)} (l : Logged m w
       }
 
 -- none
-pub logged-none : (dir bodies cells j : List ℕ) → Long (memory dir bodies cells j) → soundTable dir bodies cells ≡ true
-    → Logged (memory dir bodies cells (splice j 0 (bytesOf 2 0))) (record { count = 0; end = logStart }) []
+pub logged-none : (x b : List ℕ) (p : List (List ℕ)) (j : List ℕ) → Long x b (placesIn p) j → soundTable x b (placesIn p) ≡ true
+    → Logged (memory x b p (splice j 0 (bytesOf 2 0))) (record { count = 0; end = logStart }) []
 unfolding allAccepted
-logged-none dir bodies cells j l sound =
+logged-none x b p j l sound =
     let two : 2 ≤ length j = omega (arith, l .journal) in
     record {
-      long = record { dir = l .dir; bodies = l .bodies; cells = l .cells; journal = omega (arith, counted-length j 0 two, l .journal) };
+      long = record { index = l .index; bodies = l .bodies; places = l .places; journal = omega (arith, counted-length j 0 two, l .journal) };
       sound = sound;
       stored = none;
       count = counted-count j 0 two (omega arith);

@@ -1,31 +1,36 @@
 -- What the loops over the orders of a journal keep, and what they end with. Assumes nothing.
 use mathlib.Core.Path.{_≡_, refl, sym, ap, _∙_}
 use mathlib.Core.Bool.{true, false}
-use mathlib.Core.List.{List}
+use mathlib.Core.List.{List, map}
 use Prim.Native.Nat.{ℕ, suc, _+_, _-_, _≤_, _<_}
 use native.Mathlib.Omega.{arith}
 use lib.Dec.{eqb, ltb}
-use lib.ListN.{length, take, drop}
+use lib.ListN.{length, getD, take, drop}
 use borrow.Author.Tests.{ne-eqb, lt-ltb, le-ltb, ltb-false}
 use Rattle.wire.specs.Parts.{slice}
-use Rattle.wire.proofs.Numbers.{Bytes}
-use Rattle.directory.specs.declared.Plan.{Plan}
-use Rattle.directory.specs.Plans.{planOf, numberOf}
-use Rattle.directory.specs.Marks.{markedBy}
-use Rattle.directory.specs.Sound.{soundDirectory}
-use Rattle.directory.proofs.Kept.{marked-sound, length-marked}
-use Rattle.table.specs.declared.Want.{Want}
+use Rattle.wire.proofs.Numbers.{Bytes, bytes-slice}
+use Rattle.places.specs.Memory.{placesOf}
+use Rattle.index.specs.declared.Plan.{Plan}
+use Rattle.index.specs.Families.{indexLength}
+use Rattle.index.specs.Plans.{planOf, planNumber}
+use Rattle.index.specs.Changes.{appliedOf, FitsPlan}
+use Rattle.index.specs.Sound.{soundIndex}
+use Rattle.index.proofs.After.{plan-sound, length-plan, judged-fits}
+use Rattle.index.proofs.Ways.{sound-long}
+use Rattle.store.specs.Store.{placesIn}
 use Rattle.table.specs.Table.{after}
 use Rattle.table.specs.Memory.{decode, soundTable}
-use Rattle.table.specs.Outcome.{PastKept, Delivered}
-use Rattle.table.specs.Follow.{roomFor, followedOf, Follows}
-use Rattle.table.proofs.Past.{same-past, past-past}
-use Rattle.table.proofs.Following.{plan-follows, follow-length}
+use Rattle.table.specs.Changes.{Follows}
+use Rattle.table.specs.Outcome.{StoreKept, PastKept, Delivered}
+use Rattle.table.proofs.Able.{plan-follows}
+use Rattle.table.proofs.Past.{same-past, past-past, same-store, store-store}
+use Rattle.follow.specs.declared.Want.{Want}
+use Rattle.follow.specs.Follow.{roomFor, followedOf}
+use Rattle.follow.proofs.Following.{follow-length}
 use Rattle.journal.specs.Limits.{journalLength, logStart}
 use Rattle.journal.specs.State.{run}
 use Rattle.journal.specs.Journal.{sizeAt, orderAt, ordersFrom, endFrom, withinFrom}
 use Rattle.journal.specs.Replay.{indexAfter, followedAfter, replayFrom, stopped, Replayed, Applied}
-use Rattle.journal.proofs.Runs.{bytes-slice}
 use Rattle.journal.proofs.Stored.{fails}
 
 -- ---- orders left
@@ -44,29 +49,32 @@ part-is : (j : List ℕ) (p : ℕ) {size : ℕ} → size ≡ sizeAt j p → take
 unfolding slice
 part-is j p {size = size} is = let e : p + size - p ≡ size = omega arith in rw (e, is)
 
--- ---- one order replayed
+-- ---- one order replayed, at index q of the journal
 
-module _ (want : Want) (d m s : List ℕ) {p : Plan} (judged : p ≡ planOf d s) where
-  pub order-asks : Bytes s → soundDirectory d ≡ true → length m ≡ roomFor want → (length m ≡ roomFor want) × Follows s p
+module _ (want : Want) (q : ℕ) (d m s : List ℕ) {p : Plan} (judged : p ≡ planOf d s) where
+  pub order-asks : Bytes s → soundIndex d ≡ true → length m ≡ roomFor want → (length m ≡ roomFor want) × Follows s p
   order-asks bytes h l = (l, rw judged (plan-follows d s bytes h))
 
-  pub order-gives : {r : ℕ} {d' m' : List ℕ} → r ≡ numberOf p → d' ≡ markedBy d s p → m' ≡ followedOf want s p m
-      → (r ≡ numberOf (planOf d s)) × ((d' ≡ indexAfter d s) × (m' ≡ followedAfter want d s m))
+  pub change-asks : Bytes s → soundIndex d ≡ true → (indexLength ≤ length d) × FitsPlan p
+  change-asks bytes h = (sound-long d h, judged-fits d s h bytes judged)
+
+  pub order-gives : {r : ℕ} {d' m' : List ℕ} → r ≡ planNumber p → d' ≡ appliedOf d p → m' ≡ followedOf want q s p m
+      → (r ≡ planNumber (planOf d s)) × ((d' ≡ indexAfter d s) × (m' ≡ followedAfter want q d s m))
   order-gives says makes follows =
-      (says ∙ ap numberOf judged, (makes ∙ ap (markedBy d s) judged, follows ∙ ap (λ (q : Plan). followedOf want s q m) judged))
+      (says ∙ ap planNumber judged, (makes ∙ ap (appliedOf d) judged, follows ∙ ap (λ (g : Plan). followedOf want q s g m) judged))
 
 -- ---- the replay
 
 pub record ReplayInv (want : Want) (d₀ m₀ j : List ℕ) (count : ℕ) (d m : List ℕ) (p i : ℕ) : Type 0 where
   pub turn : i ≤ count
   pub high : p ≤ journalLength
-  pub sound : soundDirectory d ≡ true
+  pub sound : soundIndex d ≡ true
   pub long : length d ≡ length d₀
   pub room : length m ≡ roomFor want
   pub same : length m ≡ length m₀
   pub leads : replayFrom want count logStart j d₀ m₀ ≡ replayFrom want (count - i) p j d m
 
-pub replay-start : (want : Want) (d m j : List ℕ) (count : ℕ) → soundDirectory d ≡ true → length m ≡ roomFor want → ReplayInv want d m j count d m logStart 0
+pub replay-start : (want : Want) (d m j : List ℕ) (count : ℕ) → soundIndex d ≡ true → length m ≡ roomFor want → ReplayInv want d m j count d m logStart 0
 replay-start want d m j count h l =
     record { turn = omega arith; high = omega arith; sound = h; long = refl; room = l; same = refl; leads = rw (left-all count) }
 
@@ -83,8 +91,8 @@ module _ (want : Want) (d₀ m₀ j : List ℕ) (bytes : Bytes j) {count : ℕ} 
     abbrev o : List ℕ
     o = take (p + size - p) (drop p j)
 
-    module _ (fits : size ≤ journalLength - p) {r : ℕ} {d' m' : List ℕ} (says : r ≡ numberOf (planOf d o)) (makes : d' ≡ indexAfter d o)
-        (follows : m' ≡ followedAfter want d o m) where
+    module _ (fits : size ≤ journalLength - p) {r : ℕ} {d' m' : List ℕ} (says : r ≡ planNumber (planOf d o)) (makes : d' ≡ indexAfter d o)
+        (follows : m' ≡ followedAfter want p d o m) where
       inside : ltb (journalLength - p) (sizeAt j p) ≡ false
       inside = le-ltb (journalLength - p) (sizeAt j p) (omega (arith, is))
 
@@ -92,7 +100,7 @@ module _ (want : Want) (d₀ m₀ j : List ℕ) (bytes : Bytes j) {count : ℕ} 
       pub replay-refused : (r ≡ 0 → ⊥) → Replayed (replayFrom want count logStart j d₀ m₀) 0 d' m'
       unfolding replayFrom
       replay-refused n =
-          let x : eqb (numberOf (planOf d (orderAt j p))) 0 ≡ false = rw (← (part-is j p is), ← says) (ne-eqb r 0 n) in
+          let x : eqb (planNumber (planOf d (orderAt j p))) 0 ≡ false = rw (← (part-is j p is), ← says) (ne-eqb r 0 n) in
           let e : replayFrom want count logStart j d₀ m₀ ≡ stopped d' m' =
           g .leads ∙ rw (left-more count i more, inside, x, makes, follows, part-is j p is) in
           record { end = rw e; index = rw e; followed = rw e }
@@ -101,14 +109,14 @@ module _ (want : Want) (d₀ m₀ j : List ℕ) (bytes : Bytes j) {count : ℕ} 
       pub replay-next : r ≡ 0 → ReplayInv want d₀ m₀ j count d' m' (p + size) (i + 1)
       unfolding replayFrom
       replay-next z =
-          let x : numberOf (planOf d (orderAt j p)) ≡ 0 = rw (← (part-is j p is), ← says) z in
+          let x : planNumber (planOf d (orderAt j p)) ≡ 0 = rw (← (part-is j p is), ← says) z in
           let b : Bytes o = rw (part-is j p is) (bytes-slice j p (sizeAt j p) bytes) in
-          let l : length m' ≡ roomFor want = ap length follows ∙ follow-length want d o m b (g .sound) (g .room) in
+          let l : length m' ≡ roomFor want = ap length follows ∙ follow-length want d o m p b (g .sound) (g .room) in
           record {
             turn = omega arith;
             high = omega (arith, g .high);
-            sound = rw makes (marked-sound d o b (g .sound));
-            long = ap length makes ∙ length-marked d o b (g .sound) ∙ g .long;
+            sound = rw makes (plan-sound d o (g .sound) b);
+            long = ap length makes ∙ length-plan d o (g .sound) b ∙ g .long;
             room = l;
             same = l ∙ sym (g .room) ∙ g .same;
             leads = g .leads ∙ rw (left-more count i more, inside, x, makes, follows, part-is j p is, is);
@@ -154,35 +162,51 @@ module _ (j : List ℕ) {count p i : ℕ} (g : EndInv j count p i) where
 
 -- ---- the orders applied to a table
 
-pub record ApplyInv (d₀ b₀ c₀ j : List ℕ) (count : ℕ) (d b c : List ℕ) (p i : ℕ) : Type 0 where
+pub record ApplyInv (x₀ b₀ : List ℕ) (s₀ : List (List ℕ)) (j : List ℕ) (count : ℕ) (x b : List ℕ) (s : List (List ℕ)) (p i : ℕ) : Type 0 where
   pub ending : EndInv j count p i
-  pub sound : soundTable d b c ≡ true
-  pub long : length d ≡ length d₀
+  pub sound : soundTable x b (placesIn s) ≡ true
+  pub long : length x ≡ length x₀
   pub big : length b ≡ length b₀
-  pub wide : length c ≡ length c₀
-  pub leads : run (decode d₀ b₀ c₀) (ordersFrom count logStart j) ≡ run (decode d b c) (ordersFrom (count - i) p j)
-  pub past : PastKept d₀ b₀ c₀ d b c
+  pub leads : run (decode x₀ b₀ s₀) (ordersFrom count logStart j) ≡ run (decode x b s) (ordersFrom (count - i) p j)
+  pub places : placesOf x ≡ placesOf x₀
+  pub past : PastKept x₀ b₀ x b
+  pub store : StoreKept (placesOf x₀) s₀ s
 
-pub apply-start : (d b c j : List ℕ) (count : ℕ) → soundTable d b c ≡ true → withinFrom count logStart j ≡ true → ApplyInv d b c j count d b c logStart 0
-apply-start d b c j count h w =
-    record { ending = end-start j count w; sound = h; long = refl; big = refl; wide = refl; leads = rw (left-all count); past = same-past d b c }
+pub apply-start : (x b : List ℕ) (s : List (List ℕ)) (j : List ℕ) (count : ℕ) → soundTable x b (placesIn s) ≡ true → withinFrom count logStart j ≡ true
+    → ApplyInv x b s j count x b s logStart 0
+apply-start x b s j count h w =
+    record {
+      ending = end-start j count w;
+      sound = h;
+      long = refl;
+      big = refl;
+      leads = rw (left-all count);
+      places = refl;
+      past = same-past x b;
+      store = same-store (placesOf x) s;
+    }
 
-module _ (d₀ b₀ c₀ j : List ℕ) {count : ℕ} {d b c : List ℕ} {p i : ℕ} (g : ApplyInv d₀ b₀ c₀ j count d b c p i) where
-  pub apply-next : i < count → {size : ℕ} → size ≡ sizeAt j p → {r : ℕ} {d' b' c' : List ℕ} → Delivered d b c (take (p + size - p) (drop p j)) r d' b' c'
-      → length d' ≡ length d → length b' ≡ length b → length c' ≡ length c → ApplyInv d₀ b₀ c₀ j count d' b' c' (p + size) (i + 1)
+module _ (x₀ b₀ : List ℕ) (s₀ : List (List ℕ)) (j : List ℕ) {count : ℕ} {x b : List ℕ} {s : List (List ℕ)} {p i : ℕ} (g : ApplyInv x₀ b₀ s₀ j count x b s p i) where
+  pub apply-next : i < count → {size : ℕ} → size ≡ sizeAt j p → {r : ℕ} {x' b' : List ℕ} {s' : List (List ℕ)} → Delivered x b s (take (p + size - p) (drop p j)) r x' b' s'
+      → length x' ≡ length x → length b' ≡ length b → ApplyInv x₀ b₀ s₀ j count x' b' s' (p + size) (i + 1)
   unfolding run ordersFrom
-  apply-next more is {d' = d'} {b' = b'} {c' = c'} done ld lb lc =
-      let t : decode d' b' c' ≡ after (decode d b c) (orderAt j p) = done .table ∙ ap (after (decode d b c)) (part-is j p is) in
+  apply-next more is {x' = x'} {b' = b'} {s' = s'} done lx lb =
+      let t : decode x' b' s' ≡ after (decode x b s) (orderAt j p) = done .table ∙ ap (after (decode x b s)) (part-is j p is) in
       record {
         ending = end-next j (g .ending) more is;
         sound = done .sound;
-        long = ld ∙ g .long;
+        long = lx ∙ g .long;
         big = lb ∙ g .big;
-        wide = lc ∙ g .wide;
         leads = g .leads ∙ rw (left-more count i more, t, is);
+        places = done .places ∙ g .places;
         past = past-past (g .past) (done .past);
+        store = store-store (g .store) (rw (← (g .places)) (done .store));
       }
 
-  pub apply-end : count ≤ i → Applied d₀ b₀ c₀ j count d b c
+  pub apply-end : count ≤ i → Applied x₀ b₀ s₀ j count x b s
   unfolding run ordersFrom
-  apply-end h = record { table = sym (g .leads ∙ rw (left-none count i h)); sound = g .sound; past = g .past }
+  apply-end h = record { table = sym (g .leads ∙ rw (left-none count i h)); sound = g .sound; places = g .places; past = g .past; store = g .store }
+
+-- part k of the store is as long as it was
+pub same-part : (k : ℕ) {n : ℕ} {s s' : List (List ℕ)} → StoreKept n s s' → getD (map length s') k 0 ≡ getD (map length s) k 0
+same-part k h = ap (λ (ns : List ℕ). getD ns k 0) (h .lengths)

@@ -3,113 +3,148 @@
 use mathlib.Core.Path.{_≡_, refl, sym, ap, _∙_}
 use mathlib.Core.Bool.{Bool, true, false}
 use mathlib.Core.List.{List}
-use Prim.Native.Nat.{ℕ, zero, suc, _+_, _-_}
+use Prim.Native.Nat.{ℕ, zero, suc, _+_, _-_, _≤_}
+use native.Mathlib.Omega.{arith}
 use lib.Dec.{eqb, ltb}
 use lib.ListN.{length}
-use borrow.Author.Tests.{eqb-true}
+use borrow.Author.Tests.{eqb-true, ltb-false}
 use Rattle.wire.specs.Tests.{both}
-use Rattle.wire.proofs.Numbers.{Bytes}
-use Rattle.directory.specs.Plans.{planOf, numberOf}
-use Rattle.directory.specs.Sound.{soundDirectory}
-use Rattle.directory.specs.Directory.{Directory, directoryOf, numberIn, directoryAfter}
-use Rattle.directory.proofs.After.{marked-directory}
-use Rattle.directory.proofs.Kept.{marked-sound}
-use Rattle.directory.proofs.Numbered.{judged-number}
-use Rattle.table.specs.declared.Want.{Want}
-use Rattle.table.specs.Table.{Table, directory, number, after}
-use Rattle.table.specs.Follow.{roomFor, Holds}
-use Rattle.table.specs.Promises.{DirectoryAlone}
-use Rattle.table.proofs.Promises.{directory-alone}
-use Rattle.table.proofs.Following.{follow-holds, follow-length}
+use Rattle.wire.proofs.Numbers.{Bytes, bytes-slice}
+use Rattle.places.specs.Memory.{placesOf}
+use Rattle.index.specs.Plans.{planOf, planNumber}
+use Rattle.index.specs.Index as index
+use Rattle.index.specs.Memory.{indexOf}
+use Rattle.index.specs.Sound.{soundIndex}
+use Rattle.index.proofs.After.{plan-number, plan-after, plan-sound}
+use Rattle.table.specs.Table.{Table, number, after}
+use Rattle.table.specs.Promises.{IndexAlone}
+use Rattle.table.proofs.Decoded.{index-alone, places-kept}
+use Rattle.follow.specs.declared.Want.{Want}
+use Rattle.follow.specs.Follow.{roomFor, heldOrigins, originAt, carriedBy, Holds}
+use Rattle.follow.proofs.Following.{follow-holds, follow-length, follow-origins}
 use Rattle.journal.specs.Limits.{journalLength}
 use Rattle.journal.specs.State.{run, allAccepted}
 use Rattle.journal.specs.Journal.{sizeAt, orderAt, ordersFrom, endFrom, withinFrom}
 use Rattle.journal.specs.Replay.{indexAfter, followedAfter, Replay, replayFrom}
-use Rattle.journal.proofs.Runs.{bytes-slice}
 
 -- ---- one order, on an index of a table
 
-module _ (t : Table) (d s : List ℕ) (same : directoryOf d ≡ directory t) where
-  pub number-on : numberOf (planOf d s) ≡ number t s
+module _ (t : Table) (d s : List ℕ) (same : indexOf d ≡ t .index) (bytes : Bytes s) (sound : soundIndex d ≡ true) where
+  pub number-on : planNumber (planOf d s) ≡ number t s
   unfolding number
-  number-on = judged-number d s ∙ ap (λ (x : Directory). numberIn x s) same
+  number-on = plan-number d s sound bytes ∙ ap (λ (x : index.Index). index.numberIn x s) same
 
-  pub index-on : Bytes s → soundDirectory d ≡ true → directoryOf (indexAfter d s) ≡ directory (after t s)
-  index-on bytes sound =
-      let alone : directory (after t s) ≡ directoryAfter (directory t) s = unfold DirectoryAlone in directory-alone t s in
-      marked-directory d s bytes sound ∙ ap (λ (x : Directory). directoryAfter x s) same ∙ sym alone
+  pub index-on : indexOf (indexAfter d s) ≡ after t s .index
+  index-on =
+      let alone : after t s .index ≡ index.indexAfter (t .index) s = unfold IndexAlone in index-alone t s in
+      plan-after d s sound bytes ∙ ap (λ (x : index.Index). index.indexAfter x s) same ∙ sym alone
+
+-- ---- where pictures came
+
+-- 0, or the index of an order that lies within the journal
+abbrev pub Within : List ℕ → ℕ → Type 0
+Within j q = (q ≡ 0 → ⊥) → q + sizeAt j q ≤ journalLength
+
+-- the pictures that the orders of a journal bring
+abbrev pub carriedIn : List ℕ → ℕ → List ℕ
+carriedIn j q = carriedBy (orderAt j q)
+
+-- ---- two memories that describe a table and what it has of the target
+
+pub record Ready (want : Want) (j : List ℕ) (marked : ℕ → List ℕ) (ok : ℕ → Bool) (places : ℕ) (t : Table) (d m : List ℕ) : Type 0 where
+  pub sound : soundIndex d ≡ true
+  pub index : indexOf d ≡ t .index
+  pub lent : placesOf d ≡ places
+  pub room : length m ≡ roomFor want
+  pub holds : Holds want t d m marked (carriedIn j) ok
+  pub origins : (k : ℕ) → Within j (originAt (heldOrigins want m) k)
+
+-- so do they after an order that lies within the journal
+ready-next : (want : Want) (j : List ℕ) → Bytes j → (marked : ℕ → List ℕ) (ok : ℕ → Bool) (places : ℕ) (t : Table) (d m : List ℕ) (p : ℕ) → 2 ≤ p
+    → p + sizeAt j p ≤ journalLength → Ready want j marked ok places t d m
+    → Ready want j marked ok places (after t (orderAt j p)) (indexAfter d (orderAt j p)) (followedAfter want p d (orderAt j p) m)
+ready-next want j bytes marked ok places t d m p low fits r =
+    let o = orderAt j p in
+    let b = bytes-slice j p (sizeAt j p) bytes in
+    record {
+      sound = plan-sound d o (r .sound) b;
+      index = index-on t d o (r .index) b (r .sound);
+      lent = places-kept d o (r .sound) b ∙ r .lent;
+      room = follow-length want d o m p b (r .sound) (r .room);
+      holds =
+          follow-holds want t d o m p marked (carriedIn j) ok b (r .sound) (sym (r .index)) (r .room) (λ z. omega arith) (omega arith) refl (r .holds);
+      origins = follow-origins want d o m p b (r .sound) (r .room) (omega arith) (Within j) (r .origins) (λ n. fits);
+    }
 
 -- ---- all of them
 
-pub record Through (want : Want) (n p : ℕ) (j : List ℕ) (t : Table) (r : Replay) : Type 0 where
+pub record Through (want : Want) (marked : ℕ → List ℕ) (ok : ℕ → Bool) (places n p : ℕ) (j : List ℕ) (t : Table) (r : Replay) : Type 0 where
   pub within : withinFrom n p j ≡ true
   pub accepted : allAccepted t (ordersFrom n p j) ≡ true
   pub end : r .end ≡ endFrom n p j
-  pub sound : soundDirectory (r .index) ≡ true
-  pub directory : directoryOf (r .index) ≡ directory (run t (ordersFrom n p j))
-  pub holds : Holds want (run t (ordersFrom n p j)) (r .followed)
+  pub ready : Ready want j marked ok places (run t (ordersFrom n p j)) (r .index) (r .followed)
 
-pub data Ran (want : Want) (n p : ℕ) (j : List ℕ) (t : Table) (r : Replay) : Type 0 where
-  stops : r .end ≡ 0 → both (withinFrom n p j) (allAccepted t (ordersFrom n p j)) ≡ false → Ran want n p j t r
-  through : Through want n p j t r → Ran want n p j t r
+pub data Ran (want : Want) (marked : ℕ → List ℕ) (ok : ℕ → Bool) (places n p : ℕ) (j : List ℕ) (t : Table) (r : Replay) : Type 0 where
+  stops : r .end ≡ 0 → both (withinFrom n p j) (allAccepted t (ordersFrom n p j)) ≡ false → Ran want marked ok places n p j t r
+  through : Through want marked ok places n p j t r → Ran want marked ok places n p j t r
 
 not-both : (a b : Bool) → b ≡ false → both a b ≡ false
 not-both true b e = e
 not-both false b e = refl
 
-module _ (want : Want) (n p : ℕ) (j : List ℕ) (t : Table) (d m : List ℕ) (same : directoryOf d ≡ directory t) where
+module _ (want : Want) (marked : ℕ → List ℕ) (ok : ℕ → Bool) (places n p : ℕ) (j : List ℕ) (t : Table) (d m : List ℕ) where
   abbrev o : List ℕ
   o = orderAt j p
 
   abbrev rest : Replay
-  rest = replayFrom want n (p + sizeAt j p) j (indexAfter d o) (followedAfter want d o m)
+  rest = replayFrom want n (p + sizeAt j p) j (indexAfter d o) (followedAfter want p d o m)
 
-  cut : ltb (journalLength - p) (sizeAt j p) ≡ true → Ran want (suc n) p j t (replayFrom want (suc n) p j d m)
+  cut : ltb (journalLength - p) (sizeAt j p) ≡ true → Ran want marked ok places (suc n) p j t (replayFrom want (suc n) p j d m)
   unfolding replayFrom withinFrom
   cut x = stops (rw x) (rw x)
 
-  module _ (fits : ltb (journalLength - p) (sizeAt j p) ≡ false) where
-    refused : eqb (numberOf (planOf d o)) 0 ≡ false → Ran want (suc n) p j t (replayFrom want (suc n) p j d m)
+  module _ (same : planNumber (planOf d o) ≡ number t o) (fits : ltb (journalLength - p) (sizeAt j p) ≡ false) where
+    refused : eqb (planNumber (planOf d o)) 0 ≡ false → Ran want marked ok places (suc n) p j t (replayFrom want (suc n) p j d m)
     unfolding replayFrom ordersFrom allAccepted
     refused x =
-        let z : eqb (number t o) 0 ≡ false = ap (λ (k : ℕ). eqb k 0) (sym (number-on t d o same)) ∙ x in
+        let z : eqb (number t o) 0 ≡ false = ap (λ (k : ℕ). eqb k 0) (sym same) ∙ x in
         stops (rw (fits, x)) (not-both (withinFrom (suc n) p j) (allAccepted t (ordersFrom (suc n) p j)) (rw z))
 
-    accepted : numberOf (planOf d o) ≡ 0 → Ran want n (p + sizeAt j p) j (after t o) rest → Ran want (suc n) p j t (replayFrom want (suc n) p j d m)
+    accepted : planNumber (planOf d o) ≡ 0 → Ran want marked ok places n (p + sizeAt j p) j (after t o) rest
+        → Ran want marked ok places (suc n) p j t (replayFrom want (suc n) p j d m)
     unfolding replayFrom withinFrom endFrom ordersFrom allAccepted run
     accepted x (stops e f) =
-        let z : number t o ≡ 0 = sym (number-on t d o same) ∙ x in
+        let z : number t o ≡ 0 = sym same ∙ x in
         stops (rw (fits, x) e) (rw (fits, z) f)
     accepted x (through g) =
-        let z : number t o ≡ 0 = sym (number-on t d o same) ∙ x in
+        let z : number t o ≡ 0 = sym same ∙ x in
         through
         (record {
           within = rw fits (g .within);
           accepted = rw z (g .accepted);
           end = rw (fits, x) (g .end);
-          sound = rw (fits, x) (g .sound);
-          directory = rw (fits, x) (g .directory);
-          holds = rw (fits, x) (g .holds);
+          ready = rw (fits, x) (g .ready);
         })
 
-pub replay-ran : (want : Want) (j : List ℕ) → Bytes j → (n p : ℕ) (t : Table) (d m : List ℕ) → soundDirectory d ≡ true → directoryOf d ≡ directory t
-    → length m ≡ roomFor want → Holds want t m → Ran want n p j t (replayFrom want n p j d m)
+pub replay-ran : (want : Want) (j : List ℕ) → Bytes j → (marked : ℕ → List ℕ) (ok : ℕ → Bool) (places n p : ℕ) → 2 ≤ p → p ≤ journalLength → (t : Table) (d m : List ℕ)
+    → Ready want j marked ok places t d m → Ran want marked ok places n p j t (replayFrom want n p j d m)
 unfolding replayFrom withinFrom endFrom ordersFrom allAccepted run
-replay-ran want j bytes zero p t d m sound same room held =
-    through (record { within = refl; accepted = refl; end = refl; sound = sound; directory = same; holds = held })
-replay-ran want j bytes (suc n) p t d m sound same room held =
-    go (ltb (journalLength - p) (sizeAt j p)) (eqb (numberOf (planOf d (orderAt j p))) 0) refl refl
-    (λ z.
-    replay-ran want j bytes n (p + sizeAt j p) (after t (orderAt j p)) (indexAfter d (orderAt j p)) (followedAfter want d (orderAt j p) m)
-    (marked-sound d (orderAt j p) (bytes-slice j p (sizeAt j p) bytes) sound) (index-on t d (orderAt j p) same (bytes-slice j p (sizeAt j p) bytes) sound)
-    (follow-length want d (orderAt j p) m (bytes-slice j p (sizeAt j p) bytes) sound room)
-    (follow-holds want t d (orderAt j p) m (bytes-slice j p (sizeAt j p) bytes) sound (sym same) z room held))
+replay-ran want j bytes marked ok places zero p low high t d m r = through (record { within = refl; accepted = refl; end = refl; ready = r })
+replay-ran want j bytes marked ok places (suc n) p low high t d m r =
+    go (ltb (journalLength - p) (sizeAt j p)) (eqb (planNumber (planOf d (orderAt j p))) 0) refl refl
+    (λ l.
+    replay-ran want j bytes marked ok places n (p + sizeAt j p) (omega arith) l (after t (orderAt j p)) (indexAfter d (orderAt j p)) (followedAfter want p d (orderAt j p) m)
+    (ready-next want j bytes marked ok places t d m p low l r))
   where
-    go : (a b : Bool) → ltb (journalLength - p) (sizeAt j p) ≡ a → eqb (numberOf (planOf d (orderAt j p))) 0 ≡ b
-        → (numberOf (planOf d (orderAt j p)) ≡ 0 → Ran want n (p + sizeAt j p) j (after t (orderAt j p)) (rest want n p j t d m same))
-        → Ran want (suc n) p j t (replayFrom want (suc n) p j d m)
-    go true b x y next = cut want n p j t d m same x
-    go false false x y next = refused want n p j t d m same x y
+    same : planNumber (planOf d (orderAt j p)) ≡ number t (orderAt j p)
+    same = number-on t d (orderAt j p) (r .index) (bytes-slice j p (sizeAt j p) bytes) (r .sound)
+
+    go : (a b : Bool) → ltb (journalLength - p) (sizeAt j p) ≡ a → eqb (planNumber (planOf d (orderAt j p))) 0 ≡ b
+        → (p + sizeAt j p ≤ journalLength → Ran want marked ok places n (p + sizeAt j p) j (after t (orderAt j p)) (rest want marked ok places n p j t d m))
+        → Ran want marked ok places (suc n) p j t (replayFrom want (suc n) p j d m)
+    go true b x y next = cut want marked ok places n p j t d m x
+    go false false x y next = refused want marked ok places n p j t d m same x y
     go false true x y next =
-        let z = eqb-true (numberOf (planOf d (orderAt j p))) 0 y in
-        accepted want n p j t d m same x z (next z)
+        let z = eqb-true (planNumber (planOf d (orderAt j p))) 0 y in
+        let l = ltb-false (journalLength - p) (sizeAt j p) x in
+        accepted want marked ok places n p j t d m same x z (next (omega arith))

@@ -1,22 +1,20 @@
 -- Runs of orders: one after another, the first of them, and what an accepted one has. Assumes nothing.
 use mathlib.Core.Path.{_≡_, refl}
-use mathlib.Core.Bool.{Bool, true, false}
+use mathlib.Core.Bool.{true}
 use mathlib.Core.List.{List, [], _∷_, _++_}
-use Prim.Native.Nat.{ℕ, zero, suc, _+_, _≤_, _<_}
+use Prim.Native.Nat.{ℕ, zero, suc, _+_}
 use native.Mathlib.Omega.{arith}
-use lib.Dec.{eqb, ltb}
-use lib.ListN.{length, getD, take, drop, length-take}
-use lib.Seq.{getD-take, getD-drop}
-use borrow.Author.Tests.{eqb-true, ltb-true, ltb-false}
-use Rattle.wire.specs.Parts.{slice}
+use lib.Dec.{eqb}
+use lib.ListN.{take}
+use borrow.Author.Tests.{eqb-true}
 use Rattle.wire.proofs.Tests.{both-left, both-right}
-use Rattle.wire.proofs.Numbers.{getD-past, Bytes}
 use Rattle.order.specs.declared.Judged.{Judged}
 use Rattle.order.specs.declared.Judged.the-variants.{Window, Notification, Desktop, Refused}
 use Rattle.order.specs.Judge.{judgeOf, numberOf}
 use Rattle.order.proofs.Accepted.{Accepted, accepted}
-use Rattle.directory.specs.Directory.{Directory, numberIn, numberOn}
-use Rattle.table.specs.Table.{Table, directory, number, after}
+use Rattle.index.specs.Orders.{onJudged}
+use Rattle.index.specs.Index.{Index, numberIn, recordNumber}
+use Rattle.table.specs.Table.{Table, number, after}
 use Rattle.journal.specs.State.{run, bytesIn, allAccepted}
 
 pub run-append : (t : Table) (a b : List (List ℕ)) → run t (a ++ b) ≡ run (run t a) b
@@ -51,7 +49,7 @@ accepted-take t (suc k) [] h = refl
 accepted-take t (suc k) (o ∷ os) h = rw (accepted-first t o os h) (accepted-take (after t o) k os (accepted-rest t o os h))
 
 -- an accepted order is accepted on its bytes
-number-bytes : (d : Directory) (s : List ℕ) (j : Judged) → numberOn d s j ≡ 0 → numberOf j ≡ 0
+number-bytes : (d : Index) (s : List ℕ) (j : Judged) → onJudged j (recordNumber d s) (λ flags. 0) (λ n. n) ≡ 0 → numberOf j ≡ 0
 number-bytes d s (Window o) h = refl
 number-bytes d s (Notification o) h = refl
 number-bytes d s (Desktop o) h = refl
@@ -59,19 +57,4 @@ number-bytes d s (Refused r) h = h
 
 pub accepted-order : (t : Table) (s : List ℕ) → number t s ≡ 0 → Accepted s
 unfolding number numberIn
-accepted-order t s h = accepted s (number-bytes (directory t) s (judgeOf s) h)
-
--- a part of a list of bytes is one
-bytes-take : (s : List ℕ) (n : ℕ) → Bytes s → (i : ℕ) → getD (take n s) i 0 < 256
-bytes-take s n b i = go (ltb i n) refl
-  where
-    go : (t : Bool) → ltb i n ≡ t → getD (take n s) i 0 < 256
-    go true e = rw (getD-take n s i 0 (ltb-true i n e)) (b .small i)
-    go false e =
-        let h = ltb-false i n e in
-        let l : length (take n s) ≤ i = simp length-take (omega arith) in
-        rw (getD-past (take n s) i l) (omega arith)
-
-pub bytes-slice : (s : List ℕ) (a n : ℕ) → Bytes s → Bytes (slice s a n)
-unfolding slice
-bytes-slice s a n b = record { small = bytes-take (drop a s) n (record { small = λ i. rw (getD-drop a s i 0) (b .small (a + i)) }) }
+accepted-order t s h = accepted s (number-bytes (t .index) s (judgeOf s) h)

@@ -10,24 +10,26 @@ use borrow.Author.Tests.{not-true, ne-eqb}
 use Rattle.wire.specs.Tests.{pick, both}
 use Rattle.wire.specs.Parts.{slice, splice}
 use Rattle.wire.proofs.Numbers.{Bytes}
-use Rattle.directory.specs.Sound.{soundDirectory}
-use Rattle.table.specs.declared.Want.{Want}
-use Rattle.table.specs.declared.Want.the-variants.{Nothing}
-use Rattle.table.specs.Table.{directory}
-use Rattle.table.specs.Memory.{soundTable}
-use Rattle.table.specs.Follow.{roomFor, beginOf}
-use Rattle.table.proofs.Joined.{decode-directory}
-use Rattle.table.proofs.Sounded.{table-has}
-use Rattle.table.proofs.Following.{begin-holds, begin-length}
+use Rattle.places.specs.Memory.{placesOf}
+use Rattle.index.specs.Families.{indexLength}
+use Rattle.index.specs.Memory.{indexOf}
+use Rattle.index.specs.Sound.{soundIndex}
+use Rattle.store.specs.Store.{placesIn}
+use Rattle.table.specs.Memory.{decode, soundTable}
+use Rattle.table.proofs.Rule.{table-has}
+use Rattle.follow.specs.declared.Want.{Want}
+use Rattle.follow.specs.declared.Want.the-variants.{Nothing}
+use Rattle.follow.specs.Follow.{roomFor, beginOf}
+use Rattle.follow.proofs.Following.{begin-holds, begin-length, begin-origins}
 use Rattle.journal.specs.declared.JournalExtent.{JournalExtent}
-use Rattle.journal.specs.Limits.{indexLength, mostOrders, logStart}
+use Rattle.journal.specs.Limits.{mostOrders, logStart}
 use Rattle.journal.specs.State.{allAccepted}
 use Rattle.journal.specs.Journal.{countOf, ordersFrom, endFrom, withinFrom, logOf}
-use Rattle.journal.specs.View.{Memory, tooShort, wellFormed, meetsRule, stateOf}
-use Rattle.journal.specs.Replay.{Replay, replayFrom, Replayed, extentOf, replayable, validationOf, Validated, Validation}
-use Rattle.journal.proofs.Copies.{copied-directory, copied-sound}
-use Rattle.journal.proofs.Logged.{Long, long-has, markedIn, extent-formed, logged-low}
-use Rattle.journal.proofs.Replays.{Through, Ran, stops, through, replay-ran}
+use Rattle.journal.specs.View.{Memory, memory, InEachStore, shortOf, tooShort, wellFormed, meetsRule, stateOf}
+use Rattle.journal.specs.Replay.{Replay, replayFrom, Replayed, extentOf, replayable, validationOf, markedPictures, sincePictures, headIsOk, Validated, Validation}
+use Rattle.journal.proofs.Copies.{copied-index, copied-places, copied-sound, copied-holds}
+use Rattle.journal.proofs.Logged.{Long, long-has, long-is, markedIn, extent-formed, logged-low}
+use Rattle.journal.proofs.Replays.{Ready, Through, Ran, stops, through, replay-ran}
 
 abbrev pub noExtent : JournalExtent
 noExtent = record { count = 0; end = 0 }
@@ -37,44 +39,47 @@ no e = let z : _≡_ {A = ℕ} 0 1 = cc in absurd (omega arith)
 
 -- ---- what can be replayed
 
-pub record Replayable (m : Memory) : Type 0 where
-  pub long : tooShort m ≡ false
-  pub sound : soundTable (m .dir) (m .bodies) (m .cells) ≡ true
-  pub few : ltb mostOrders (countOf (m .journal)) ≡ false
+pub record Replayable (x b : List ℕ) (lent : ℕ) (j : List ℕ) : Type 0 where
+  pub long : Long x b lent j
+  pub sound : soundTable x b lent ≡ true
+  pub few : ltb mostOrders (countOf j) ≡ false
 
-module _ (m : Memory) {t : Bool} (says : t ≡ tooShort m) where
-  pub replayable-short : t ≡ true → false ≡ replayable m
+module _ (x b : List ℕ) (lent : ℕ) (j : List ℕ) {t : Bool} (says : t ≡ shortOf x b lent j) where
+  pub replayable-short : t ≡ true → false ≡ replayable x b lent j
   unfolding replayable
-  replayable-short e = let f : tooShort m ≡ true = sym says ∙ e in rw f
+  replayable-short e = let f : shortOf x b lent j ≡ true = sym says ∙ e in rw f
 
-  module _ (enough : t ≡ false) {s : Bool} (is : s ≡ soundTable (m .dir) (m .bodies) (m .cells)) where
-    enough-is : tooShort m ≡ false
+  module _ (enough : t ≡ false) {s : Bool} (is : s ≡ soundTable x b lent) where
+    enough-is : shortOf x b lent j ≡ false
     enough-is = sym says ∙ enough
 
-    pub replayable-unsound : s ≡ false → false ≡ replayable m
+    pub replayable-unsound : s ≡ false → false ≡ replayable x b lent j
     unfolding replayable
-    replayable-unsound e = let f : soundTable (m .dir) (m .bodies) (m .cells) ≡ false = sym is ∙ e in rw (enough-is, f)
+    replayable-unsound e = let f : soundTable x b lent ≡ false = sym is ∙ e in rw (enough-is, f)
 
-    pub replayable-counted : s ≡ true → {k : ℕ} → k ≡ countOf (m .journal) → not (ltb mostOrders k) ≡ replayable m
+    pub replayable-counted : s ≡ true → {k : ℕ} → k ≡ countOf j → not (ltb mostOrders k) ≡ replayable x b lent j
     unfolding replayable
-    replayable-counted e {k = k} c = let f : soundTable (m .dir) (m .bodies) (m .cells) ≡ true = sym is ∙ e in rw (enough-is, f, ← c)
+    replayable-counted e {k = k} c = let f : soundTable x b lent ≡ true = sym is ∙ e in rw (enough-is, f, ← c)
 
-pub replayable-has : (m : Memory) → replayable m ≡ true → Replayable m
+pub replayable-has : (x b : List ℕ) (lent : ℕ) (j : List ℕ) → replayable x b lent j ≡ true → Replayable x b lent j
 unfolding replayable
-replayable-has m = go (tooShort m) (soundTable (m .dir) (m .bodies) (m .cells)) refl refl
+replayable-has x b lent j = go (shortOf x b lent j) (soundTable x b lent) refl refl
   where
-    go : (a b : Bool) → tooShort m ≡ a → soundTable (m .dir) (m .bodies) (m .cells) ≡ b
-        → pick a false (pick b (not (ltb mostOrders (countOf (m .journal)))) false) ≡ true → Replayable m
-    go true b x y e = no e
-    go false false x y e = no e
-    go false true x y e = record { long = x; sound = y; few = not-true (ltb mostOrders (countOf (m .journal))) e }
+    go : (u v : Bool) → shortOf x b lent j ≡ u → soundTable x b lent ≡ v → pick u false (pick v (not (ltb mostOrders (countOf j))) false) ≡ true
+        → Replayable x b lent j
+    go true v y z e = no e
+    go false false y z e = no e
+    go false true y z e = record { long = long-has x b lent j y; sound = z; few = not-true (ltb mostOrders (countOf j)) e }
+
+abbrev pub replayableIn : Memory → Bool
+replayableIn m = replayable (m .index) (m .bodies) (placesIn (m .store)) (m .journal)
 
 -- what cannot be is not well formed
-not-replayable : (m : Memory) → replayable m ≡ false → meetsRule m ≡ false
+not-replayable : (m : Memory) → replayableIn m ≡ false → meetsRule m ≡ false
 unfolding replayable wellFormed
-not-replayable m = go (tooShort m) (soundTable (m .dir) (m .bodies) (m .cells)) (ltb mostOrders (countOf (m .journal))) refl refl refl
+not-replayable m = go (tooShort m) (soundTable (m .index) (m .bodies) (placesIn (m .store))) (ltb mostOrders (countOf (m .journal))) refl refl refl
   where
-    go : (a b c : Bool) → tooShort m ≡ a → soundTable (m .dir) (m .bodies) (m .cells) ≡ b → ltb mostOrders (countOf (m .journal)) ≡ c
+    go : (a b c : Bool) → tooShort m ≡ a → soundTable (m .index) (m .bodies) (placesIn (m .store)) ≡ b → ltb mostOrders (countOf (m .journal)) ≡ c
         → pick a false (pick b (not c) false) ≡ false → meetsRule m ≡ false
     go true b c x y z e = rw x
     go false false c x y z e = rw (x, y)
@@ -83,57 +88,80 @@ not-replayable m = go (tooShort m) (soundTable (m .dir) (m .bodies) (m .cells)) 
 
 -- ---- the way out
 
-module _ (want : Want) (m : Memory) (d f : List ℕ) where
-  pub not-validated : replayable m ≡ false → Validation want m d f noExtent d f
-  unfolding extentOf validationOf
-  not-validated e =
-      let n = not-replayable m e in
-      record {
-        extent = rw n;
-        index = rw e;
-        followed = rw e;
-        means = λ r. no (sym n ∙ r);
-      }
+pub not-validated : (want : Want) (x b : List ℕ) (lent : ℕ) (j d f : List ℕ) → replayable x b lent j ≡ false
+    → InEachStore lent (λ store. Validation want (memory x b store j) d f noExtent d f)
+unfolding extentOf validationOf
+not-validated want x b lent j d f e store same =
+    let r : replayable x b (placesIn store) j ≡ false = ap (λ (n : ℕ). replayable x b n j) same ∙ e in
+    let n = not-replayable (memory x b store j) r in
+    record {
+      extent = rw n;
+      index = rw r;
+      followed = rw r;
+      means = λ s. no (sym n ∙ s);
+    }
+
+-- ---- the memories that the replay begins with
+
+module _ (want : Want) (x b : List ℕ) (lent : ℕ) (j d f : List ℕ) (room : length d ≡ indexLength) (place : length f ≡ roomFor want)
+    (has : Replayable x b lent j) where
+  abbrev pub copyOf : List ℕ
+  copyOf = splice d 0 (slice x 0 indexLength)
+
+  abbrev pub begun : List ℕ
+  begun = beginOf want x b f
+
+  pub copy-sound : soundIndex copyOf ≡ true
+  copy-sound = copied-sound d x room (has .long .index) (table-has x b lent (has .sound) .index)
+
+  pub begun-length : length begun ≡ roomFor want
+  begun-length = begin-length want x b lent f (has .sound) place
 
 -- ---- the way through
 
-module _ (want : Want) (m : Memory) (bytes : Bytes (m .journal)) (d f : List ℕ) (room : length d ≡ indexLength) (place : length f ≡ roomFor want)
-    (ready : replayable m ≡ true) where
-  has : Replayable m
-  has = replayable-has m ready
+decode-index : (x b : List ℕ) (p : List (List ℕ)) → indexOf x ≡ decode x b p .index
+unfolding decode
+decode-index x b p = refl
 
-  long : Long m
-  long = long-has m (has .long)
+module _ (want : Want) (m : Memory) (bytes : Bytes (m .journal)) (d f : List ℕ) (room : length d ≡ indexLength) (place : length f ≡ roomFor want)
+    (ready : replayableIn m ≡ true) where
+  has : Replayable (m .index) (m .bodies) (placesIn (m .store)) (m .journal)
+  has = replayable-has (m .index) (m .bodies) (placesIn (m .store)) (m .journal) ready
 
   abbrev copy : List ℕ
-  copy = splice d 0 (slice (m .dir) 0 indexLength)
+  copy = splice d 0 (slice (m .index) 0 indexLength)
 
-  abbrev begun : List ℕ
-  begun = beginOf want (m .dir) (m .bodies) (m .cells) f
+  abbrev start : List ℕ
+  start = beginOf want (m .index) (m .bodies) f
 
-  pub copy-sound : soundDirectory copy ≡ true
-  copy-sound = copied-sound d (m .dir) room (long .dir) refl (table-has (m .dir) (m .bodies) (m .cells) (has .sound) .directory)
+  abbrev replay : Replay
+  replay = replayFrom want (countOf (m .journal)) logStart (m .journal) copy start
 
-  pub begun-length : length begun ≡ roomFor want
-  begun-length = begin-length want (m .dir) (m .bodies) (m .cells) f (has .sound) place
+  first : Ready want (m .journal) (markedPictures m) (headIsOk m) (placesOf (m .index)) (markedIn m) copy start
+  first =
+      let long = has .long .index in
+      record {
+        sound = copy-sound want (m .index) (m .bodies) (placesIn (m .store)) (m .journal) d f room place has;
+        index = copied-index d (m .index) room long ∙ decode-index (m .index) (m .bodies) (m .store);
+        lent = copied-places d (m .index) room long;
+        room = begun-length want (m .index) (m .bodies) (placesIn (m .store)) (m .journal) d f room place has;
+        holds =
+            copied-holds d (m .index) room long want (markedIn m) start (markedPictures m) (sincePictures m) (headIsOk m)
+            (begin-holds want (m .index) (m .bodies) (m .store) (placesIn (m .store)) f (sincePictures m) (has .sound) place);
+        origins = λ k n. absurd (n (begin-origins want (m .index) (m .bodies) f place k));
+      }
 
-  abbrev pub replay : Replay
-  replay = replayFrom want (countOf (m .journal)) logStart (m .journal) copy begun
+  abbrev Runs : Type 0
+  Runs = Ran want (markedPictures m) (headIsOk m) (placesOf (m .index)) (countOf (m .journal)) logStart (m .journal) (markedIn m) replay
 
-  -- the replay, as the code makes its memories
-  pub as-replay : {k : ℕ} → k ≡ countOf (m .journal) → {d₀ f₀ : List ℕ} → d₀ ≡ copy → f₀ ≡ begun → {e : ℕ} {d' f' : List ℕ}
-      → Replayed (replayFrom want k logStart (m .journal) d₀ f₀) e d' f' → Replayed replay e d' f'
-  as-replay is x y r = rw (← is, ← x, ← y) r
-
-  ran : Ran want (countOf (m .journal)) logStart (m .journal) (markedIn m) replay
+  ran : Runs
   ran =
-      replay-ran want (m .journal) bytes (countOf (m .journal)) logStart (markedIn m) copy begun copy-sound
-      (copied-directory d (m .dir) room (long .dir) refl ∙ sym (decode-directory (m .dir) (m .bodies) (m .cells))) begun-length
-      (begin-holds want (m .dir) (m .bodies) (m .cells) f (has .sound) place)
+      replay-ran want (m .journal) bytes (markedPictures m) (headIsOk m) (placesOf (m .index)) (countOf (m .journal)) logStart (omega arith) (omega arith) (markedIn m)
+      copy start first
 
   meets-is : meetsRule m ≡ both (withinFrom (countOf (m .journal)) logStart (m .journal)) (allAccepted (markedIn m) (ordersFrom (countOf (m .journal)) logStart (m .journal)))
   unfolding wellFormed logOf
-  meets-is = rw (has .long, has .sound, has .few) (joined (withinFrom (countOf (m .journal)) logStart (m .journal)) (allAccepted (markedIn m) (ordersFrom (countOf (m .journal)) logStart (m .journal))))
+  meets-is = rw (long-is (has .long), has .sound, has .few) (joined (withinFrom (countOf (m .journal)) logStart (m .journal)) (allAccepted (markedIn m) (ordersFrom (countOf (m .journal)) logStart (m .journal))))
     where
       joined : (a b : Bool) → pick (not a) false b ≡ both a b
       joined true b = refl
@@ -145,7 +173,7 @@ module _ (want : Want) (m : Memory) (bytes : Bytes (m .journal)) (d f : List ℕ
     memories x y = record { extent = x; index = r .index ∙ rw ready; followed = r .followed ∙ rw ready; means = y }
 
     -- all orders are accepted
-    module _ (g : Through want (countOf (m .journal)) logStart (m .journal) (markedIn m) replay) where
+    module _ (g : Through want (markedPictures m) (headIsOk m) (placesOf (m .index)) (countOf (m .journal)) logStart (m .journal) (markedIn m) replay) where
       met : meetsRule m ≡ true
       met = meets-is ∙ rw (g .within, g .accepted)
 
@@ -158,29 +186,52 @@ module _ (want : Want) (m : Memory) (bytes : Bytes (m .journal)) (d f : List ℕ
 
       means-that : Validated want m d' f'
       unfolding stateOf logOf
-      means-that = record { sound = rw (r .index) (g .sound); directory = rw (r .index) (g .directory); holds = rw (r .followed) (g .holds) }
+      means-that =
+          let y = g .ready in
+          record {
+            sound = rw (r .index) (y .sound);
+            index = rw (r .index) (y .index);
+            places = rw (r .index) (y .lent);
+            holds = rw (r .index, r .followed) (y .holds);
+            origins = rw (r .followed) (y .origins);
+          }
 
     -- one is not
-    pub validated-none : e ≡ 0 → Validation want m d f noExtent d' f'
+    none-here : e ≡ 0 → Validation want m d f noExtent d' f'
     unfolding extentOf
-    validated-none z = go ran
+    none-here z = go ran
       where
-        go : Ran want (countOf (m .journal)) logStart (m .journal) (markedIn m) replay → Validation want m d f noExtent d' f'
+        go : Runs → Validation want m d f noExtent d' f'
         go (stops x y) =
             let n : meetsRule m ≡ false = meets-is ∙ y in
             memories (rw n) (λ s. no (sym n ∙ s))
         go (through g) = absurd (some-end g z)
 
-    pub validated-some : {k : ℕ} → k ≡ countOf (m .journal) → (e ≡ 0 → ⊥) → Validation want m d f (record { count = k; end = e }) d' f'
+    some-here : (e ≡ 0 → ⊥) → Validation want m d f (record { count = countOf (m .journal); end = e }) d' f'
     unfolding extentOf
-    validated-some {k = k} is n = go ran
+    some-here n = go ran
       where
-        go : Ran want (countOf (m .journal)) logStart (m .journal) (markedIn m) replay → Validation want m d f (record { count = k; end = e }) d' f'
+        go : Runs → Validation want m d f (record { count = countOf (m .journal); end = e }) d' f'
         go (stops x y) = absurd (n (r .end ∙ x))
         go (through g) =
             let h : meetsRule m ≡ true = met g in
             let end : e ≡ endFrom (countOf (m .journal)) logStart (m .journal) = r .end ∙ g .end in
-            memories (rw (h, is, end)) (λ s. means-that g)
+            memories (rw (h, end)) (λ s. means-that g)
+
+-- ---- the same as the code makes it, in each store
+
+module _ (want : Want) (x b : List ℕ) (lent : ℕ) (j : List ℕ) (bytes : Bytes j) (d f : List ℕ) (room : length d ≡ indexLength) (place : length f ≡ roomFor want)
+    (ready : replayable x b lent j ≡ true) {k : ℕ} (is : k ≡ countOf j) {d₀ f₀ : List ℕ} (copied : d₀ ≡ splice d 0 (slice x 0 indexLength)) (begins : f₀ ≡ beginOf want x b f)
+    {e : ℕ} {d' f' : List ℕ} (r : Replayed (replayFrom want k logStart j d₀ f₀) e d' f') where
+  replayed : Replayed (replayFrom want (countOf j) logStart j (splice d 0 (slice x 0 indexLength)) (beginOf want x b f)) e d' f'
+  replayed = rw (← is, ← copied, ← begins) r
+
+  pub validated-none : e ≡ 0 → InEachStore lent (λ store. Validation want (memory x b store j) d f noExtent d' f')
+  validated-none z store same = none-here want (memory x b store j) bytes d f room place (ap (λ (n : ℕ). replayable x b n j) same ∙ ready) replayed z
+
+  pub validated-some : (e ≡ 0 → ⊥) → InEachStore lent (λ store. Validation want (memory x b store j) d f (record { count = k; end = e }) d' f')
+  validated-some n store same =
+      rw is (some-here want (memory x b store j) bytes d f room place (ap (λ (n : ℕ). replayable x b n j) same ∙ ready) replayed n)
 
 -- ---- nothing looked up
 
@@ -188,17 +239,23 @@ no-bytes : (f : List ℕ) → length f ≡ 0 → f ≡ []
 no-bytes [] e = refl
 no-bytes (x ∷ f) e = absurd (omega (arith, e))
 
-pub validated-nothing : {m : Memory} {d : List ℕ} {w : JournalExtent} {d' f' : List ℕ} → length f' ≡ 0 → Validation Nothing m d [] w d' f' → Validation Nothing m d [] w d' []
-validated-nothing {m = m} {d = d} {w = w} {d' = d'} {f' = f'} e v = subst (λ (x : List ℕ). Validation Nothing m d [] w d' x) (no-bytes f' e) v
+pub validated-nothing : {x b : List ℕ} {lent : ℕ} {j d : List ℕ} {w : JournalExtent} {d' f' : List ℕ} → length f' ≡ 0
+    → InEachStore lent (λ store. Validation Nothing (memory x b store j) d [] w d' f') → InEachStore lent (λ store. Validation Nothing (memory x b store j) d [] w d' [])
+validated-nothing {x = x} {b = b} {lent = lent} {j = j} {d = d} {w = w} {d' = d'} {f' = f'} e v =
+    subst (λ (f : List ℕ). InEachStore lent (λ store. Validation Nothing (memory x b store j) d [] w d' f)) (no-bytes f' e) v
 
 -- ---- the rule decided
 
-pub rule-decided : {want : Want} {m : Memory} {d f : List ℕ} {w : JournalExtent} {d' f' : List ℕ} → Validation want m d f w d' f' → not (eqb (w .end) 0) ≡ meetsRule m
+decides : {want : Want} {m : Memory} {d f : List ℕ} {w : JournalExtent} {d' f' : List ℕ} → Validation want m d f w d' f' → not (eqb (w .end) 0) ≡ meetsRule m
 unfolding extentOf
-rule-decided {m = m} v = ap (λ (w : JournalExtent). not (eqb (w .end) 0)) (v .extent) ∙ go (meetsRule m) refl
+decides {m = m} v = ap (λ (w : JournalExtent). not (eqb (w .end) 0)) (v .extent) ∙ go (meetsRule m) refl
   where
     go : (b : Bool) → meetsRule m ≡ b → not (eqb (extentOf m .end) 0) ≡ meetsRule m
     go true e =
         let low = logged-low (extent-formed m e) in
         rw (ne-eqb (extentOf m .end) 0 (λ z. omega (arith, low, z)), e)
     go false e = rw e
+
+pub rule-decided : {want : Want} {x b : List ℕ} {lent : ℕ} {j d f : List ℕ} {w : JournalExtent} {d' f' : List ℕ}
+    → InEachStore lent (λ store. Validation want (memory x b store j) d f w d' f') → InEachStore lent (λ store. not (eqb (w .end) 0) ≡ meetsRule (memory x b store j))
+rule-decided v store same = decides (v store same)

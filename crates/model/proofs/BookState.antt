@@ -1,5 +1,5 @@
 -- The state that a book describes: each call answers on it as the book does, and moves it as the book moves. Assumes nothing.
-use Prim.Native.Nat.{ℕ, _+_, _*_}
+use Prim.Native.Nat.{ℕ, _+_}
 use mathlib.Core.Path.{_≡_, refl, sym, ap, ap₂, _∙_}
 use mathlib.Core.Bool.{Bool, true, false, not}
 use mathlib.Core.List.{List, [], _∷_, _++_}
@@ -8,16 +8,18 @@ use lib.Dec.{eqb, leb, ltb}
 use lib.ListN.{length}
 use borrow.Author.Tests.{leb-true, leb-false, lt-ltb, le-ltb}
 use Rattle.wire.specs.Tests.{pick, both, either}
-use Rattle.directory.specs.Directory.{windows, notifications}
+use Rattle.places.specs.declared.Family.{Family}
+use Rattle.places.specs.declared.Family.the-variants as family
+use Rattle.places.specs.Holder.{Holder, cell}
 use Rattle.ids.specs.Ids.{idsIn}
-use Rattle.body.specs.Bodies.{Body}
-use Rattle.table.specs.Table.{Table, emptied, number, after, directory, recordAt, pictureAt}
+use Rattle.table.specs.Table.{Table, emptied, number, after}
+use Rattle.table.specs.Memory.{fixedBy}
 use Rattle.journal.specs.Limits.{mostOrders, mostBytes}
 use Rattle.journal.specs.State.{State, run, present, bytesIn}
 use Rattle.session.specs.declared.LookupTarget.{LookupTarget}
-use Rattle.session.specs.declared.LookupTarget.the-variants.{Window, Notification, Cell, Desktop, Windows, Notifications}
-use Rattle.session.specs.Calls.{Call, reset, deliver, checkpoint, undo, look, writeRecord, Payload, nothing, body, picture, ids, orders, Answer, refuse, grant, overFull, without, aBody, aPicture, payloadIn, found, answer, next}
-use Rattle.model.specs.Book.{Book, newBook, makes, tableOf, bytesOf, hasRoom, joined, markMoved, lastGone, says, refuses, givesBody, givesPicture, bookNext, bookAnswer}
+use Rattle.session.specs.declared.LookupTarget.the-variants.{Window, Notification, Cell, Desktop, Windows, Notifications, Shares}
+use Rattle.session.specs.Calls.{Call, reset, deliver, checkpoint, undo, look, writeRecord, Payload, nothing, listed, body, picture, ids, orders, shared, Answer, refuse, grant, overFull, without, aPicture, cellNumber, holderOf, iconsShown, sharedIn, recordIn, payloadIn, found, answer, next}
+use Rattle.model.specs.Book.{Book, newBook, makes, tableOf, bytesOf, hasRoom, joined, markMoved, lastGone, says, refuses, givesRecord, givesShared, givesPicture, bookNext, bookAnswer}
 
 -- ---- the book's words and the state's
 
@@ -56,12 +58,12 @@ either-not false t = refl
 -- ---- a book as a state
 
 abbrev pub stateOfBook : Book → State
-stateOfBook b = record { marked = run emptied (b .old); log = b .new }
+stateOfBook b = record { marked = run (emptied (b .places)) (b .old); log = b .new }
 
 module _ (b : Book) where
   pub present-book : present (stateOfBook b) ≡ tableOf b
   unfolding tableOf
-  present-book = sym (makes-run emptied (b .old ++ b .new) ∙ run-append emptied (b .old) (b .new))
+  present-book = sym (makes-run (emptied (b .places)) (b .old ++ b .new) ∙ run-append (emptied (b .places)) (b .old) (b .new))
 
   full-room : (o : List ℕ) → overFull (b .new) o ≡ not (hasRoom b o)
   full-room o =
@@ -73,23 +75,34 @@ module _ (b : Book) where
 
   -- ---- lookups
 
-  body-same : (x : Option Body) → found (b .new) (aBody x) ≡ givesBody b x
-  body-same none = refl
-  body-same (some x) = grants (body x)
+  picture-same : (x : Option (List ℕ)) → found (b .new) (aPicture x) ≡ givesPicture b x
+  picture-same none = refl
+  picture-same (some p) = grants (picture p)
 
-  picture-same : (t : Bool) (x : Option (List ℕ)) → found (b .new) (pick t (aPicture x) nothing) ≡ givesPicture b (pick t x none)
-  picture-same false x = refl
-  picture-same true none = refl
-  picture-same true (some p) = grants (picture p)
+  record-same : (f : Family) (x y : ℕ) → found (b .new) (recordIn (tableOf b) f x y) ≡ givesRecord b f x y
+  record-same f x y = go (tableOf b .index .listed f x y)
+    where
+      go : (t : Bool) → found (b .new) (pick t (listed f (tableOf b .fields f x y) (iconsShown (tableOf b) f x y)) nothing)
+          ≡ pick t (says 0 b (listed f (tableOf b .fields f x y) (iconsShown (tableOf b) f x y))) (refuses 9)
+      go true = grants (listed f (tableOf b .fields f x y) (iconsShown (tableOf b) f x y))
+      go false = refl
+
+  shared-same : (g k : Holder) → found (b .new) (sharedIn (tableOf b) g k) ≡ givesShared b g k
+  shared-same g k = go (both (tableOf b .index .sharing .shares g g) (tableOf b .index .sharing .shares k k)) (tableOf b .index .sharing .shares g k)
+    where
+      go : (t u : Bool) → found (b .new) (pick t (shared u) nothing) ≡ pick t (says 0 b (shared u)) (refuses 9)
+      go true u = grants (shared u)
+      go false u = refl
 
   look-says : (target : LookupTarget) → found (b .new) (payloadIn target (tableOf b)) ≡ bookAnswer (look target) b
   unfolding payloadIn bookAnswer
-  look-says (Window w) = body-same (recordAt (tableOf b) windows (w .id) 0)
-  look-says (Notification w n) = body-same (recordAt (tableOf b) notifications (w .id) (n .id))
-  look-says (Cell cache entry) = picture-same (both (leb cache 1) (leb entry 5)) (pictureAt (tableOf b) (6 * cache + entry))
+  look-says (Window w) = record-same family.Windows (w .id) 0
+  look-says (Notification w n) = record-same family.Notifications (w .id) (n .id)
+  look-says (Cell cache entry) = picture-same (tableOf b .shown (cell (cellNumber cache entry)))
   look-says Desktop = grants (body (tableOf b .desktop))
-  look-says Windows = grants (ids windows (idsIn (directory (tableOf b)) windows))
-  look-says Notifications = grants (ids notifications (idsIn (directory (tableOf b)) notifications))
+  look-says Windows = grants (ids family.Windows (idsIn (tableOf b .index) family.Windows))
+  look-says Notifications = grants (ids family.Notifications (idsIn (tableOf b .index) family.Notifications))
+  look-says (Shares g k) = shared-same (holderOf g) (holderOf k)
 
 -- ---- each call's answer
 
@@ -110,7 +123,7 @@ undo-says b k =
 
 pub answer-book : (c : Call) (b : Book) → answer c (stateOfBook b) ≡ bookAnswer c b
 unfolding answer bookAnswer
-answer-book reset b = grants newBook nothing
+answer-book (reset n) b = grants (newBook (fixedBy n)) nothing
 answer-book (deliver o) b = rw (present-book b) (deliver-says b o (number (tableOf b) o))
 answer-book checkpoint b = grants (markMoved b) nothing
 answer-book (undo k) b = undo-says b k
@@ -139,10 +152,10 @@ undo-moves b k =
 
 pub next-book : (c : Call) (b : Book) → next c (stateOfBook b) ≡ stateOfBook (bookNext c b)
 unfolding next bookNext run
-next-book reset b = refl
+next-book (reset n) b = refl
 next-book (deliver o) b = rw (present-book b) (deliver-moves b o (eqb (number (tableOf b) o) 0))
 next-book checkpoint b =
-    ap {B = State} (λ (t : Table). record { marked = t; log = [] }) (sym (run-append emptied (b .old) (b .new)))
+    ap {B = State} (λ (t : Table). record { marked = t; log = [] }) (sym (run-append (emptied (b .places)) (b .old) (b .new)))
 next-book (undo k) b = undo-moves b k
 next-book (look target) b = refl
 next-book writeRecord b = refl

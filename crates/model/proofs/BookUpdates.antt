@@ -4,16 +4,13 @@ use mathlib.Core.Path.{_≡_, refl, sym, ap, _∙_}
 use mathlib.Core.Bool.{Bool, true, false}
 use mathlib.Core.List.{List, [], _∷_, map}
 use lib.Dec.{eqb}
-use lib.ListN.{length}
 use borrow.Author.Tests.{eqb-true}
 use Rattle.wire.specs.Tests.{pick}
-use Rattle.journal.specs.State.{State, bytesIn}
 use Rattle.journal.specs.View.{formed}
-use Rattle.session.specs.Calls.{deliver, Answer, answer, next}
-use Rattle.update.specs.declared.Report.{Report}
+use Rattle.session.specs.Calls.{deliver}
 use Rattle.update.specs.Update.{ordersOf, Course, stopped, grantedFirst, deliverAll}
 use Rattle.update.specs.Outcome.{reportOf, reportOn, nextOn}
-use Rattle.model.specs.Book.{Book, bytesOf, bookNext, bookAnswer, bookAfter, bookAnswers}
+use Rattle.model.specs.Book.{Book, bookNext, bookAnswer, bookAfter, bookAnswers}
 use Rattle.model.specs.Updates.{deliveries, lastAfter, grantedOf, bookReport}
 use Rattle.model.proofs.BookState.{bytes-same, stateOfBook, answer-book, next-book}
 

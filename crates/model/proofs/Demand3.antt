@@ -4,6 +4,8 @@ use mathlib.Core.Path.{_≡_, refl, sym, ap, ap₂, _∙_}
 use mathlib.Core.Bool.{Bool, true, false}
 use mathlib.Core.List.{List, [], _∷_, _++_}
 use Rattle.wire.specs.Tests.{pick}
+use Rattle.store.specs.Store.{placesIn}
+use Rattle.table.specs.Memory.{fixedBy}
 use Rattle.journal.specs.State.{State, run}
 use Rattle.journal.specs.View.{Memory, Past, tooShort, wellFormed, stateOf, unformed, formed, viewOf}
 use Rattle.session.specs.Calls.{Call, reset, answer, next, answerView, nextView}
@@ -12,7 +14,8 @@ use Rattle.update.specs.declared.Report.{Report}
 use Rattle.update.specs.Outcome.{reportOn, nextOn, UpdateOutcome}
 use Rattle.model.specs.Book.{Book, newBook, bookNext, bookAfter}
 use Rattle.model.specs.Updates.{Step, single, update, Said, responds, reports, callsOf, replaced, bookSays, bookSaid}
-use Rattle.model.specs.Claim.{Calls, none, more, moreAtOnce, AsBook, Demand3}
+use Rattle.model.specs.Claim.{Calls, none, more, moreAtOnce, PastCalls, AsBook, Demand3}
+use Rattle.model.specs.Wellformed.{emptiedState}
 use Rattle.model.proofs.BookState.{stateOfBook, present-book, answer-book, next-book}
 use Rattle.model.proofs.BookUpdates.{report-book, next-update}
 
@@ -26,12 +29,12 @@ pub moved : (c : Call) (s : State) → nextView c (formed s) ≡ formed (next c 
 unfolding nextView
 moved c s = refl
 
--- memory that is long enough describes the new book once it is emptied
-pub emptied-view : (m : Memory) → tooShort m ≡ false → nextView reset (viewOf m) ≡ formed (stateOfBook newBook)
-unfolding viewOf nextView next run
-emptied-view m l = rw l (go (wellFormed m))
+-- memory that is long enough describes the emptied state once it is emptied
+pub emptied-view : (k : ℕ) (m : Memory) → tooShort m ≡ false → nextView (reset k) (viewOf m) ≡ formed (emptiedState k)
+unfolding viewOf nextView next
+emptied-view k m l = rw l (go (wellFormed m))
   where
-    go : (t : Bool) → nextView reset (pick t (formed (stateOf m)) unformed) ≡ formed (stateOfBook newBook)
+    go : (t : Bool) → nextView (reset k) (pick t (formed (stateOf m)) unformed) ≡ formed (emptiedState k)
     go true = refl
     go false = refl
 
@@ -82,16 +85,18 @@ from b v none = record { answers = refl; holds = v }
 from b v (more {q = q} s k) = one-more (single-says b v s) (from (bookAfter (callsOf (single q) b) b) (single-holds b v s) k)
 from b v (moreAtOnce {limit = limit} {s = s} u k) = one-more (update-says b v u) (from (bookAfter (callsOf (update limit s) b) b) (update-holds b v u) k)
 
--- from memory that describes the new book
-pub as-book : {m e : Memory} {xs : List Step} {ys : List Said} → viewOf m ≡ formed (stateOfBook newBook) → Calls m xs ys e → AsBook xs ys e
-as-book {xs = xs} v k =
-    let f = from newBook v k in
-    let b = bookAfter (replaced xs newBook) newBook in
+-- from memory that describes the emptied state, which is the new book's
+pub as-book : {m e : Memory} {xs : List Step} {ys : List Said} (lent : ℕ) → viewOf m ≡ formed (emptiedState lent) → Calls m xs ys e → AsBook (fixedBy lent) xs ys e
+unfolding run
+as-book {xs = xs} lent v k =
+    let new = newBook (fixedBy lent) in
+    let f = from new v k in
+    let b = bookAfter (replaced xs new) new in
     record { answers = f .answers; holds = record { state = stateOfBook b; describes = f .holds; table = present-book b; since = refl } }
 
 pub demand-3 : Demand3
 unfolding Demand3
-demand-3 m n e r xs ys l s k = as-book (s .holds ∙ emptied-view m l) k
+demand-3 m n e r xs ys l s k = as-book (placesIn (m .store)) (s .holds ∙ emptied-view (placesIn (m .store)) m l) k
 
 -- ---- one call more at the end of a run of calls
 
@@ -102,13 +107,21 @@ snoc (moreAtOnce u k) o = moreAtOnce u (snoc k o)
 
 -- ---- the bytes past the needed lengths
 
-pub past-same : (m : Memory) → Past m m
-past-same m = record { dir = refl; bodies = refl; cells = refl; journal = refl }
+pub past-same : (m : Memory) → PastCalls m m
+past-same m = record { index = refl; bodies = refl; lengths = refl; store = refl; journal = refl }
 
-pub past-then : {m n e : Memory} → Past m n → Past n e → Past m e
-past-then a b = record { dir = b .dir ∙ a .dir; bodies = b .bodies ∙ a .bodies; cells = b .cells ∙ a .cells; journal = b .journal ∙ a .journal }
+-- a call, and those after it
+pub past-then : {m n e : Memory} → Past m n → PastCalls n e → PastCalls m e
+past-then a b =
+    record {
+      index = b .index ∙ a .index;
+      bodies = b .bodies ∙ a .bodies;
+      lengths = b .lengths ∙ a .store .lengths;
+      store = b .store ∙ a .store .past;
+      journal = b .journal ∙ a .journal;
+    }
 
-pub calls-past : {m e : Memory} {xs : List Step} {ys : List Said} → Calls m xs ys e → Past m e
+pub calls-past : {m e : Memory} {xs : List Step} {ys : List Said} → Calls m xs ys e → PastCalls m e
 calls-past {m = m} none = past-same m
 calls-past (more s k) = past-then (s .past) (calls-past k)
 calls-past (moreAtOnce u k) = past-then (u .past) (calls-past k)

@@ -1,55 +1,189 @@
 -- The fixed layout loses nothing of a payload. Assumes nothing.
-use Prim.Native.Nat.{ℕ, _+_}
-use mathlib.Core.Path.{_≡_, refl, sym, ap, _∙_}
-use mathlib.Core.List.{List, [], _∷_}
+use Prim.Native.Nat.{ℕ, _+_, _≤_}
+use mathlib.Core.Path.{_≡_, refl, sym, ap, ap₂, _∙_}
+use mathlib.Core.Bool.{Bool, true, false}
+use mathlib.Core.List.{List, [], _∷_, _++_, map, flatten}
+use mathlib.Core.Option.{Option, none, some}
 use native.Mathlib.Omega.{arith}
-use lib.ListN.{length}
-use Rattle.order.specs.declared.Row.{Row}
+use lib.ListN.{length, take, drop, length-append}
+use lib.Seq.{take-append-seam, drop-append-seam}
+use Rattle.wire.specs.Tests.{pick}
+use Rattle.wire.specs.Numbers.{numAt}
+use Rattle.wire.specs.Parts.{padded}
+use Rattle.wire.proofs.Numbers.{num-drop, num-padded}
+use Rattle.wire.proofs.Parts.{length-padded, padded-same}
 use Rattle.order.specs.Rows.{rowsFrom}
-use Rattle.directory.specs.Directory as family
+use Rattle.order.specs.Icons.{partsOf}
+use Rattle.places.specs.declared.Family.the-variants as family
 use Rattle.ids.proofs.TypedTells.{same-ids, no-list}
 use Rattle.body.specs.Bodies.{Body, bodyOf}
-use Rattle.body.specs.Stores.{roomAll}
-use Rattle.cache.specs.Cells.{pictureOf}
-use Rattle.layout.specs.Valid.{ValidBody}
-use Rattle.layout.specs.Layouts.{pictureSize, recordBytes, pictureBytes, KeepsRecord, KeepsPicture}
-use Rattle.layout.proofs.LayoutsLossless.{keeps-record, keeps-picture}
-use Rattle.session.specs.Calls.{body, picture, ids}
-use Rattle.session.specs.Outcome.{payloadBytes}
-use Rattle.model.specs.Lossless.{none, window, notification, cell, desktop, windows, notifications, LayoutLosesNothing}
+use Rattle.layout.specs.Valid.{ValidFields, ValidBody}
+use Rattle.layout.specs.Layouts.{pictureSize, recordBytes, pictureBytes}
+use Rattle.layout.proofs.LayoutsLossless.{keeps-record}
+use Rattle.shown.specs.Shown.{isThere, shownBytes}
+use Rattle.session.specs.Calls.{listed, body, picture, ids, shared}
+use Rattle.session.specs.Outcome.{firstThere, secondThere, listedBytes, payloadBytes}
+use Rattle.model.specs.Lossless.{ValidPicture, ValidShown, nothing-shown, shown, absent, window, notification, cell, desktop, windows, notifications, shares, LayoutLosesNothing}
 
--- a record is read back from its bytes, so the bytes tell it; it has some
+-- ---- lists one after the other, the first as long as the other's first
+
+tells : (a b x y : List ℕ) → length a ≡ length b → a ++ x ≡ b ++ y → (a ≡ b) × (x ≡ y)
+tells a b x y l e = (
+  sym (take-append-seam a x) ∙ ap (take (length a)) e ∙ ap (λ (n : ℕ). take n (b ++ y)) l ∙ take-append-seam b y,
+  sym (drop-append-seam a x) ∙ ap (drop (length a)) e ∙ ap (λ (n : ℕ). drop n (b ++ y)) l ∙ drop-append-seam b y,
+)
+
+-- ---- records: one is read back from its bytes, so the bytes tell it; it has some
+
 module _ (low high m n : ℕ) (b : Body) (v : ValidBody (rowsFrom low high) m n b) where
   some-bytes : recordBytes (rowsFrom low high) b ≡ [] → ⊥
   some-bytes e = omega (arith, ap (λ (x : List ℕ). length x) e, keeps-record low high m n b v .long)
 
-  same-body : (c : Body) → ValidBody (rowsFrom low high) m n c → recordBytes (rowsFrom low high) b ≡ recordBytes (rowsFrom low high) c → b ≡ c
-  same-body c w e = sym (keeps-record low high m n b v .back) ∙ ap (bodyOf (rowsFrom low high)) e ∙ keeps-record low high m n c w .back
+  module _ (c : Body) (w : ValidBody (rowsFrom low high) m n c) where
+    as-long : length (recordBytes (rowsFrom low high) b) ≡ length (recordBytes (rowsFrom low high) c)
+    as-long = keeps-record low high m n b v .long ∙ sym (keeps-record low high m n c w .long)
 
-no-picture : (p : List ℕ) → length (pictureBytes p) ≡ pictureSize → pictureBytes p ≡ [] → ⊥
-no-picture p l e = omega (arith, ap (λ (x : List ℕ). length x) e, l)
+    same-body : recordBytes (rowsFrom low high) b ≡ recordBytes (rowsFrom low high) c → b ≡ c
+    same-body e = sym (keeps-record low high m n b v .back) ∙ ap (bodyOf (rowsFrom low high)) e ∙ keeps-record low high m n c w .back
+
+-- ---- pictures: the numbers in the layout say where one ends
+
+length-picture : (p : List ℕ) → length (pictureBytes p) ≡ pictureSize
+unfolding pictureBytes
+length-picture p = length-padded {A = ℕ} 0 pictureSize p
+
+no-picture : (p : List ℕ) → pictureBytes p ≡ [] → ⊥
+no-picture p e = omega (arith, ap (λ (x : List ℕ). length x) e, length-picture p)
+
+number-is : (w i : ℕ) (p : List ℕ) → i + w ≤ pictureSize → numAt w (0 ∷ 0 ∷ 0 ∷ pictureBytes p) (3 + i) ≡ numAt w (0 ∷ 0 ∷ 0 ∷ p) (3 + i)
+unfolding pictureBytes
+number-is w i p h =
+    sym (num-drop w 3 i (0 ∷ 0 ∷ 0 ∷ padded 0 pictureSize p)) ∙ num-padded w pictureSize i p h ∙ num-drop w 3 i (0 ∷ 0 ∷ 0 ∷ p)
+
+end-is : (p : List ℕ) → partsOf (0 ∷ 0 ∷ 0 ∷ pictureBytes p) 0 .end ≡ partsOf (0 ∷ 0 ∷ 0 ∷ p) 0 .end
+unfolding partsOf
+end-is p = rw (number-is 1 0 p (omega arith), number-is 2 5 p (omega arith), number-is 2 7 p (omega arith), number-is 2 9 p (omega arith))
+
+module _ (p q : List ℕ) (v : ValidPicture p) (w : ValidPicture q) (e : pictureBytes p ≡ pictureBytes q) where
+  same-length : length p ≡ length q
+  same-length =
+      let x : 3 + length p ≡ 3 + length q =
+      sym (v .ends) ∙ sym (end-is p) ∙ ap (λ (x : List ℕ). partsOf (0 ∷ 0 ∷ 0 ∷ x) 0 .end) e ∙ end-is q ∙ w .ends in
+      omega (arith, x)
+
+  same-picture : p ≡ q
+  unfolding pictureBytes
+  same-picture = padded-same {A = ℕ} 0 pictureSize p q same-length (v .few) e
+
+-- ---- what an icon shows, with its mark
+
+length-shown : (x : Option (List ℕ)) → length (shownBytes x) ≡ pictureSize
+length-shown none = length-picture []
+length-shown (some p) = length-picture p
+
+mark-low : (x : Option (List ℕ)) → isThere x ≤ 1
+mark-low none = omega arith
+mark-low (some p) = omega arith
+
+same-shown : (x y : Option (List ℕ)) → ValidShown x → ValidShown y → isThere x ≡ isThere y → shownBytes x ≡ shownBytes y → x ≡ y
+same-shown x y nothing-shown nothing-shown m e = refl
+same-shown x y nothing-shown (shown w) m e = absurd (omega (arith, m))
+same-shown x y (shown v) nothing-shown m e = absurd (omega (arith, m))
+same-shown x y (shown {p = p} v) (shown {p = q} w) m e = ap some (same-picture p q v w e)
+
+-- ---- a record with its icons
+
+abbrev bodyWith : List (Option (List ℕ)) → List (List ℕ) → Body
+bodyWith ps fs = record { first = firstThere ps; second = secondThere ps; fields = fs }
+
+-- the bytes of its icons
+abbrev shownAll : List (Option (List ℕ)) → List ℕ
+shownAll ps = flatten (map shownBytes ps)
+
+first-low : (ps : List (Option (List ℕ))) → firstThere ps ≤ 1
+first-low [] = omega arith
+first-low (p ∷ ps) = mark-low p
+
+second-low : (ps : List (Option (List ℕ))) → secondThere ps ≤ 1
+second-low [] = omega arith
+second-low (p ∷ ps) = first-low ps
+
+-- an icon first, whatever follows
+icon-tells : (x y : Option (List ℕ)) (r s : List ℕ) → ValidShown x → ValidShown y → isThere x ≡ isThere y → shownBytes x ++ r ≡ shownBytes y ++ s → (x ≡ y) × (r ≡ s)
+icon-tells x y r s v w m e =
+    let t = tells (shownBytes x) (shownBytes y) r s (length-shown x ∙ sym (length-shown y)) e in
+    (same-shown x y v w m (t .0), t .1)
+
+module _ (low high : ℕ) (ps : List (Option (List ℕ))) (fs : List (List ℕ)) (v : ValidFields (rowsFrom low high) fs) where
+  valid-body : ValidBody (rowsFrom low high) 1 1 (bodyWith ps fs)
+  valid-body = record { first = first-low ps; second = second-low ps; fields = v }
+
+  some-listed : recordBytes (rowsFrom low high) (bodyWith ps fs) ++ shownAll ps ≡ [] → ⊥
+  some-listed e =
+      let l = keeps-record low high 1 1 (bodyWith ps fs) valid-body .long in
+      let m = length-append (recordBytes (rowsFrom low high) (bodyWith ps fs)) (shownAll ps) in
+      omega (arith, ap (λ (x : List ℕ). length x) e, l, m)
+
+  -- its fields and marks, and the bytes of its icons
+  module _ (qs : List (Option (List ℕ))) (gs : List (List ℕ)) (w : ValidFields (rowsFrom low high) gs)
+      (e : recordBytes (rowsFrom low high) (bodyWith ps fs) ++ shownAll ps ≡ recordBytes (rowsFrom low high) (bodyWith qs gs) ++ shownAll qs) where
+    valid-other : ValidBody (rowsFrom low high) 1 1 (bodyWith qs gs)
+    valid-other = record { first = first-low qs; second = second-low qs; fields = w }
+
+    listed-tells : (bodyWith ps fs ≡ bodyWith qs gs) × (shownAll ps ≡ shownAll qs)
+    listed-tells =
+        let b = bodyWith ps fs in
+        let c = bodyWith qs gs in
+        let t = tells (recordBytes (rowsFrom low high) b) (recordBytes (rowsFrom low high) c) (shownAll ps) (shownAll qs) (as-long low high 1 1 b valid-body c valid-other) e in
+        (same-body low high 1 1 b valid-body c valid-other (t .0), t .1)
+
+    same-fields : fs ≡ gs
+    same-fields = ap (λ (b : Body). b .fields) (listed-tells .0)
+
+    same-first : firstThere ps ≡ firstThere qs
+    same-first = ap (λ (b : Body). b .first) (listed-tells .0)
+
+    same-second : secondThere ps ≡ secondThere qs
+    same-second = ap (λ (b : Body). b .second) (listed-tells .0)
+
+-- ---- whether two share
+
+same-shared : (b c : Bool) → _≡_ {A = List ℕ} (pick b 1 0 ∷ []) (pick c 1 0 ∷ []) → b ≡ c
+same-shared true true e = refl
+same-shared true false e = let z : _≡_ {A = ℕ} 1 0 = cc in absurd (omega (arith, z))
+same-shared false true e = let z : _≡_ {A = ℕ} 0 1 = cc in absurd (omega (arith, z))
+same-shared false false e = refl
+
+no-shared : (n : ℕ) → n ∷ [] ≡ [] → ⊥
+no-shared n e = omega (arith, ap (λ (x : List ℕ). length x) e)
 
 pub layout-loses-nothing : LayoutLosesNothing
-unfolding LayoutLosesNothing payloadBytes
-layout-loses-nothing target p q none none e = refl
-layout-loses-nothing target p q none (window {b = c} w) e = absurd (some-bytes 1 15 12 12 c w (sym e))
-layout-loses-nothing target p q none (notification {b = c} w) e = absurd (some-bytes 16 22 12 0 c w (sym e))
-layout-loses-nothing target p q none (desktop {b = c} w) e = absurd (some-bytes 22 24 1 1 c w (sym e))
-layout-loses-nothing target p q none (cell s ok l) e = absurd (no-picture (pictureOf s) (keeps-picture s ok l .long) (sym e))
-layout-loses-nothing target p q none (windows {ks = js} w) e = absurd (no-list family.windows js (sym e))
-layout-loses-nothing target p q none (notifications {ks = js} w) e = absurd (no-list family.notifications js (sym e))
-layout-loses-nothing target p q (windows {ks = ks} v) none e = absurd (no-list family.windows ks e)
-layout-loses-nothing target p q (windows {ks = ks} v) (windows {ks = js} w) e = ap (ids family.windows) (same-ids family.windows ks js v w e)
-layout-loses-nothing target p q (notifications {ks = ks} v) none e = absurd (no-list family.notifications ks e)
+unfolding LayoutLosesNothing payloadBytes listedBytes flatten
+layout-loses-nothing target p q absent absent e = refl
+layout-loses-nothing target p q absent (window {fs = gs} {small = x} {big = y} w a b) e = absurd (some-listed 1 15 (x ∷ y ∷ []) gs w (sym e))
+layout-loses-nothing target p q absent (notification {fs = gs} {icon = x} w a) e = absurd (some-listed 16 22 (x ∷ []) gs w (sym e))
+layout-loses-nothing target p q absent (desktop {b = c} w) e = absurd (some-bytes 22 24 1 1 c w (sym e))
+layout-loses-nothing target p q absent (cell {p = x} w) e = absurd (no-picture x (sym e))
+layout-loses-nothing target p q absent (windows {ks = js} w) e = absurd (no-list family.Windows js (sym e))
+layout-loses-nothing target p q absent (notifications {ks = js} w) e = absurd (no-list family.Notifications js (sym e))
+layout-loses-nothing target p q absent (shares {b = b}) e = absurd (no-shared (pick b 1 0) (sym e))
+layout-loses-nothing target p q (windows {ks = ks} v) absent e = absurd (no-list family.Windows ks e)
+layout-loses-nothing target p q (windows {ks = ks} v) (windows {ks = js} w) e = ap (ids family.Windows) (same-ids family.Windows ks js v w e)
+layout-loses-nothing target p q (notifications {ks = ks} v) absent e = absurd (no-list family.Notifications ks e)
 layout-loses-nothing target p q (notifications {ks = ks} v) (notifications {ks = js} w) e =
-    ap (ids family.notifications) (same-ids family.notifications ks js v w e)
-layout-loses-nothing target p q (window {b = b} v) none e = absurd (some-bytes 1 15 12 12 b v e)
-layout-loses-nothing target p q (window {b = b} v) (window {b = c} w) e = ap body (same-body 1 15 12 12 b v c w e)
-layout-loses-nothing target p q (notification {b = b} v) none e = absurd (some-bytes 16 22 12 0 b v e)
-layout-loses-nothing target p q (notification {b = b} v) (notification {b = c} w) e = ap body (same-body 16 22 12 0 b v c w e)
-layout-loses-nothing target p q (desktop {b = b} v) none e = absurd (some-bytes 22 24 1 1 b v e)
+    ap (ids family.Notifications) (same-ids family.Notifications ks js v w e)
+layout-loses-nothing target p q (window {fs = fs} {small = x} {big = y} v a b) absent e = absurd (some-listed 1 15 (x ∷ y ∷ []) fs v e)
+layout-loses-nothing target p q (window {fs = fs} {small = x} {big = y} v a b) (window {fs = gs} {small = z} {big = u} w c d) e =
+    let t = icon-tells x z (shownAll (y ∷ [])) (shownAll (u ∷ [])) a c (same-first 1 15 (x ∷ y ∷ []) fs v (z ∷ u ∷ []) gs w e) (listed-tells 1 15 (x ∷ y ∷ []) fs v (z ∷ u ∷ []) gs w e .1) in
+    let s = icon-tells y u [] [] b d (same-second 1 15 (x ∷ y ∷ []) fs v (z ∷ u ∷ []) gs w e) (t .1) in
+    ap₂ (listed family.Windows) (same-fields 1 15 (x ∷ y ∷ []) fs v (z ∷ u ∷ []) gs w e) (ap₂ (λ (m n : Option (List ℕ)). m ∷ n ∷ []) (t .0) (s .0))
+layout-loses-nothing target p q (notification {fs = fs} {icon = x} v a) absent e = absurd (some-listed 16 22 (x ∷ []) fs v e)
+layout-loses-nothing target p q (notification {fs = fs} {icon = x} v a) (notification {fs = gs} {icon = z} w c) e =
+    let t = icon-tells x z [] [] a c (same-first 16 22 (x ∷ []) fs v (z ∷ []) gs w e) (listed-tells 16 22 (x ∷ []) fs v (z ∷ []) gs w e .1) in
+    ap₂ (listed family.Notifications) (same-fields 16 22 (x ∷ []) fs v (z ∷ []) gs w e) (ap (λ (m : Option (List ℕ)). m ∷ []) (t .0))
+layout-loses-nothing target p q (desktop {b = b} v) absent e = absurd (some-bytes 22 24 1 1 b v e)
 layout-loses-nothing target p q (desktop {b = b} v) (desktop {b = c} w) e = ap body (same-body 22 24 1 1 b v c w e)
-layout-loses-nothing target p q (cell s ok l) none e = absurd (no-picture (pictureOf s) (keeps-picture s ok l .long) e)
-layout-loses-nothing target p q (cell s ok l) (cell s' ok' l') e =
-    ap picture
-    (sym (keeps-picture s ok l .read) ∙ ap (λ (x : List ℕ). pictureOf (0 ∷ 0 ∷ 0 ∷ x)) e ∙ keeps-picture s' ok' l' .read)
+layout-loses-nothing target p q (cell {p = x} v) absent e = absurd (no-picture x e)
+layout-loses-nothing target p q (cell {p = x} v) (cell {p = y} w) e = ap picture (same-picture x y v w e)
+layout-loses-nothing target p q (shares {b = b}) absent e = absurd (no-shared (pick b 1 0) e)
+layout-loses-nothing target p q (shares {b = b}) (shares {b = c}) e = ap shared (same-shared b c e)

@@ -2,12 +2,12 @@
 use Prim.Native.Nat.{ℕ, zero, suc, _+_, _≤_}
 use mathlib.Core.Path.{_≡_, refl, sym, ap, ap₂, subst, _∙_}
 use mathlib.Core.Bool.{Bool, true, false, not}
-use mathlib.Core.List.{List, [], _∷_, _++_, append-assoc, append-nil, map}
+use mathlib.Core.List.{List, [], _∷_, _++_, append-assoc, append-nil}
 use native.Mathlib.Omega.{arith}
 use lib.Dec.{eqb, ltb}
 use lib.ListN.{length, take, replicate, length-append}
 use borrow.Author.Tests.{le-ltb, ltb-false}
-use Rattle.wire.specs.Tests.{pick, both, either}
+use Rattle.wire.specs.Tests.{pick, either}
 use Rattle.wire.specs.Parts.{slice, splice}
 use Rattle.wire.proofs.Tests.{both-left, both-right}
 use Rattle.wire.proofs.Parts.{slice-splice}
@@ -19,14 +19,14 @@ use Rattle.journal.proofs.Runs.{run-append, bytes-append, accepted-first, accep
 use Rattle.record.specs.Layout.{headOf, recordOf}
 use Rattle.record.specs.Reading.{bodiesOf}
 use Rattle.record.proofs.RoundTrip.{length-record, written-back}
-use Rattle.session.specs.Calls.{Call, reset, deliver, checkpoint, undo, look, writeRecord, nothing, orders, Answer, refuse, grant, overFull, answer, next, answerView, nextView}
-use Rattle.session.specs.Outcome.{plain, recordTo, Response, replied, sessionRecord, replyOf, answerWithin, outAfter, responseOf, CallOutcome}
+use Rattle.session.specs.Calls.{Call, reset, deliver, checkpoint, undo, look, writeRecord, nothing, orders, refuse, grant, overFull, answer, next, answerView, nextView}
+use Rattle.session.specs.Outcome.{plain, recordTo, Response, sessionRecord, answerWithin, outAfter, responseOf, CallOutcome}
 use Rattle.update.specs.Update.{ordersOf, stopped, grantedFirst, deliverAll}
 use Rattle.update.specs.Outcome.{nextOn}
 use Rattle.model.specs.Updates.{Step, Said}
 use Rattle.model.specs.Claim.{Calls, none, more, moreAtOnce}
 use Rattle.model.specs.Wellformed.{OneState, OnlyMeets}
-use Rattle.model.specs.Records.{AtMark, MarksHere, keepsMark, allKeepMark, writtenBy, inTurn, numbersOf, SameAgain, RecordReplays, RecordLosesNothing}
+use Rattle.model.specs.Records.{AtMark, MarksHere, keepsMark, allKeepMark, writtenBy, inTurn, numbersOf, RecordReplays, RecordLosesNothing}
 use Rattle.model.proofs.Demand3.{moved, emptied-view}
 use Rattle.model.proofs.Wellformed.{one-state, only-meets, reset-long}
 
@@ -44,7 +44,7 @@ picked false s os = refl
 
 kept-mark : (c : Call) (s : State) → keepsMark c ≡ true → next c s .marked ≡ s .marked
 unfolding next
-kept-mark reset s e = no e
+kept-mark (reset n) s e = no e
 kept-mark (deliver o) s e = picked (either (not (eqb (number (present s) o) 0)) (overFull (s .log) o)) s (s .log ++ (o ∷ []))
 kept-mark checkpoint s e = no e
 kept-mark (undo k) s e = picked (ltb (length (s .log)) k) s _
@@ -193,10 +193,10 @@ record-replays n m m' e xs ys ds out r a calls kept wrote granted again =
 
 pub marks-here : MarksHere
 unfolding MarksHere
-marks-here m n r granted = (λ o. reset-marks o, λ o. checkpoint-marks o)
+marks-here k m n r granted = (λ o. reset-marks o, λ o. checkpoint-marks o)
   where
-    reset-marks : CallOutcome (plain reset) m r n → AtMark n
-    reset-marks o = record { table = _; described = o .holds ∙ emptied-view m (reset-long m (o .says) granted) }
+    reset-marks : CallOutcome (plain (reset k)) m r n → AtMark n
+    reset-marks o = record { table = _; described = o .holds ∙ emptied-view k m (reset-long k m (o .says) granted) }
 
     refused-one : (v : View) → answerView checkpoint v ≡ refuse 1 → viewOf m ≡ v → CallOutcome (plain checkpoint) m r n → AtMark n
     refused-one v a e o =

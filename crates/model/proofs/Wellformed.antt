@@ -11,11 +11,11 @@ use Rattle.wire.specs.Tests.{pick, either}
 use Rattle.wire.specs.Parts.{splice}
 use Rattle.table.specs.Table.{number}
 use Rattle.journal.specs.Limits.{mostOrders, mostBytes}
-use Rattle.journal.specs.State.{State, present, run, bytesIn}
+use Rattle.journal.specs.State.{State, present, bytesIn}
 use Rattle.journal.specs.View.{Memory, tooShort, wellFormed, stateOf, View, short, unformed, formed, viewOf}
 use Rattle.journal.proofs.Runs.{bytes-append}
 use Rattle.journal.proofs.Fits.{fits}
-use Rattle.session.specs.Calls.{Call, reset, deliver, checkpoint, undo, look, writeRecord, Payload, nothing, body, picture, ids, orders, refuse, grant, overFull, without, payloadIn, found, isReset, answer, answerView, nextView, next}
+use Rattle.session.specs.Calls.{Call, reset, deliver, checkpoint, undo, look, writeRecord, Payload, nothing, listed, body, picture, ids, orders, shared, refuse, grant, overFull, without, payloadIn, found, isReset, answer, answerView, nextView, next}
 use Rattle.session.specs.Outcome.{Response, plain, replied, responseOf, answerWithin, outAfter}
 use Rattle.model.specs.Wellformed.{Meets, emptiedState, EmptyingGranted, EmptiedMeets, CallsKeep, OneState, OnlyMeets, Fits, RepliesFit}
 use Rattle.model.proofs.Demand3.{moved, emptied-view}
@@ -60,29 +60,29 @@ one-state m w =
 
 pub emptying-granted : EmptyingGranted
 unfolding EmptyingGranted viewOf answerView answer bytesIn responseOf answerWithin outAfter splice
-emptying-granted m n r l s = s .says ∙ rw l (go (wellFormed m))
+emptying-granted k m n r l s = s .says ∙ rw l (go (wellFormed m))
   where
-    go : (t : Bool) → responseOf (plain reset) (answerView reset (pick t (formed (stateOf m)) unformed)) ≡ replied (record { number = 0; count = 0; bytes = 0 })
+    go : (t : Bool) → responseOf (plain (reset k)) (answerView (reset k) (pick t (formed (stateOf m)) unformed)) ≡ replied (record { number = 0; count = 0; bytes = 0 })
     go true = refl
     go false = refl
 
 -- emptying refuses memory that is too short
-reset-short : (m : Memory) → tooShort m ≡ true → responseOf (plain reset) (answerView reset (viewOf m)) .reply .number ≡ 1
+reset-short : (k : ℕ) (m : Memory) → tooShort m ≡ true → responseOf (plain (reset k)) (answerView (reset k) (viewOf m)) .reply .number ≡ 1
 unfolding viewOf answerView responseOf answerWithin
-reset-short m l = rw l
+reset-short k m l = rw l
 
-pub reset-long : (m : Memory) {r : Response} → r ≡ responseOf (plain reset) (answerView reset (viewOf m)) → r .reply .number ≡ 0 → tooShort m ≡ false
-reset-long m e g = go (tooShort m) refl
+pub reset-long : (k : ℕ) (m : Memory) {r : Response} → r ≡ responseOf (plain (reset k)) (answerView (reset k) (viewOf m)) → r .reply .number ≡ 0 → tooShort m ≡ false
+reset-long k m e g = go (tooShort m) refl
   where
     go : (t : Bool) → tooShort m ≡ t → tooShort m ≡ false
     go false l = l
-    go true l = let z : _≡_ {A = ℕ} 0 1 = sym g ∙ ap (λ (x : Response). x .reply .number) e ∙ reset-short m l in absurd (omega arith)
+    go true l = let z : _≡_ {A = ℕ} 0 1 = sym g ∙ ap (λ (x : Response). x .reply .number) e ∙ reset-short k m l in absurd (omega arith)
 
 pub emptied-meets : EmptiedMeets
-unfolding EmptiedMeets OnlyMeets run
-emptied-meets m n r s g =
-    let v : viewOf n ≡ formed emptiedState = s .holds ∙ emptied-view m (reset-long m (s .says) g) in
-    (only-meets n emptiedState v, v)
+unfolding EmptiedMeets OnlyMeets
+emptied-meets k m n r s g =
+    let v : viewOf n ≡ formed (emptiedState k) = s .holds ∙ emptied-view k m (reset-long k m (s .says) g) in
+    (only-meets n (emptiedState k) v, v)
 
 pub calls-keep : CallsKeep
 unfolding CallsKeep OnlyMeets
@@ -133,14 +133,16 @@ module _ (s : State) (few : length (s .log) ≤ mostOrders) (bytes : bytesIn (s 
 
   found-fits : (p : Payload) → Fits (found (s .log) p)
   found-fits nothing = refused-fits 9
+  found-fits (listed f fs ps) = (few, bytes)
   found-fits (body b) = (few, bytes)
   found-fits (picture p) = (few, bytes)
   found-fits (ids f ks) = (few, bytes)
   found-fits (orders os) = (few, bytes)
+  found-fits (shared b) = (few, bytes)
 
   answer-fits : (c : Call) → Fits (answer c s)
   unfolding answer
-  answer-fits reset = none-fits
+  answer-fits (reset n) = none-fits
   answer-fits (deliver o) = delivered-fits o (not (eqb (number (present s) o) 0)) (overFull (s .log) o) refl
   answer-fits checkpoint = none-fits
   answer-fits (undo k) = undone-fits k (ltb (length (s .log)) k)

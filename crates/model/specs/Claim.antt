@@ -3,7 +3,13 @@
 use Prim.Native.Nat.{ℕ}
 use mathlib.Core.Path.{_≡_}
 use mathlib.Core.Bool.{false}
-use mathlib.Core.List.{List, [], _∷_}
+use mathlib.Core.List.{List, [], _∷_, map}
+use lib.ListN.{length, drop}
+use Rattle.index.specs.Families.{indexLength}
+use Rattle.store.specs.Store.{placesIn}
+use Rattle.store.specs.Kept.{pastPlaces}
+use Rattle.table.specs.Memory.{bodiesLength, fixedBy}
+use Rattle.journal.specs.Limits.{journalLength}
 use Rattle.journal.specs.State.{State, present}
 use Rattle.journal.specs.View.{Memory, tooShort, formed, viewOf}
 use Rattle.session.specs.Calls.{reset}
@@ -20,6 +26,15 @@ pub data Calls : Memory → List Step → List Said → Memory → Type 0 where
   moreAtOnce : {m n e : Memory} {limit : ℕ} {s : List ℕ} {r : Report} {xs : List Step} {ys : List Said} → UpdateOutcome limit s m r n → Calls n xs ys e
       → Calls m (update limit s ∷ xs) (reports r ∷ ys) e
 
+-- over a list of calls: the bytes past the needed lengths, the lengths of the store's parts and what lies past their whole places are
+-- as they were
+pub record PastCalls (m m' : Memory) : Type 0 where
+  pub index : drop indexLength (m' .index) ≡ drop indexLength (m .index)
+  pub bodies : drop bodiesLength (m' .bodies) ≡ drop bodiesLength (m .bodies)
+  pub lengths : map length (m' .store) ≡ map length (m .store)
+  pub store : pastPlaces (m' .store) ≡ pastPlaces (m .store)
+  pub journal : drop journalLength (m' .journal) ≡ drop journalLength (m .journal)
+
 -- memory describes the book's table and its orders after the mark
 pub record DescribesBook (e : Memory) (b : Book) : Type 0 where
   pub state : State
@@ -27,15 +42,15 @@ pub record DescribesBook (e : Memory) (b : Book) : Type 0 where
   pub table : present state ≡ tableOf b
   pub since : state .log ≡ b .new
 
--- what is said is the book's, and the memory at the end describes the book after the list with each update replaced by its
+-- what is said is that of a book with so many places, and the memory at the end describes the book after the list with each update replaced by its
 -- deliveries
-pub record AsBook (xs : List Step) (ys : List Said) (e : Memory) : Type 0 where
-  pub answers : ys ≡ bookSaid xs newBook
-  pub holds : DescribesBook e (bookAfter (replaced xs newBook) newBook)
+pub record AsBook (places : ℕ) (xs : List Step) (ys : List Said) (e : Memory) : Type 0 where
+  pub answers : ys ≡ bookSaid xs (newBook places)
+  pub holds : DescribesBook e (bookAfter (replaced xs (newBook places)) (newBook places))
 
--- memory of the measure is emptied, and then any list of calls follows, refused ones among them
+-- memory of the measure is emptied, which fixes the number of places, and then any list of calls follows, refused ones among them
 unfoldable pub Demand3 : Type 0
 Demand3 =
-    (m n e : Memory) (r : Response) (xs : List Step) (ys : List Said) → tooShort m ≡ false → CallOutcome (plain reset) m r n
+    (m n e : Memory) (r : Response) (xs : List Step) (ys : List Said) → tooShort m ≡ false → CallOutcome (plain (reset (placesIn (m .store)))) m r n
     → Calls n xs ys e
-    → AsBook xs ys e
+    → AsBook (fixedBy (placesIn (m .store))) xs ys e

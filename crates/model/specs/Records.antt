@@ -23,11 +23,11 @@ pub record AtMark (n : Memory) : Type 0 where
 -- so it is after each granted reset and checkpoint
 unfoldable pub MarksHere : Type 0
 MarksHere =
-    (m n : Memory) (r : Response) → r .reply .number ≡ 0 → (CallOutcome (plain reset) m r n → AtMark n) × (CallOutcome (plain checkpoint) m r n → AtMark n)
+    (k : ℕ) (m n : Memory) (r : Response) → r .reply .number ≡ 0 → (CallOutcome (plain (reset k)) m r n → AtMark n) × (CallOutcome (plain checkpoint) m r n → AtMark n)
 
 -- a call that leaves the mark where it is
 abbrev pub keepsMark : Call → Bool
-keepsMark reset = false
+keepsMark (reset n) = false
 keepsMark (deliver o) = true
 keepsMark checkpoint = false
 keepsMark (undo k) = true

@@ -3,9 +3,10 @@
 use Prim.Native.Nat.{ℕ, _≤_}
 use mathlib.Core.Path.{_≡_}
 use mathlib.Core.Bool.{true, false}
-use mathlib.Core.List.{[]}
+use mathlib.Core.List.{List, []}
 use lib.ListN.{length, replicate}
 use Rattle.table.specs.Table.{emptied}
+use Rattle.table.specs.Memory.{fixedBy}
 use Rattle.journal.specs.Limits.{mostOrders, mostBytes}
 use Rattle.journal.specs.State.{State, bytesIn, allAccepted}
 use Rattle.journal.specs.View.{Memory, memory, tooShort, wellFormed, formed, viewOf}
@@ -17,24 +18,21 @@ pub record Meets (m : Memory) : Type 0 where
   pub rule : wellFormed m ≡ true
 
 -- an emptied state counts as marked
-abbrev pub emptiedState : State
-emptiedState = record { marked = emptied; log = [] }
+abbrev pub emptiedState : ℕ → State
+emptiedState n = record { marked = emptied (fixedBy n); log = [] }
 
 -- emptying is granted where no part is too short
 unfoldable pub EmptyingGranted : Type 0
 EmptyingGranted =
-    (m n : Memory) (r : Response) → tooShort m ≡ false → CallOutcome (plain reset) m r n → r ≡ replied (record { number = 0; count = 0; bytes = 0 })
+    (k : ℕ) (m n : Memory) (r : Response) → tooShort m ≡ false → CallOutcome (plain (reset k)) m r n → r ≡ replied (record { number = 0; count = 0; bytes = 0 })
 
 -- and where it is granted, what it leaves meets the rule
 unfoldable pub EmptiedMeets : Type 0
-EmptiedMeets = (m n : Memory) (r : Response) → CallOutcome (plain reset) m r n → r .reply .number ≡ 0 → Meets n × (viewOf n ≡ formed emptiedState)
+EmptiedMeets = (k : ℕ) (m n : Memory) (r : Response) → CallOutcome (plain (reset k)) m r n → r .reply .number ≡ 0 → Meets n × (viewOf n ≡ formed (emptiedState k))
 
--- memory of zeros, long enough, counts as emptied
-abbrev pub zeroMemory : ℕ → ℕ → ℕ → ℕ → Memory
-zeroMemory a b c d = memory (replicate a 0) (replicate b 0) (replicate c 0) (replicate d 0)
-
-unfoldable pub ZerosEmptied : Type 0
-ZerosEmptied = (a b c d : ℕ) → tooShort (zeroMemory a b c d) ≡ false → viewOf (zeroMemory a b c d) ≡ formed emptiedState
+-- memory of zeros has no place fixed, so it is not an emptied state: every call but emptying answers 1
+unfoldable pub ZerosUnformed : Type 0
+ZerosUnformed = (a : ℕ) (b : List ℕ) (p : List (List ℕ)) (j : List ℕ) → wellFormed (memory (replicate a 0) b p j) ≡ false
 
 -- each call, refused or not
 unfoldable pub CallsKeep : Type 0

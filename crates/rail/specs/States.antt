@@ -1,23 +1,27 @@
 -- The state calls and lookups at the C boundary: each reply as one number. Assumes nothing.
-use Prim.Native.Nat.{ℕ}
+use Prim.Native.Nat.{ℕ, _+_}
 use mathlib.Core.Path.{_≡_}
 use mathlib.Core.List.{List, [], _∷_}
 use lib.ListN.{getD}
 use Rattle.layout.specs.Layouts.{windowSize, notificationSize, desktopSize, pictureSize}
 use Rattle.chunk.specs.Memory.{memorySize}
 use Rattle.ids.specs.Ids.{listSize}
-use Rattle.journal.specs.Limits.{indexLength, bodiesLength, cellsLength, journalLength}
+use Rattle.index.specs.Families.{indexLength}
+use Rattle.store.specs.Store.{placeLength}
+use Rattle.table.specs.Memory.{bodiesLength}
+use Rattle.journal.specs.Limits.{journalLength}
 use Rattle.journal.specs.View.{Memory, viewOf, Past}
 use Rattle.record.specs.Layout.{mostRecord}
 use Rattle.session.specs.Calls.{answerView, nextView}
 use Rattle.session.specs.Outcome.{Request, Response, responseOf}
 use Rattle.session.specs.Packed.{packedOf}
 
--- the bytes of the four parts, of the three records, of a picture, of the chunk memory, of the longest session record, and of a list
+-- the bytes of index, bodies, a place of the store and journal, of the three records with the pictures that are handed out with them,
+-- of a picture, of the chunk memory, of the longest session record, and of a list
 abbrev pub sizes : List ℕ
 sizes =
-    indexLength ∷ bodiesLength ∷ cellsLength ∷ journalLength ∷ windowSize ∷ notificationSize ∷ desktopSize ∷ pictureSize ∷ memorySize
-    ∷ mostRecord ∷ listSize ∷ []
+    indexLength ∷ bodiesLength ∷ placeLength ∷ journalLength ∷ (windowSize + (pictureSize + pictureSize))
+    ∷ (notificationSize + pictureSize) ∷ desktopSize ∷ pictureSize ∷ memorySize ∷ mostRecord ∷ listSize ∷ []
 
 unfoldable pub sizeOf : ℕ → ℕ
 sizeOf what = getD sizes what 0

@@ -10,5 +10,5 @@ use Rattle.update.specs.Packed.{packedReport}
 pub record UpdateExport (limit : ℕ) (s : List ℕ) (m : Memory) (r : ℕ) (m' : Memory) : Type 0 where
   pub says : r ≡ packedReport (reportOn limit s (viewOf m))
   pub holds : viewOf m' ≡ nextOn limit s (viewOf m)
-  pub bytes : m' ≡ memory (m .dir) (m .bodies) (m .cells) (withOrders (m .journal) (grantedOn limit s (viewOf m)))
+  pub bytes : m' ≡ memory (m .index) (m .bodies) (m .store) (withOrders (m .journal) (grantedOn limit s (viewOf m)))
   pub past : Past m m'

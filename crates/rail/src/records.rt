@@ -1,4 +1,5 @@
 // The session record for C: written from the state memory, checked, and its bodies found.
+ghost use Rattle.store.specs.Store.{five};
 ghost use Rattle.journal.specs.View.{memory};
 ghost use Rattle.session.specs.Outcome.{recordTo};
 ghost use Rattle.rail.specs.States.{Exported};
@@ -9,15 +10,20 @@ use session::packed::packed;
 // Writes the record of the orders since the checkpoint to out.
 #[no_mangle]
 pub extern "C" fn rail_record_write(
-    dir: &[u8],
+    index: &[u8],
     bodies: &[u8],
-    cells: &[u8],
+    a: &[u8],
+    b: &[u8],
+    c: &[u8],
+    d: &[u8],
+    e: &[u8],
     journal: &[u8],
     out: &mut [u8],
 ) -> u32
-    ensures { λ r. ⌜ Exported (recordTo (now (out .entry))) (memory (now (dir .entry)) (now (bodies .entry)) (now (cells .entry)) (now (journal .entry))) r (now (out .exit)) (memory (now (dir .entry)) (now (bodies .entry)) (now (cells .entry)) (now (journal .entry))) ⌝ }
+    ensures { λ r. ⌜ Exported (recordTo (now (out .entry))) (memory (now (index .entry)) (now (bodies .entry)) (five (now (a .entry)) (now (b .entry)) (now (c .entry)) (now (d .entry)) (now (e .entry))) (now (journal .entry))) r (now (out .exit)) (memory (now (index .entry)) (now (bodies .entry)) (five (now (a .entry)) (now (b .entry)) (now (c .entry)) (now (d .entry)) (now (e .entry))) (now (journal .entry))) ⌝ }
 {
-    let r = session::records::write(dir, bodies, cells, journal, out);
+    let lent = store::places(a, b, c, d, e);
+    let r = session::records::write(index, bodies, lent, journal, out);
     packed(r)
 }
 

@@ -1,30 +1,34 @@
-// The state calls and lookups for C: each reply as one number.
+// The state calls and lookups for C: each reply as one number. The store of pictures is lent in the five parts a to e.
 ghost use mathlib.Core.List.{[]};
 ghost use mathlib.Core.Path.{_≡_};
+ghost use Rattle.store.specs.Store.{placesIn, five};
 ghost use Rattle.journal.specs.View.{memory};
 ghost use Rattle.session.specs.Calls.{reset, deliver, checkpoint, undo};
 ghost use Rattle.session.specs.Outcome.{plain, lookup};
-ghost use Rattle.session.specs.declared.LookupTarget.the-variants.{Window, Notification, Cell, Desktop, Windows, Notifications};
+ghost use Rattle.session.specs.Holders.{holderFrom};
+ghost use Rattle.session.specs.declared.LookupTarget.the-variants.{Window, Notification, Cell, Desktop, Windows, Notifications, Shares};
 ghost use Rattle.rail.specs.States.{sizeOf, Exported};
 use protocol::NotifyIconId;
 use protocol::WindowId;
 use session::LookupTarget;
 use session::calls;
+use session::holders::holder_of;
 use session::lookups::look;
 use session::packed::packed;
 
-// The bytes of a part of the state memory, of a record, of the chunk memory, of the longest session record, or of a list.
+// The bytes of a part of the state memory (of the store, those of a place), of a lookup with its pictures, of a picture, of the
+// chunk memory, of the longest session record, or of a list.
 #[no_mangle]
 pub extern "C" fn rail_size(what: u32) -> u32
     ensures { λ r. ⌜ r ≡ sizeOf what ⌝ }
 {
     match what {
-        0 => session::DIRECTORY as u32,
+        0 => session::INDEX as u32,
         1 => session::BODIES as u32,
-        2 => session::CELLS as u32,
+        2 => store::PLACE as u32,
         3 => session::JOURNAL as u32,
-        4 => layout::WINDOW as u32,
-        5 => layout::NOTIFICATION as u32,
+        4 => (layout::WINDOW + 2 * layout::PICTURE) as u32,
+        5 => (layout::NOTIFICATION + layout::PICTURE) as u32,
         6 => layout::DESKTOP as u32,
         7 => layout::PICTURE as u32,
         8 => chunk::MEMORY as u32,
@@ -36,153 +40,221 @@ pub extern "C" fn rail_size(what: u32) -> u32
 
 #[no_mangle]
 pub extern "C" fn rail_reset(
-    dir: &mut [u8],
+    index: &mut [u8],
     bodies: &mut [u8],
-    cells: &[u8],
+    a: &[u8],
+    b: &[u8],
+    c: &[u8],
+    d: &[u8],
+    e: &[u8],
     journal: &mut [u8],
 ) -> u32
-    ensures { λ r. ⌜ Exported (plain reset) (memory (now (dir .entry)) (now (bodies .entry)) (now (cells .entry)) (now (journal .entry))) r [] (memory (now (dir .exit)) (now (bodies .exit)) (now (cells .entry)) (now (journal .exit))) ⌝ }
+    ensures { λ r. ⌜ Exported (plain (reset (placesIn (five (now (a .entry)) (now (b .entry)) (now (c .entry)) (now (d .entry)) (now (e .entry)))))) (memory (now (index .entry)) (now (bodies .entry)) (five (now (a .entry)) (now (b .entry)) (now (c .entry)) (now (d .entry)) (now (e .entry))) (now (journal .entry))) r [] (memory (now (index .exit)) (now (bodies .exit)) (five (now (a .entry)) (now (b .entry)) (now (c .entry)) (now (d .entry)) (now (e .entry))) (now (journal .exit))) ⌝ }
 {
-    let r = calls::reset(dir, bodies, cells, journal);
+    let lent = store::places(a, b, c, d, e);
+    let r = calls::reset(index, bodies, lent, journal);
     packed(r)
 }
 
 #[no_mangle]
 pub extern "C" fn rail_deliver(
-    dir: &[u8],
+    index: &[u8],
     bodies: &[u8],
-    cells: &[u8],
+    a: &[u8],
+    b: &[u8],
+    c: &[u8],
+    d: &[u8],
+    e: &[u8],
     journal: &mut [u8],
     order: &[u8],
 ) -> u32
-    ensures { λ r. ⌜ Exported (plain (deliver (now (order .entry)))) (memory (now (dir .entry)) (now (bodies .entry)) (now (cells .entry)) (now (journal .entry))) r [] (memory (now (dir .entry)) (now (bodies .entry)) (now (cells .entry)) (now (journal .exit))) ⌝ }
+    ensures { λ r. ⌜ Exported (plain (deliver (now (order .entry)))) (memory (now (index .entry)) (now (bodies .entry)) (five (now (a .entry)) (now (b .entry)) (now (c .entry)) (now (d .entry)) (now (e .entry))) (now (journal .entry))) r [] (memory (now (index .entry)) (now (bodies .entry)) (five (now (a .entry)) (now (b .entry)) (now (c .entry)) (now (d .entry)) (now (e .entry))) (now (journal .exit))) ⌝ }
 {
-    let r = calls::deliver(dir, bodies, cells, journal, order);
+    let lent = store::places(a, b, c, d, e);
+    let r = calls::deliver(index, bodies, lent, journal, order);
     packed(r)
 }
 
 #[no_mangle]
 pub extern "C" fn rail_checkpoint(
-    dir: &mut [u8],
+    index: &mut [u8],
     bodies: &mut [u8],
-    cells: &mut [u8],
+    a: &mut [u8],
+    b: &mut [u8],
+    c: &mut [u8],
+    d: &mut [u8],
+    e: &mut [u8],
     journal: &mut [u8],
 ) -> u32
-    ensures { λ r. ⌜ Exported (plain checkpoint) (memory (now (dir .entry)) (now (bodies .entry)) (now (cells .entry)) (now (journal .entry))) r [] (memory (now (dir .exit)) (now (bodies .exit)) (now (cells .exit)) (now (journal .exit))) ⌝ }
+    ensures { λ r. ⌜ Exported (plain checkpoint) (memory (now (index .entry)) (now (bodies .entry)) (five (now (a .entry)) (now (b .entry)) (now (c .entry)) (now (d .entry)) (now (e .entry))) (now (journal .entry))) r [] (memory (now (index .exit)) (now (bodies .exit)) (five (now (a .exit)) (now (b .exit)) (now (c .exit)) (now (d .exit)) (now (e .exit))) (now (journal .exit))) ⌝ }
 {
-    let r = calls::checkpoint(dir, bodies, cells, journal);
+    let r = calls::checkpoint(index, bodies, a, b, c, d, e, journal);
     packed(r)
 }
 
 #[no_mangle]
 pub extern "C" fn rail_undo(
-    dir: &[u8],
+    index: &[u8],
     bodies: &[u8],
-    cells: &[u8],
+    a: &[u8],
+    b: &[u8],
+    c: &[u8],
+    d: &[u8],
+    e: &[u8],
     journal: &mut [u8],
     k: u64,
 ) -> u32
-    ensures { λ r. ⌜ Exported (plain (undo k)) (memory (now (dir .entry)) (now (bodies .entry)) (now (cells .entry)) (now (journal .entry))) r [] (memory (now (dir .entry)) (now (bodies .entry)) (now (cells .entry)) (now (journal .exit))) ⌝ }
+    ensures { λ r. ⌜ Exported (plain (undo k)) (memory (now (index .entry)) (now (bodies .entry)) (five (now (a .entry)) (now (b .entry)) (now (c .entry)) (now (d .entry)) (now (e .entry))) (now (journal .entry))) r [] (memory (now (index .entry)) (now (bodies .entry)) (five (now (a .entry)) (now (b .entry)) (now (c .entry)) (now (d .entry)) (now (e .entry))) (now (journal .exit))) ⌝ }
 {
-    let r = calls::undo(dir, bodies, cells, journal, k);
+    let lent = store::places(a, b, c, d, e);
+    let r = calls::undo(index, bodies, lent, journal, k);
     packed(r)
 }
 
 #[no_mangle]
 pub extern "C" fn rail_window(
-    dir: &[u8],
+    index: &[u8],
     bodies: &[u8],
-    cells: &[u8],
+    a: &[u8],
+    b: &[u8],
+    c: &[u8],
+    d: &[u8],
+    e: &[u8],
     journal: &[u8],
     id: u32,
     out: &mut [u8],
 ) -> u32
-    ensures { λ r. ⌜ Exported (lookup (Window (record { id = id })) (now (out .entry))) (memory (now (dir .entry)) (now (bodies .entry)) (now (cells .entry)) (now (journal .entry))) r (now (out .exit)) (memory (now (dir .entry)) (now (bodies .entry)) (now (cells .entry)) (now (journal .entry))) ⌝ }
+    ensures { λ r. ⌜ Exported (lookup (Window (record { id = id })) (now (out .entry))) (memory (now (index .entry)) (now (bodies .entry)) (five (now (a .entry)) (now (b .entry)) (now (c .entry)) (now (d .entry)) (now (e .entry))) (now (journal .entry))) r (now (out .exit)) (memory (now (index .entry)) (now (bodies .entry)) (five (now (a .entry)) (now (b .entry)) (now (c .entry)) (now (d .entry)) (now (e .entry))) (now (journal .entry))) ⌝ }
 {
     let target = LookupTarget::Window(WindowId { id });
-    let r = look(dir, bodies, cells, journal, target, out);
+    let r = look(index, bodies, a, b, c, d, e, journal, target, out);
     packed(r)
 }
 
 #[no_mangle]
 pub extern "C" fn rail_notification(
-    dir: &[u8],
+    index: &[u8],
     bodies: &[u8],
-    cells: &[u8],
+    a: &[u8],
+    b: &[u8],
+    c: &[u8],
+    d: &[u8],
+    e: &[u8],
     journal: &[u8],
     id: u32,
     icon: u32,
     out: &mut [u8],
 ) -> u32
-    ensures { λ r. ⌜ Exported (lookup (Notification (record { id = id }) (record { id = icon })) (now (out .entry))) (memory (now (dir .entry)) (now (bodies .entry)) (now (cells .entry)) (now (journal .entry))) r (now (out .exit)) (memory (now (dir .entry)) (now (bodies .entry)) (now (cells .entry)) (now (journal .entry))) ⌝ }
+    ensures { λ r. ⌜ Exported (lookup (Notification (record { id = id }) (record { id = icon })) (now (out .entry))) (memory (now (index .entry)) (now (bodies .entry)) (five (now (a .entry)) (now (b .entry)) (now (c .entry)) (now (d .entry)) (now (e .entry))) (now (journal .entry))) r (now (out .exit)) (memory (now (index .entry)) (now (bodies .entry)) (five (now (a .entry)) (now (b .entry)) (now (c .entry)) (now (d .entry)) (now (e .entry))) (now (journal .entry))) ⌝ }
 {
     let target = LookupTarget::Notification(WindowId { id }, NotifyIconId { id: icon });
-    let r = look(dir, bodies, cells, journal, target, out);
+    let r = look(index, bodies, a, b, c, d, e, journal, target, out);
     packed(r)
 }
 
 #[no_mangle]
 pub extern "C" fn rail_cell(
-    dir: &[u8],
+    index: &[u8],
     bodies: &[u8],
-    cells: &[u8],
+    a: &[u8],
+    b: &[u8],
+    c: &[u8],
+    d: &[u8],
+    e: &[u8],
     journal: &[u8],
     cache: u8,
     entry: u16,
     out: &mut [u8],
 ) -> u32
-    ensures { λ r. ⌜ Exported (lookup (Cell cache entry) (now (out .entry))) (memory (now (dir .entry)) (now (bodies .entry)) (now (cells .entry)) (now (journal .entry))) r (now (out .exit)) (memory (now (dir .entry)) (now (bodies .entry)) (now (cells .entry)) (now (journal .entry))) ⌝ }
+    ensures { λ r. ⌜ Exported (lookup (Cell cache entry) (now (out .entry))) (memory (now (index .entry)) (now (bodies .entry)) (five (now (a .entry)) (now (b .entry)) (now (c .entry)) (now (d .entry)) (now (e .entry))) (now (journal .entry))) r (now (out .exit)) (memory (now (index .entry)) (now (bodies .entry)) (five (now (a .entry)) (now (b .entry)) (now (c .entry)) (now (d .entry)) (now (e .entry))) (now (journal .entry))) ⌝ }
 {
     let target = LookupTarget::Cell(cache, entry);
-    let r = look(dir, bodies, cells, journal, target, out);
+    let r = look(index, bodies, a, b, c, d, e, journal, target, out);
     packed(r)
 }
 
 #[no_mangle]
 pub extern "C" fn rail_desktop(
-    dir: &[u8],
+    index: &[u8],
     bodies: &[u8],
-    cells: &[u8],
+    a: &[u8],
+    b: &[u8],
+    c: &[u8],
+    d: &[u8],
+    e: &[u8],
     journal: &[u8],
     out: &mut [u8],
 ) -> u32
-    ensures { λ r. ⌜ Exported (lookup Desktop (now (out .entry))) (memory (now (dir .entry)) (now (bodies .entry)) (now (cells .entry)) (now (journal .entry))) r (now (out .exit)) (memory (now (dir .entry)) (now (bodies .entry)) (now (cells .entry)) (now (journal .entry))) ⌝ }
+    ensures { λ r. ⌜ Exported (lookup Desktop (now (out .entry))) (memory (now (index .entry)) (now (bodies .entry)) (five (now (a .entry)) (now (b .entry)) (now (c .entry)) (now (d .entry)) (now (e .entry))) (now (journal .entry))) r (now (out .exit)) (memory (now (index .entry)) (now (bodies .entry)) (five (now (a .entry)) (now (b .entry)) (now (c .entry)) (now (d .entry)) (now (e .entry))) (now (journal .entry))) ⌝ }
 {
-    let r = look(dir, bodies, cells, journal, LookupTarget::Desktop, out);
+    let target = LookupTarget::Desktop;
+    let r = look(index, bodies, a, b, c, d, e, journal, target, out);
     packed(r)
 }
 
 #[no_mangle]
 pub extern "C" fn rail_windows(
-    dir: &[u8],
+    index: &[u8],
     bodies: &[u8],
-    cells: &[u8],
+    a: &[u8],
+    b: &[u8],
+    c: &[u8],
+    d: &[u8],
+    e: &[u8],
     journal: &[u8],
     out: &mut [u8],
 ) -> u32
-    ensures { λ r. ⌜ Exported (lookup Windows (now (out .entry))) (memory (now (dir .entry)) (now (bodies .entry)) (now (cells .entry)) (now (journal .entry))) r (now (out .exit)) (memory (now (dir .entry)) (now (bodies .entry)) (now (cells .entry)) (now (journal .entry))) ⌝ }
+    ensures { λ r. ⌜ Exported (lookup Windows (now (out .entry))) (memory (now (index .entry)) (now (bodies .entry)) (five (now (a .entry)) (now (b .entry)) (now (c .entry)) (now (d .entry)) (now (e .entry))) (now (journal .entry))) r (now (out .exit)) (memory (now (index .entry)) (now (bodies .entry)) (five (now (a .entry)) (now (b .entry)) (now (c .entry)) (now (d .entry)) (now (e .entry))) (now (journal .entry))) ⌝ }
 {
-    let r = look(dir, bodies, cells, journal, LookupTarget::Windows, out);
+    let target = LookupTarget::Windows;
+    let r = look(index, bodies, a, b, c, d, e, journal, target, out);
     packed(r)
 }
 
 #[no_mangle]
 pub extern "C" fn rail_notifications(
-    dir: &[u8],
+    index: &[u8],
     bodies: &[u8],
-    cells: &[u8],
+    a: &[u8],
+    b: &[u8],
+    c: &[u8],
+    d: &[u8],
+    e: &[u8],
     journal: &[u8],
     out: &mut [u8],
 ) -> u32
-    ensures { λ r. ⌜ Exported (lookup Notifications (now (out .entry))) (memory (now (dir .entry)) (now (bodies .entry)) (now (cells .entry)) (now (journal .entry))) r (now (out .exit)) (memory (now (dir .entry)) (now (bodies .entry)) (now (cells .entry)) (now (journal .entry))) ⌝ }
+    ensures { λ r. ⌜ Exported (lookup Notifications (now (out .entry))) (memory (now (index .entry)) (now (bodies .entry)) (five (now (a .entry)) (now (b .entry)) (now (c .entry)) (now (d .entry)) (now (e .entry))) (now (journal .entry))) r (now (out .exit)) (memory (now (index .entry)) (now (bodies .entry)) (five (now (a .entry)) (now (b .entry)) (now (c .entry)) (now (d .entry)) (now (e .entry))) (now (journal .entry))) ⌝ }
 {
-    let r = look(
-        dir,
-        bodies,
-        cells,
-        journal,
-        LookupTarget::Notifications,
-        out,
-    );
+    let target = LookupTarget::Notifications;
+    let r = look(index, bodies, a, b, c, d, e, journal, target, out);
+    packed(r)
+}
+
+// Whether two holders share a place, as one byte. Each by three numbers: 1 a window's small icon, 2 its big one, 3 a notification icon,
+// by its ids; any other a cell, by cache id and entry.
+#[no_mangle]
+pub extern "C" fn rail_shared(
+    index: &[u8],
+    bodies: &[u8],
+    a: &[u8],
+    b: &[u8],
+    c: &[u8],
+    d: &[u8],
+    e: &[u8],
+    journal: &[u8],
+    kind1: u8,
+    first1: u32,
+    second1: u32,
+    kind2: u8,
+    first2: u32,
+    second2: u32,
+    out: &mut [u8],
+) -> u32
+    ensures { λ r. ⌜ Exported (lookup (Shares (holderFrom kind1 first1 second1) (holderFrom kind2 first2 second2)) (now (out .entry))) (memory (now (index .entry)) (now (bodies .entry)) (five (now (a .entry)) (now (b .entry)) (now (c .entry)) (now (d .entry)) (now (e .entry))) (now (journal .entry))) r (now (out .exit)) (memory (now (index .entry)) (now (bodies .entry)) (five (now (a .entry)) (now (b .entry)) (now (c .entry)) (now (d .entry)) (now (e .entry))) (now (journal .entry))) ⌝ }
+{
+    let g = holder_of(kind1, first1, second1);
+    let k = holder_of(kind2, first2, second2);
+    let target = LookupTarget::Shares(g, k);
+    let r = look(index, bodies, a, b, c, d, e, journal, target, out);
     packed(r)
 }

@@ -28,9 +28,9 @@ fn line(out: &mut [u8], r: Report) -> usize {
 
 // Makes the call and lays its line, whose length it answers.
 pub(crate) fn call(
-    dir: &[u8],
+    index: &[u8],
     bodies: &[u8],
-    cells: &[u8],
+    lent: usize,
     journal: &mut [u8],
     s: &[u8],
     out: &mut [u8],
@@ -40,6 +40,6 @@ pub(crate) fn call(
         return 0;
     }
     let limit = wire::read_u32(s, 0);
-    let r = update::update(dir, bodies, cells, journal, limit, &s[LIMIT..end]);
+    let r = update::update(index, bodies, lent, journal, limit, &s[LIMIT..end]);
     line(out, r)
 }

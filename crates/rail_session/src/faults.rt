@@ -1,51 +1,31 @@
-// Items that are no calls: the next call is lent a part that is too short, or a byte of the state memory changes.
-ghost use Prim.Native.Nat.{_≤_};
+// Items that are no calls: the next call is lent a part that is too short, or a byte of a part changes.
+use crate::lending;
+use crate::lending::Lending;
 
-// How many bytes of a part the next call is not lent.
-pub(crate) struct Lack {
-    pub part: u8,
-    pub bytes: usize,
-}
-
-pub(crate) fn none() -> Lack {
-    Lack { part: 0, bytes: 0 }
-}
-
-// The bytes of a part that are lent.
-pub(crate) fn lent(part: u8, len: usize, lack: Lack) -> usize
-    ensures { λ r. ⌜ r ≤ len ⌝ }
-{
-    if lack.part != part {
-        return len;
-    }
-    if len < lack.bytes {
-        return 0;
-    }
-    len - lack.bytes
-}
-
-// The length of a part; 0 where there is none.
-fn part_len(part: u8) -> usize {
+// The most bytes of a part that an item can keep back; 0 where there is no such part.
+fn most_missing(part: u8) -> usize {
     match part {
-        0 => session::DIRECTORY,
+        0 => session::INDEX,
         1 => session::BODIES,
-        2 => session::CELLS,
-        3 => session::JOURNAL,
+        2 => session::JOURNAL,
+        3..=7 => lending::PART,
         _ => 0,
     }
 }
 
 // T: the part that the next call lacks bytes of. No bytes where the item is bad.
-pub(crate) fn shortened(s: &[u8]) -> Lack {
-    if s.len() != 3 {
-        return none();
-    }
+pub(crate) fn shortened(s: &[u8], l: Lending) -> Lending {
     let part = wire::read_u8(s, 0);
-    let bytes = wire::read_u16(s, 1) as usize;
-    if bytes > part_len(part) {
-        return none();
+    let missing = wire::read_u16(s, 1) as usize;
+    if most_missing(part) < missing {
+        return lending::whole(l);
     }
-    Lack { part, bytes }
+    let lengths = l.lengths;
+    Lending {
+        lengths,
+        part,
+        missing,
+    }
 }
 
 // Changes a byte by exclusive or. False where there is none.
@@ -55,4 +35,21 @@ pub(crate) fn change(part: &mut [u8], at: usize, value: u8) -> bool {
     }
     part[at] = part[at] ^ value;
     true
+}
+
+// Changes a byte of a part of the store, lent or not.
+pub(crate) fn change_store(
+    store: &mut [u8; lending::STORE],
+    part: u8,
+    at: usize,
+    value: u8,
+) -> bool {
+    if part < lending::FIRST_OF_STORE {
+        return false;
+    }
+    if lending::PART <= at {
+        return false;
+    }
+    let i = (part - lending::FIRST_OF_STORE) as usize;
+    change(store, lending::PART * i + at, value)
 }

@@ -44,14 +44,14 @@ fn write_line(out: &mut [u8], r: Reply, record: &[u8]) -> bool {
 
 // A write to memory with EE in each byte. Past the bytes written it has to be as it was.
 fn write_to(
-    dir: &[u8],
+    index: &[u8],
     bodies: &[u8],
-    cells: &[u8],
+    lent: usize,
     journal: &[u8],
     memory: &mut [u8],
     out: &mut [u8],
 ) -> bool {
-    let r = session::records::write(dir, bodies, cells, journal, memory);
+    let r = session::records::write(index, bodies, lent, journal, memory);
     let n = written(r);
     if n > memory.len() {
         return memory_changed();
@@ -64,16 +64,16 @@ fn write_to(
 
 // O: a write to memory of the size that the payload names.
 pub(crate) fn write_call(
-    dir: &[u8],
+    index: &[u8],
     bodies: &[u8],
-    cells: &[u8],
+    lent: usize,
     journal: &[u8],
     s: &[u8],
     out: &mut [u8],
 ) -> bool {
     let size = wire::read_u16(s, 0) as usize;
     let mut memory = [0xEEu8; LENT];
-    write_to(dir, bodies, cells, journal, &mut memory[0..size], out)
+    write_to(index, bodies, lent, journal, &mut memory[0..size], out)
 }
 
 // The comma between bodies.

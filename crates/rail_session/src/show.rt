@@ -1,4 +1,5 @@
 // Records as text: a name=value for each field.
+use crate::pictures;
 use print::byte;
 use print::field;
 use print::string;
@@ -10,13 +11,21 @@ use session::Reply;
 use view::DesktopRecord;
 use view::NotificationRecord;
 use view::Pair;
-use view::PictureRecord;
 use view::Point;
-use view::Pointer;
 use view::Rectangles;
 use view::Stack;
 use view::Text;
 use view::WindowRecord;
+
+// A record is handed out with the pictures of its icons after it: two for a window.
+const SMALL: usize = layout::WINDOW;
+
+const BIG: usize = SMALL + layout::PICTURE;
+
+const ICON: usize = layout::NOTIFICATION;
+
+// The most bytes that a lookup hands out.
+pub(crate) const FOUND: usize = BIG + layout::PICTURE;
 
 fn point(out: &mut [u8], at: usize, name: &[u8], p: Point) -> usize {
     let n = text(out, at, name);
@@ -32,14 +41,6 @@ fn pair(out: &mut [u8], at: usize, name: &[u8], p: Pair) -> usize {
 fn words(out: &mut [u8], at: usize, name: &[u8], t: Text) -> usize {
     let bytes = t.bytes;
     string(out, at, name, &bytes, 0, t.count as usize)
-}
-
-fn pointer(out: &mut [u8], at: usize, name: &[u8], p: Pointer) -> usize {
-    if p.some {
-        return print::pair(out, at, name, p.cache as u64, b'/', p.entry as u64);
-    }
-    let n = text(out, at, name);
-    text(out, n, b"none")
 }
 
 // The first k numbers of a list of rectangles.
@@ -85,12 +86,6 @@ fn window_area(out: &mut [u8], at: usize, w: WindowRecord) -> usize {
     point(out, n, b" visible=", w.visible_offset)
 }
 
-fn window_seen(out: &mut [u8], at: usize, w: WindowRecord) -> usize {
-    let n = rectangles(out, at, b" vis_rects=", w.visibility_rects);
-    let n = pointer(out, n, b" small=", w.small);
-    pointer(out, n, b" big=", w.big)
-}
-
 fn window_looks(out: &mut [u8], at: usize, w: WindowRecord) -> usize {
     let n = window_style(out, at, w);
     let n = window_title(out, n, w);
@@ -100,13 +95,21 @@ fn window_looks(out: &mut [u8], at: usize, w: WindowRecord) -> usize {
 fn window_places(out: &mut [u8], at: usize, w: WindowRecord) -> usize {
     let n = window_place(out, at, w);
     let n = window_area(out, n, w);
-    window_seen(out, n, w)
+    rectangles(out, n, b" vis_rects=", w.visibility_rects)
 }
 
-fn window_record(out: &mut [u8], at: usize, id: WindowId, w: WindowRecord) -> usize {
+fn window_icons(out: &mut [u8], at: usize, w: WindowRecord, bytes: &[u8; FOUND]) -> usize {
+    let all = &bytes[..];
+    let n = pictures::icon(out, at, b" small=", w.small, &all[SMALL..]);
+    pictures::icon(out, n, b" big=", w.big, &all[BIG..])
+}
+
+fn window_record(out: &mut [u8], at: usize, id: WindowId, bytes: &[u8; FOUND]) -> usize {
+    let w = view::window(bytes);
     let n = field(out, at, b" id=", id.id as u64);
     let n = window_looks(out, n, w);
-    window_places(out, n, w)
+    let n = window_places(out, n, w);
+    window_icons(out, n, w, bytes)
 }
 
 fn notification_tip(out: &mut [u8], at: usize, r: NotificationRecord) -> usize {
@@ -119,8 +122,7 @@ fn notification_tip(out: &mut [u8], at: usize, r: NotificationRecord) -> usize {
 fn notification_text(out: &mut [u8], at: usize, r: NotificationRecord) -> usize {
     let n = words(out, at, b" text=", r.text);
     let n = words(out, n, b" title=", r.title);
-    let n = field(out, n, b" state=", r.state as u64);
-    pointer(out, n, b" picture=", r.icon)
+    field(out, n, b" state=", r.state as u64)
 }
 
 fn notification_record(
@@ -128,33 +130,15 @@ fn notification_record(
     at: usize,
     window: WindowId,
     icon: NotifyIconId,
-    r: NotificationRecord,
+    bytes: &[u8; FOUND],
 ) -> usize {
+    let r = view::notification(bytes);
     let n = field(out, at, b" window=", window.id as u64);
     let n = field(out, n, b" icon=", icon.id as u64);
     let n = notification_tip(out, n, r);
-    notification_text(out, n, r)
-}
-
-// The three parts of a picture, one after the other.
-fn picture_parts(out: &mut [u8], at: usize, s: &[u8], mask: u16, table: u16, color: u16) -> usize {
-    let a = mask as usize;
-    let b = table as usize;
-    let n = string(out, at, b" mask=", s, 0, a);
-    let n = string(out, n, b" table=", s, a, b);
-    string(out, n, b" color=", s, a + b, color as usize)
-}
-
-fn picture_numbers(out: &mut [u8], at: usize, bits: u8, width: u16, height: u16) -> usize {
-    let n = field(out, at, b" bpp=", bits as u64);
-    let n = field(out, n, b" width=", width as u64);
-    field(out, n, b" height=", height as u64)
-}
-
-fn picture_record(out: &mut [u8], at: usize, p: PictureRecord) -> usize {
-    let n = picture_numbers(out, at, p.bits, p.width, p.height);
-    let bytes = p.bytes;
-    picture_parts(out, n, &bytes, p.mask, p.table, p.color)
+    let n = notification_text(out, n, r);
+    let all = &bytes[..];
+    pictures::icon(out, n, b" picture=", r.icon, &all[ICON..])
 }
 
 fn yes_number(b: bool) -> u64 {
@@ -203,15 +187,14 @@ pub(crate) fn reply(out: &mut [u8], kind: u8, r: Reply) -> usize {
 }
 
 // The record in the bytes that were handed out.
-fn record(out: &mut [u8], at: usize, target: LookupTarget, bytes: &[u8]) -> usize {
+fn record(out: &mut [u8], at: usize, target: LookupTarget, bytes: &[u8; FOUND]) -> usize {
     match target {
-        LookupTarget::Window(w) => window_record(out, at, w, view::window(bytes)),
-        LookupTarget::Notification(w, n) => {
-            notification_record(out, at, w, n, view::notification(bytes))
-        }
-        LookupTarget::Cell(_, _) => picture_record(out, at, view::picture(bytes)),
+        LookupTarget::Window(w) => window_record(out, at, w, bytes),
+        LookupTarget::Notification(w, n) => notification_record(out, at, w, n, bytes),
+        LookupTarget::Cell(_, _) => pictures::cell(out, at, bytes),
         LookupTarget::Desktop => desktop_record(out, at, view::desktop(bytes)),
         LookupTarget::Windows | LookupTarget::Notifications => at,
+        LookupTarget::Shares(_, _) => field(out, at, b" shared=", wire::read_u8(bytes, 0) as u64),
     }
 }
 
@@ -221,7 +204,7 @@ pub(crate) fn found(
     kind: u8,
     r: Reply,
     target: LookupTarget,
-    bytes: &[u8],
+    bytes: &[u8; FOUND],
 ) -> usize {
     let n = reply(out, kind, r);
     if r.number != 0 {

@@ -19,9 +19,11 @@ use Rattle.ids.specs.Ids.{listSize}
 use Rattle.journal.specs.View.{Memory}
 use Rattle.record.specs.Layout.{mostRecord}
 use Rattle.session.specs.declared.Reply.{Reply}
+use Rattle.session.specs.declared.PictureHolder.{PictureHolder}
 use Rattle.session.specs.declared.LookupTarget.{LookupTarget}
-use Rattle.session.specs.declared.LookupTarget.the-variants.{Window, Notification, Cell, Desktop, Windows, Notifications}
+use Rattle.session.specs.declared.LookupTarget.the-variants.{Window, Notification, Cell, Desktop, Windows, Notifications, Shares}
 use Rattle.session.specs.Calls.{Call, reset, deliver, checkpoint, undo, look, writeRecord}
+use Rattle.session.specs.Holders.{holderFrom}
 use Rattle.session.specs.Outcome.{Response, replied, handed, neededFor, CallOutcome}
 use Rattle.session.specs.Packed.{packedOf}
 use Rattle.update.specs.declared.Report.{Report}
@@ -29,7 +31,7 @@ use Rattle.update.specs.Outcome.{UpdateOutcome}
 use Rattle.update.specs.Packed.{standingHalf, grantedHalf}
 use Rattle.model.specs.Updates.{Step, update, responds, reports}
 use Rattle.model.specs.Claim.{none, more, moreAtOnce}
-use Rattle.run.specs.Script.{targetOf, changeOf, recordKind, callOf, requestOf, oneCall, limitSize, stepOf, blockLength}
+use Rattle.run.specs.Script.{holderAt, holderSize, targetOf, changeOf, recordKind, callOf, requestOf, oneCall, limitSize, stepOf, blockLength}
 use Rattle.run.specs.Steps.{Takes, TakesOne, Done}
 
 -- ---- numbers of 8 bytes
@@ -40,23 +42,13 @@ num8-is s = omega arith
 
 -- ---- calls by their kind
 
+pub is-holder : (arg : List ℕ) (at : ℕ) {kind a b : ℕ} {r : PictureHolder} → kind ≡ numAt 1 arg at → a ≡ numAt 4 arg (at + 1) → b ≡ numAt 4 arg (at + 5)
+    → r ≡ holderFrom kind a b
+    → r ≡ holderAt arg at
+unfolding holderAt
+is-holder arg at k a b e = e ∙ rw (k, a, b)
+
 module _ (kind : ℕ) (arg : List ℕ) where
-  pub is-reset : kind ≡ 0 → changeOf kind arg ≡ reset
-  unfolding changeOf
-  is-reset e = rw e
-
-  pub is-deliver : kind ≡ 1 → changeOf kind arg ≡ deliver arg
-  unfolding changeOf
-  is-deliver e = rw e
-
-  pub is-checkpoint : kind ≡ 2 → changeOf kind arg ≡ checkpoint
-  unfolding changeOf
-  is-checkpoint e = rw e
-
-  pub is-undo : (kind ≡ 0 → ⊥) → (kind ≡ 1 → ⊥) → (kind ≡ 2 → ⊥) → (k : ℕ) → k ≡ numAt 8 arg 0 → changeOf kind arg ≡ undo k
-  unfolding changeOf
-  is-undo a b c k w = rw (ne-eqb kind 0 a, ne-eqb kind 1 b, ne-eqb kind 2 c, w)
-
   pub is-window : kind ≡ 4 → (x : ℕ) → x ≡ numAt 4 arg 0 → Window (record { id = x }) ≡ targetOf kind arg
   unfolding targetOf
   is-window e x w = rw (e, w)
@@ -77,31 +69,52 @@ module _ (kind : ℕ) (arg : List ℕ) where
   unfolding targetOf
   is-notifications e = rw e
 
-  pub is-desktop : (kind ≡ 4 → ⊥) → (kind ≡ 5 → ⊥) → (kind ≡ 6 → ⊥) → (kind ≡ 10 → ⊥) → (kind ≡ 11 → ⊥) → Desktop ≡ targetOf kind arg
+  pub is-shares : kind ≡ 12 → {g k : PictureHolder} → g ≡ holderAt arg 0 → k ≡ holderAt arg holderSize → Shares g k ≡ targetOf kind arg
   unfolding targetOf
-  is-desktop a b c d e = rw (ne-eqb kind 4 a, ne-eqb kind 5 b, ne-eqb kind 6 c, ne-eqb kind 10 d, ne-eqb kind 11 e)
+  is-shares e {g} {k} v w = ap (λ (x : PictureHolder). Shares x k) v ∙ ap (Shares (holderAt arg 0)) w ∙ rw e
 
-  pub is-change : kind < 4 → callOf kind arg ≡ changeOf kind arg
+  pub is-desktop : (kind ≡ 4 → ⊥) → (kind ≡ 5 → ⊥) → (kind ≡ 6 → ⊥) → (kind ≡ 10 → ⊥) → (kind ≡ 11 → ⊥) → (kind ≡ 12 → ⊥) → Desktop ≡ targetOf kind arg
+  unfolding targetOf
+  is-desktop a b c d e f = rw (ne-eqb kind 4 a, ne-eqb kind 5 b, ne-eqb kind 6 c, ne-eqb kind 10 d, ne-eqb kind 11 e, ne-eqb kind 12 f)
+
+module _ (lent kind : ℕ) (arg : List ℕ) where
+  pub is-reset : kind ≡ 0 → changeOf lent kind arg ≡ reset lent
+  unfolding changeOf
+  is-reset e = rw e
+
+  pub is-deliver : kind ≡ 1 → changeOf lent kind arg ≡ deliver arg
+  unfolding changeOf
+  is-deliver e = rw e
+
+  pub is-checkpoint : kind ≡ 2 → changeOf lent kind arg ≡ checkpoint
+  unfolding changeOf
+  is-checkpoint e = rw e
+
+  pub is-undo : (kind ≡ 0 → ⊥) → (kind ≡ 1 → ⊥) → (kind ≡ 2 → ⊥) → (k : ℕ) → k ≡ numAt 8 arg 0 → changeOf lent kind arg ≡ undo k
+  unfolding changeOf
+  is-undo a b c k w = rw (ne-eqb kind 0 a, ne-eqb kind 1 b, ne-eqb kind 2 c, w)
+
+  pub is-change : kind < 4 → callOf lent kind arg ≡ changeOf lent kind arg
   unfolding callOf
   is-change l = rw (lt-ltb kind 4 l)
 
-  pub is-record : kind ≡ recordKind → callOf kind arg ≡ writeRecord
+  pub is-record : kind ≡ recordKind → callOf lent kind arg ≡ writeRecord
   unfolding callOf
   is-record e = rw e
 
-  pub is-look : 4 ≤ kind → (kind ≡ recordKind → ⊥) → callOf kind arg ≡ look (targetOf kind arg)
+  pub is-look : 4 ≤ kind → (kind ≡ recordKind → ⊥) → callOf lent kind arg ≡ look (targetOf kind arg)
   unfolding callOf
   is-look l n = rw (le-ltb kind 4 l, ne-eqb kind recordKind n)
 
-  pub looks : 4 ≤ kind → (kind ≡ recordKind → ⊥) → {target : LookupTarget} → target ≡ targetOf kind arg → callOf kind arg ≡ look target
+  pub looks : 4 ≤ kind → (kind ≡ recordKind → ⊥) → {target : LookupTarget} → target ≡ targetOf kind arg → callOf lent kind arg ≡ look target
   looks l n e = is-look l n ∙ ap look (sym e)
 
   -- a call that changes the state hands nothing out
-  pub hands-nothing : neededFor (changeOf kind arg) ≡ 0
+  pub hands-nothing : neededFor (changeOf lent kind arg) ≡ 0
   unfolding changeOf
   hands-nothing = go (eqb kind 0) (eqb kind 1) (eqb kind 2)
     where
-      go : (a b c : Bool) → neededFor (pick a reset (pick b (deliver arg) (pick c checkpoint (undo (numAt 8 arg 0))))) ≡ 0
+      go : (a b c : Bool) → neededFor (pick a (reset lent) (pick b (deliver arg) (pick c checkpoint (undo (numAt 8 arg 0))))) ≡ 0
       go true b c = refl
       go false true c = refl
       go false false true = refl
@@ -115,12 +128,12 @@ done-as {m = m} {e = e} {out' = out'} p d = subst (λ (x : Step). Done x m e out
 
 -- ---- a whole update apart from the single calls
 
-module _ (kind : ℕ) (arg : List ℕ) where
-  pub is-update : kind ≡ 8 → stepOf kind arg ≡ update (numAt 4 arg 0) (drop limitSize arg)
+module _ (lent kind : ℕ) (arg : List ℕ) where
+  pub is-update : kind ≡ 8 → stepOf lent kind arg ≡ update (numAt 4 arg 0) (drop limitSize arg)
   unfolding stepOf
   is-update e = rw e
 
-  pub is-single : (kind ≡ 8 → ⊥) → stepOf kind arg ≡ oneCall (callOf kind arg)
+  pub is-single : (kind ≡ 8 → ⊥) → stepOf lent kind arg ≡ oneCall (callOf lent kind arg)
   unfolding stepOf
   is-single h = rw (ne-eqb kind 8 h)
 
@@ -131,25 +144,26 @@ oneLength c = 4 + neededFor c
 
 module _ (kind : ℕ) where
   pub length-update : kind ≡ 8 → Takes kind 8
-  length-update e = record { takes = λ arg. ap blockLength (sym (is-update kind arg e)) }
+  length-update e = record { takes = λ lent arg. ap blockLength (sym (is-update lent kind arg e)) }
 
   pub length-single : {n : ℕ} → (kind ≡ 8 → ⊥) → TakesOne kind n → Takes kind n
-  length-single h t = record { takes = λ arg. t .takes arg ∙ ap blockLength (sym (is-single kind arg h)) }
+  length-single h t = record { takes = λ lent arg. t .takes lent arg ∙ ap blockLength (sym (is-single lent kind arg h)) }
 
   pub length-change : kind < 4 → TakesOne kind 4
-  length-change l = record { takes = λ arg. ap (λ (n : ℕ). 4 + n) (sym (hands-nothing kind arg)) ∙ ap oneLength (sym (is-change kind arg l)) }
+  length-change l =
+      record { takes = λ lent arg. ap (λ (n : ℕ). 4 + n) (sym (hands-nothing lent kind arg)) ∙ ap oneLength (sym (is-change lent kind arg l)) }
 
   length-look : {n : ℕ} → 4 ≤ kind → (kind ≡ recordKind → ⊥) → ((arg : List ℕ) → n ≡ oneLength (look (targetOf kind arg))) → TakesOne kind n
-  length-look l r f = record { takes = λ arg. f arg ∙ ap oneLength (sym (is-look kind arg l r)) }
+  length-look l r f = record { takes = λ lent arg. f arg ∙ ap oneLength (sym (is-look lent kind arg l r)) }
 
   pub length-record : kind ≡ recordKind → TakesOne kind (4 + mostRecord)
-  length-record e = record { takes = λ arg. ap oneLength (sym (is-record kind arg e)) }
+  length-record e = record { takes = λ lent arg. ap oneLength (sym (is-record lent kind arg e)) }
 
-  pub length-window : kind ≡ 4 → TakesOne kind (4 + windowSize)
+  pub length-window : kind ≡ 4 → TakesOne kind (4 + windowSize + 2 * pictureSize)
   unfolding targetOf
   length-window e = length-look (omega (arith, e)) (λ x. omega (arith, e, x)) (λ arg. rw e)
 
-  pub length-notification : kind ≡ 5 → TakesOne kind (4 + notificationSize)
+  pub length-notification : kind ≡ 5 → TakesOne kind (4 + notificationSize + pictureSize)
   unfolding targetOf
   length-notification e = length-look (omega (arith, e)) (λ x. omega (arith, e, x)) (λ arg. rw e)
 
@@ -165,11 +179,15 @@ module _ (kind : ℕ) where
   unfolding targetOf
   length-notifications e = length-look (omega (arith, e)) (λ x. omega (arith, e, x)) (λ arg. rw e)
 
-  pub length-desktop : 4 ≤ kind → (kind ≡ 4 → ⊥) → (kind ≡ 5 → ⊥) → (kind ≡ 6 → ⊥) → (kind ≡ recordKind → ⊥) → (kind ≡ 10 → ⊥) → (kind ≡ 11 → ⊥)
+  pub length-shares : kind ≡ 12 → TakesOne kind 5
+  unfolding targetOf
+  length-shares e = length-look (omega (arith, e)) (λ x. omega (arith, e, x)) (λ arg. rw e)
+
+  pub length-desktop : 4 ≤ kind → (kind ≡ 4 → ⊥) → (kind ≡ 5 → ⊥) → (kind ≡ 6 → ⊥) → (kind ≡ recordKind → ⊥) → (kind ≡ 10 → ⊥) → (kind ≡ 11 → ⊥) → (kind ≡ 12 → ⊥)
       → TakesOne kind (4 + desktopSize)
   unfolding targetOf
-  length-desktop l a b c r d e =
-      length-look l r (λ arg. rw (ne-eqb kind 4 a, ne-eqb kind 5 b, ne-eqb kind 6 c, ne-eqb kind 10 d, ne-eqb kind 11 e))
+  length-desktop l a b c r d e f =
+      length-look l r (λ arg. rw (ne-eqb kind 4 a, ne-eqb kind 5 b, ne-eqb kind 6 c, ne-eqb kind 10 d, ne-eqb kind 11 e, ne-eqb kind 12 f))
 
 -- ---- the block of a call that hands nothing out
 

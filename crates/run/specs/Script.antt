@@ -10,33 +10,46 @@ use lib.ListN.{length, drop, replicate}
 use Rattle.wire.specs.Tests.{pick}
 use Rattle.wire.specs.Parts.{slice, splice}
 use Rattle.wire.specs.Numbers.{numAt, bytesOf}
-use Rattle.journal.specs.View.{Memory, Past, tooShort}
+use Rattle.store.specs.Store.{placesIn}
+use Rattle.table.specs.Memory.{fixedBy}
+use Rattle.journal.specs.View.{Memory, tooShort}
+use Rattle.session.specs.declared.PictureHolder.{PictureHolder}
 use Rattle.session.specs.declared.LookupTarget.{LookupTarget}
-use Rattle.session.specs.declared.LookupTarget.the-variants.{Window, Notification, Cell, Desktop, Windows, Notifications}
+use Rattle.session.specs.declared.LookupTarget.the-variants.{Window, Notification, Cell, Desktop, Windows, Notifications, Shares}
 use Rattle.session.specs.Calls.{Call, reset, deliver, checkpoint, undo, look, writeRecord}
+use Rattle.session.specs.Holders.{holderFrom}
 use Rattle.session.specs.Outcome.{Request, neededFor}
 use Rattle.session.specs.Packed.{packedOf}
 use Rattle.update.specs.Packed.{standingHalf, grantedHalf}
 use Rattle.model.specs.Book.{newBook, bookAfter}
 use Rattle.model.specs.Updates.{Step, single, update, Said, responds, reports, replaced, bookSaid}
-use Rattle.model.specs.Claim.{DescribesBook}
+use Rattle.model.specs.Claim.{DescribesBook, PastCalls}
 
 -- ---- a script: items, each its kind (1 byte), the size of what it carries (2) and so many bytes; what is missing of a call's
 -- numbers counts 0
 
+-- a holder, 9 bytes: its kind (1 a window's small icon, 2 its big one, 3 a notification icon, any other a cell), and two numbers of 4
+unfoldable pub holderAt : List ℕ → ℕ → PictureHolder
+holderAt arg at = holderFrom (numAt 1 arg at) (numAt 4 arg (at + 1)) (numAt 4 arg (at + 5))
+
+abbrev pub holderSize : ℕ
+holderSize = 9
+
 -- 4: a window; 5: a notification icon; 6: a cell, by cache and entry; 7: the desktop; 10: the list of windows; 11: that of
--- notification icons
+-- notification icons; 12: whether two holders share a place
 unfoldable pub targetOf : ℕ → List ℕ → LookupTarget
 targetOf kind arg =
     pick (eqb kind 4) (Window (record { id = numAt 4 arg 0 }))
     (pick (eqb kind 5) (Notification (record { id = numAt 4 arg 0 }) (record { id = numAt 4 arg 4 }))
     (pick (eqb kind 6) (Cell (numAt 1 arg 0) (numAt 2 arg 1))
-    (pick (eqb kind 10) Windows (pick (eqb kind 11) Notifications Desktop))))
+    (pick (eqb kind 10) Windows
+    (pick (eqb kind 11) Notifications
+    (pick (eqb kind 12) (Shares (holderAt arg 0) (holderAt arg holderSize)) Desktop)))))
 
--- 0: an emptying; 1: a delivery; 2: a mark; 3: a step back
-unfoldable pub changeOf : ℕ → List ℕ → Call
-changeOf kind arg =
-    pick (eqb kind 0) reset
+-- 0: an emptying, with so many places lent; 1: a delivery; 2: a mark; 3: a step back
+unfoldable pub changeOf : ℕ → ℕ → List ℕ → Call
+changeOf lent kind arg =
+    pick (eqb kind 0) (reset lent)
     (pick (eqb kind 1) (deliver arg)
     (pick (eqb kind 2) checkpoint (undo (numAt 8 arg 0))))
 
@@ -44,8 +57,8 @@ changeOf kind arg =
 abbrev pub recordKind : ℕ
 recordKind = 9
 
-unfoldable pub callOf : ℕ → List ℕ → Call
-callOf kind arg = pick (ltb kind 4) (changeOf kind arg) (pick (eqb kind recordKind) writeRecord (look (targetOf kind arg)))
+unfoldable pub callOf : ℕ → ℕ → List ℕ → Call
+callOf lent kind arg = pick (ltb kind 4) (changeOf lent kind arg) (pick (eqb kind recordKind) writeRecord (look (targetOf kind arg)))
 
 -- a call that hands something out is lent zeros, which are left where it is refused
 abbrev pub requestOf : Call → Request
@@ -58,11 +71,11 @@ oneCall c = single (requestOf c)
 abbrev pub limitSize : ℕ
 limitSize = 4
 
-unfoldable pub stepOf : ℕ → List ℕ → Step
-stepOf kind arg = pick (eqb kind 8) (update (numAt 4 arg 0) (drop limitSize arg)) (oneCall (callOf kind arg))
+unfoldable pub stepOf : ℕ → ℕ → List ℕ → Step
+stepOf lent kind arg = pick (eqb kind 8) (update (numAt 4 arg 0) (drop limitSize arg)) (oneCall (callOf lent kind arg))
 
 abbrev pub lastKind : ℕ
-lastKind = 11
+lastKind = 12
 
 -- the first item of a script: its kind, its bytes in all, and its call
 abbrev pub kindOf : List ℕ → ℕ
@@ -71,8 +84,8 @@ kindOf s = numAt 1 s 0
 abbrev pub itemLength : List ℕ → ℕ
 itemLength s = 3 + numAt 2 s 1
 
-unfoldable pub firstCall : List ℕ → Step
-firstCall s = stepOf (kindOf s) (slice s 3 (numAt 2 s 1))
+unfoldable pub firstCall : ℕ → List ℕ → Step
+firstCall lent s = stepOf lent (kindOf s) (slice s 3 (numAt 2 s 1))
 
 -- ---- the answers: a block for each call, of fixed size
 
@@ -86,20 +99,20 @@ blockLength (single q) = 4 + neededFor (q .call)
 blockLength (update limit s) = 8
 
 -- the book's
-abbrev pub blocksOf : List Step → List (List ℕ)
-blocksOf calls = map blockOf (bookSaid calls newBook)
+abbrev pub blocksOf : ℕ → List Step → List (List ℕ)
+blocksOf places calls = map blockOf (bookSaid calls (newBook places))
 
 -- ---- a run
 
 -- the number with which it ends before the first item of s, given the room that is left for blocks: 0 at the end of the script, 2
 -- for fewer than 3 bytes, 3 for an item that is cut, 4 for an unknown kind, 14 for too little room; none where its call is done
-unfoldable pub endsWith : List ℕ → ℕ → Option ℕ
-endsWith s room =
+unfoldable pub endsWith : ℕ → List ℕ → ℕ → Option ℕ
+endsWith lent s room =
     pick (eqb (length s) 0) (some 0)
     (pick (ltb (length s) 3) (some 2)
     (pick (ltb (length s) (itemLength s)) (some 3)
     (pick (ltb lastKind (kindOf s)) (some 4)
-    (pick (ltb room (blockLength (firstCall s))) (some 14) none))))
+    (pick (ltb room (blockLength (firstCall lent s))) (some 14) none))))
 
 -- the calls that are done, and the number with which the run ends
 pub record Course : Type 0 where
@@ -117,13 +130,15 @@ unlessEnds none p = p
 unlessEnds (some n) p = endsHere n
 
 -- at most f calls; a script has fewer calls than bytes
-unfoldable pub courseFrom : ℕ → List ℕ → ℕ → Course
-courseFrom zero s room = endsHere 0
-courseFrom (suc f) s room =
-    unlessEnds (endsWith s room) (callFirst (firstCall s) (courseFrom f (drop (itemLength s) s) (room - blockLength (firstCall s))))
+unfoldable pub courseFrom : ℕ → ℕ → List ℕ → ℕ → Course
+courseFrom lent zero s room = endsHere 0
+courseFrom lent (suc f) s room =
+    unlessEnds (endsWith lent s room)
+    (callFirst (firstCall lent s) (courseFrom lent f (drop (itemLength s) s) (room - blockLength (firstCall lent s))))
 
-unfoldable pub courseOf : List ℕ → ℕ → Course
-courseOf s room = courseFrom (length s) s room
+-- so many places are lent
+unfoldable pub courseOf : ℕ → List ℕ → ℕ → Course
+courseOf lent s room = courseFrom lent (length s) s room
 
 -- the answer as one number: the number, and 256 times the calls done (modulo 2^56)
 abbrev pub packedRun : Course → ℕ
@@ -139,14 +154,14 @@ RunUnpacks = (p : Course) → p .number < 256 → length (p .calls) < 0x10000000
 
 -- its calls are done: the output begins with the blocks of the book's answers, each of its call's size, the memory describes the
 -- book, and the bytes past the needed lengths are as they were
-pub record RunAs (p : Course) (m : Memory) (out : List ℕ) (r : ℕ) (e : Memory) (out' : List ℕ) : Type 0 where
+pub record RunAs (places : ℕ) (p : Course) (m : Memory) (out : List ℕ) (r : ℕ) (e : Memory) (out' : List ℕ) : Type 0 where
   pub says : r ≡ packedRun p
-  pub answers : out' ≡ splice out 0 (flatten (blocksOf (p .calls)))
-  pub sizes : map length (blocksOf (p .calls)) ≡ map blockLength (p .calls)
-  pub holds : DescribesBook e (bookAfter (replaced (p .calls) newBook) newBook)
-  pub past : Past m e
+  pub answers : out' ≡ splice out 0 (flatten (blocksOf places (p .calls)))
+  pub sizes : map length (blocksOf places (p .calls)) ≡ map blockLength (p .calls)
+  pub holds : DescribesBook e (bookAfter (replaced (p .calls) (newBook places)) (newBook places))
+  pub past : PastCalls m e
 
 -- a run of the script s on the memory m, which is emptied first; where that is refused nothing changes
 pub record Runs (s : List ℕ) (m : Memory) (out : List ℕ) (r : ℕ) (e : Memory) (out' : List ℕ) : Type 0 where
   pub refused : tooShort m ≡ true → (r ≡ 1) × (e ≡ m) × (out' ≡ out)
-  pub ran : tooShort m ≡ false → RunAs (courseOf s (length out)) m out r e out'
+  pub ran : tooShort m ≡ false → RunAs (fixedBy (placesIn (m .store))) (courseOf (placesIn (m .store)) s (length out)) m out r e out'

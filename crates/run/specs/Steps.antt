@@ -7,19 +7,23 @@ use Rattle.journal.specs.View.{Memory}
 use Rattle.session.specs.Outcome.{neededFor}
 use Rattle.model.specs.Updates.{Step, Said}
 use Rattle.model.specs.Claim.{Calls}
-use Rattle.run.specs.Script.{callOf, stepOf, blockOf, blockLength}
+use Rattle.run.specs.Script.{callOf, stepOf, blockOf, blockLength, endsWith}
 
 -- n bytes are a block's, whatever a call of the kind carries; the same of a single call
 pub record Takes (kind n : ℕ) : Type 0 where
-  pub takes : (arg : List ℕ) → n ≡ blockLength (stepOf kind arg)
+  pub takes : (lent : ℕ) (arg : List ℕ) → n ≡ blockLength (stepOf lent kind arg)
 
 pub record TakesOne (kind n : ℕ) : Type 0 where
-  pub takes : (arg : List ℕ) → n ≡ 4 + neededFor (callOf kind arg)
+  pub takes : (lent : ℕ) (arg : List ℕ) → n ≡ 4 + neededFor (callOf lent kind arg)
 
 -- as one number: 255 where the call is done
 abbrev pub endNumber : Option ℕ → ℕ
 endNumber none = 255
 endNumber (some n) = n
+
+-- whatever the number of places lent
+pub record EndsAt (r : ℕ) (s : List ℕ) (room : ℕ) : Type 0 where
+  pub is : (lent : ℕ) → r ≡ endNumber (endsWith lent s room)
 
 -- a call is done, and its block stands in the output
 pub record Done (x : Step) (m e : Memory) (out' : List ℕ) : Type 0 where

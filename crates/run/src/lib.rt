@@ -3,16 +3,19 @@ ghost use mathlib.Core.Path.{_≡_};
 ghost use Prim.Native.Nat.{_≤_};
 ghost use lib.ListN.{length, drop};
 ghost use Rattle.wire.specs.Numbers.{numAt};
+ghost use Rattle.store.specs.Store.{placesIn, five};
+ghost use Rattle.table.specs.Memory.{fixedBy};
 ghost use Rattle.journal.specs.View.{memory, formed, viewOf};
 ghost use Rattle.session.specs.Calls.{look, writeRecord};
 ghost use Rattle.session.specs.Outcome.{replied, CallOutcome};
 ghost use Rattle.model.specs.Updates.{update};
 ghost use Rattle.model.specs.Wellformed.{emptiedState};
-ghost use Rattle.run.specs.Script.{targetOf, changeOf, callOf, requestOf, oneCall, limitSize, stepOf, blockLength, endsWith, courseOf, RunAs, Runs};
-ghost use Rattle.run.specs.Steps.{Takes, TakesOne, endNumber, Done};
+ghost use Rattle.run.specs.Script.{holderAt, targetOf, changeOf, callOf, requestOf, oneCall, limitSize, stepOf, blockLength, endsWith, courseOf, RunAs, Runs};
+ghost use Rattle.run.specs.Steps.{Takes, TakesOne, EndsAt, Done};
 use protocol::NotifyIconId;
 use protocol::WindowId;
 use session::LookupTarget;
+use session::PictureHolder;
 use session::Reply;
 
 // A whole update: its limit, LIMIT bytes, before its own.
@@ -20,11 +23,14 @@ const UPDATE: u8 = 8;
 
 const LIMIT: usize = 4;
 
+// The bytes of a holder.
+const HOLDER: usize = 9;
+
 // The session record written.
 const RECORD: u8 = 9;
 
 // The last kind.
-const LAST: u8 = 11;
+const LAST: u8 = 12;
 
 // The number of 8 bytes at the start; a byte past the end counts 0.
 fn read_u64(s: &[u8]) -> u64
@@ -37,29 +43,47 @@ fn read_u64(s: &[u8]) -> u64
 
 // Kinds 0 to 3.
 fn change(
-    dir: &mut [u8],
+    index: &mut [u8],
     bodies: &mut [u8],
-    cells: &mut [u8],
+    a: &mut [u8],
+    b: &mut [u8],
+    c: &mut [u8],
+    d: &mut [u8],
+    e: &mut [u8],
     journal: &mut [u8],
     kind: u8,
     arg: &[u8],
 ) -> Reply
-    ensures { λ r. ⌜ CallOutcome (requestOf (changeOf kind (now (arg .entry)))) (memory (now (dir .entry)) (now (bodies .entry)) (now (cells .entry)) (now (journal .entry))) (replied r) (memory (now (dir .exit)) (now (bodies .exit)) (now (cells .exit)) (now (journal .exit))) ⌝ }
+    ensures { λ r. ⌜ CallOutcome (requestOf (changeOf (placesIn (five (now (a .entry)) (now (b .entry)) (now (c .entry)) (now (d .entry)) (now (e .entry)))) kind (now (arg .entry)))) (memory (now (index .entry)) (now (bodies .entry)) (five (now (a .entry)) (now (b .entry)) (now (c .entry)) (now (d .entry)) (now (e .entry))) (now (journal .entry))) (replied r) (memory (now (index .exit)) (now (bodies .exit)) (five (now (a .exit)) (now (b .exit)) (now (c .exit)) (now (d .exit)) (now (e .exit))) (now (journal .exit))) ⌝ }
 {
     if kind == 0 {
-        return session::calls::reset(dir, bodies, cells, journal);
+        let lent = store::places(a, b, c, d, e);
+        return session::calls::reset(index, bodies, lent, journal);
     }
     if kind == 1 {
-        return session::calls::deliver(dir, bodies, cells, journal, arg);
+        let lent = store::places(a, b, c, d, e);
+        return session::calls::deliver(index, bodies, lent, journal, arg);
     }
     if kind == 2 {
-        return session::calls::checkpoint(dir, bodies, cells, journal);
+        return session::calls::checkpoint(index, bodies, a, b, c, d, e, journal);
     }
     let k = read_u64(arg);
-    session::calls::undo(dir, bodies, cells, journal, k)
+    let lent = store::places(a, b, c, d, e);
+    session::calls::undo(index, bodies, lent, journal, k)
 }
 
-// What a lookup of kinds 4 to 7, 10 and 11 looks for.
+// The holder at index at: its kind 1, and two numbers of 4.
+fn holder_at(arg: &[u8], at: usize) -> PictureHolder
+    requires { ⌜ at ≤ 9 ⌝ }
+    ensures { λ r. ⌜ r ≡ holderAt (now (arg .entry)) at ⌝ }
+{
+    let kind = wire::read_u8(arg, at);
+    let first = wire::read_u32(arg, at + 1);
+    let second = wire::read_u32(arg, at + 5);
+    session::holders::holder_of(kind, first, second)
+}
+
+// What a lookup of kinds 4 to 7 and 10 to 12 looks for.
 fn target_of(kind: u8, arg: &[u8]) -> LookupTarget
     ensures { λ r. ⌜ r ≡ targetOf kind (now (arg .entry)) ⌝ }
 {
@@ -82,6 +106,11 @@ fn target_of(kind: u8, arg: &[u8]) -> LookupTarget
     if kind == 11 {
         return LookupTarget::Notifications;
     }
+    if kind == 12 {
+        let g = holder_at(arg, 0);
+        let k = holder_at(arg, HOLDER);
+        return LookupTarget::Shares(g, k);
+    }
     LookupTarget::Desktop
 }
 
@@ -93,10 +122,10 @@ fn single_length(kind: u8) -> usize
         return 4;
     }
     if kind == 4 {
-        return 4 + layout::WINDOW;
+        return 4 + layout::WINDOW + 2 * layout::PICTURE;
     }
     if kind == 5 {
-        return 4 + layout::NOTIFICATION;
+        return 4 + layout::NOTIFICATION + layout::PICTURE;
     }
     if kind == 6 {
         return 4 + layout::PICTURE;
@@ -109,6 +138,9 @@ fn single_length(kind: u8) -> usize
     }
     if kind == 11 {
         return 4 + ids::LENGTH;
+    }
+    if kind == 12 {
+        return 5;
     }
     4 + layout::DESKTOP
 }
@@ -125,74 +157,108 @@ fn block_length(kind: u8) -> usize
 
 // A lookup and its block: the reply is put before what it hands out in a field of zeros.
 fn look_up(
-    dir: &[u8],
+    index: &[u8],
     bodies: &[u8],
-    cells: &[u8],
+    a: &[u8],
+    b: &[u8],
+    c: &[u8],
+    d: &[u8],
+    e: &[u8],
     journal: &[u8],
     target: LookupTarget,
     out: &mut [u8],
 )
     requires { ⌜ length (now out) ≡ blockLength (oneCall (look target)) ⌝ }
-    ensures { λ _. ⌜ Done (oneCall (look target)) (memory (now (dir .entry)) (now (bodies .entry)) (now (cells .entry)) (now (journal .entry))) (memory (now (dir .entry)) (now (bodies .entry)) (now (cells .entry)) (now (journal .entry))) (now (out .exit)) ⌝ }
+    ensures { λ _. ⌜ Done (oneCall (look target)) (memory (now (index .entry)) (now (bodies .entry)) (five (now (a .entry)) (now (b .entry)) (now (c .entry)) (now (d .entry)) (now (e .entry))) (now (journal .entry))) (memory (now (index .entry)) (now (bodies .entry)) (five (now (a .entry)) (now (b .entry)) (now (c .entry)) (now (d .entry)) (now (e .entry))) (now (journal .entry))) (now (out .exit)) ⌝ }
 {
     let end = out.len();
     wire::clear(out, 0, end);
-    let r = session::lookups::look(dir, bodies, cells, journal, target, &mut out[4..end]);
+    let r = session::lookups::look(
+        index,
+        bodies,
+        a,
+        b,
+        c,
+        d,
+        e,
+        journal,
+        target,
+        &mut out[4..end],
+    );
     let head = session::packed::packed(r);
     wire::write_u32(out, 0, head);
 }
 
 // The session record and its block, in a field of zeros.
-fn put_record(dir: &[u8], bodies: &[u8], cells: &[u8], journal: &[u8], out: &mut [u8])
+fn put_record(
+    index: &[u8],
+    bodies: &[u8],
+    a: &[u8],
+    b: &[u8],
+    c: &[u8],
+    d: &[u8],
+    e: &[u8],
+    journal: &[u8],
+    out: &mut [u8],
+)
     requires { ⌜ length (now out) ≡ blockLength (oneCall writeRecord) ⌝ }
-    ensures { λ _. ⌜ Done (oneCall writeRecord) (memory (now (dir .entry)) (now (bodies .entry)) (now (cells .entry)) (now (journal .entry))) (memory (now (dir .entry)) (now (bodies .entry)) (now (cells .entry)) (now (journal .entry))) (now (out .exit)) ⌝ }
+    ensures { λ _. ⌜ Done (oneCall writeRecord) (memory (now (index .entry)) (now (bodies .entry)) (five (now (a .entry)) (now (b .entry)) (now (c .entry)) (now (d .entry)) (now (e .entry))) (now (journal .entry))) (memory (now (index .entry)) (now (bodies .entry)) (five (now (a .entry)) (now (b .entry)) (now (c .entry)) (now (d .entry)) (now (e .entry))) (now (journal .entry))) (now (out .exit)) ⌝ }
 {
     let end = out.len();
     wire::clear(out, 0, end);
-    let r = session::records::write(dir, bodies, cells, journal, &mut out[4..end]);
+    let lent = store::places(a, b, c, d, e);
+    let r = session::records::write(index, bodies, lent, journal, &mut out[4..end]);
     let head = session::packed::packed(r);
     wire::write_u32(out, 0, head);
 }
 
 // A single call from kind 4 on, which hands something out, and its block.
 fn hand_out(
-    dir: &[u8],
+    index: &[u8],
     bodies: &[u8],
-    cells: &[u8],
+    a: &[u8],
+    b: &[u8],
+    c: &[u8],
+    d: &[u8],
+    e: &[u8],
     journal: &[u8],
     kind: u8,
     arg: &[u8],
     out: &mut [u8],
 )
-    requires { ⌜ (4 ≤ kind) × (length (now out) ≡ blockLength (oneCall (callOf kind (now arg)))) ⌝ }
-    ensures { λ _. ⌜ Done (oneCall (callOf kind (now (arg .entry)))) (memory (now (dir .entry)) (now (bodies .entry)) (now (cells .entry)) (now (journal .entry))) (memory (now (dir .entry)) (now (bodies .entry)) (now (cells .entry)) (now (journal .entry))) (now (out .exit)) ⌝ }
+    requires { ⌜ (4 ≤ kind) × (length (now out) ≡ blockLength (oneCall (callOf (placesIn (five (now a) (now b) (now c) (now d) (now e))) kind (now arg)))) ⌝ }
+    ensures { λ _. ⌜ Done (oneCall (callOf (placesIn (five (now (a .entry)) (now (b .entry)) (now (c .entry)) (now (d .entry)) (now (e .entry)))) kind (now (arg .entry)))) (memory (now (index .entry)) (now (bodies .entry)) (five (now (a .entry)) (now (b .entry)) (now (c .entry)) (now (d .entry)) (now (e .entry))) (now (journal .entry))) (memory (now (index .entry)) (now (bodies .entry)) (five (now (a .entry)) (now (b .entry)) (now (c .entry)) (now (d .entry)) (now (e .entry))) (now (journal .entry))) (now (out .exit)) ⌝ }
 {
     if kind == RECORD {
-        return put_record(dir, bodies, cells, journal, out);
+        return put_record(index, bodies, a, b, c, d, e, journal, out);
     }
     let target = target_of(kind, arg);
-    look_up(dir, bodies, cells, journal, target, out)
+    look_up(index, bodies, a, b, c, d, e, journal, target, out)
 }
 
 // A single call and its block.
 fn single(
-    dir: &mut [u8],
+    index: &mut [u8],
     bodies: &mut [u8],
-    cells: &mut [u8],
+    a: &mut [u8],
+    b: &mut [u8],
+    c: &mut [u8],
+    d: &mut [u8],
+    e: &mut [u8],
     journal: &mut [u8],
     kind: u8,
     arg: &[u8],
     out: &mut [u8],
 )
-    requires { ⌜ length (now out) ≡ blockLength (oneCall (callOf kind (now arg))) ⌝ }
-    ensures { λ _. ⌜ Done (oneCall (callOf kind (now (arg .entry)))) (memory (now (dir .entry)) (now (bodies .entry)) (now (cells .entry)) (now (journal .entry))) (memory (now (dir .exit)) (now (bodies .exit)) (now (cells .exit)) (now (journal .exit))) (now (out .exit)) ⌝ }
+    requires { ⌜ length (now out) ≡ blockLength (oneCall (callOf (placesIn (five (now a) (now b) (now c) (now d) (now e))) kind (now arg))) ⌝ }
+    ensures { λ _. ⌜ Done (oneCall (callOf (placesIn (five (now (a .entry)) (now (b .entry)) (now (c .entry)) (now (d .entry)) (now (e .entry)))) kind (now (arg .entry)))) (memory (now (index .entry)) (now (bodies .entry)) (five (now (a .entry)) (now (b .entry)) (now (c .entry)) (now (d .entry)) (now (e .entry))) (now (journal .entry))) (memory (now (index .exit)) (now (bodies .exit)) (five (now (a .exit)) (now (b .exit)) (now (c .exit)) (now (d .exit)) (now (e .exit))) (now (journal .exit))) (now (out .exit)) ⌝ }
 {
     if kind < 4 {
-        let r = change(dir, bodies, cells, journal, kind, arg);
+        let r = change(index, bodies, a, b, c, d, e, journal, kind, arg);
         let head = session::packed::packed(r);
         wire::write_u32(out, 0, head);
     } else {
-        hand_out(dir, bodies, cells, journal, kind, arg, out);
+        hand_out(index, bodies, a, b, c, d, e, journal, kind, arg, out);
     }
 }
 
@@ -208,20 +274,25 @@ fn after_limit(arg: &[u8]) -> usize
 
 // A whole update and its block: what stands after it, and what it granted.
 fn update_all(
-    dir: &[u8],
+    index: &[u8],
     bodies: &[u8],
-    cells: &[u8],
+    a: &[u8],
+    b: &[u8],
+    c: &[u8],
+    d: &[u8],
+    e: &[u8],
     journal: &mut [u8],
     arg: &[u8],
     out: &mut [u8],
 )
     requires { ⌜ length (now out) ≡ 8 ⌝ }
-    ensures { λ _. ⌜ Done (update (numAt 4 (now (arg .entry)) 0) (drop limitSize (now (arg .entry)))) (memory (now (dir .entry)) (now (bodies .entry)) (now (cells .entry)) (now (journal .entry))) (memory (now (dir .entry)) (now (bodies .entry)) (now (cells .entry)) (now (journal .exit))) (now (out .exit)) ⌝ }
+    ensures { λ _. ⌜ Done (update (numAt 4 (now (arg .entry)) 0) (drop limitSize (now (arg .entry)))) (memory (now (index .entry)) (now (bodies .entry)) (five (now (a .entry)) (now (b .entry)) (now (c .entry)) (now (d .entry)) (now (e .entry))) (now (journal .entry))) (memory (now (index .entry)) (now (bodies .entry)) (five (now (a .entry)) (now (b .entry)) (now (c .entry)) (now (d .entry)) (now (e .entry))) (now (journal .exit))) (now (out .exit)) ⌝ }
 {
     let limit = wire::read_u32(arg, 0);
     let start = after_limit(arg);
     let end = arg.len();
-    let r = update::update(dir, bodies, cells, journal, limit, &arg[start..end]);
+    let lent = store::places(a, b, c, d, e);
+    let r = update::update(index, bodies, lent, journal, limit, &arg[start..end]);
     let low = update::standing(r);
     let high = update::granted(r);
     wire::write_u32(out, 0, low);
@@ -230,28 +301,32 @@ fn update_all(
 
 // A call and its block.
 fn call(
-    dir: &mut [u8],
+    index: &mut [u8],
     bodies: &mut [u8],
-    cells: &mut [u8],
+    a: &mut [u8],
+    b: &mut [u8],
+    c: &mut [u8],
+    d: &mut [u8],
+    e: &mut [u8],
     journal: &mut [u8],
     kind: u8,
     arg: &[u8],
     out: &mut [u8],
 )
-    requires { ⌜ length (now out) ≡ blockLength (stepOf kind (now arg)) ⌝ }
-    ensures { λ _. ⌜ Done (stepOf kind (now (arg .entry))) (memory (now (dir .entry)) (now (bodies .entry)) (now (cells .entry)) (now (journal .entry))) (memory (now (dir .exit)) (now (bodies .exit)) (now (cells .exit)) (now (journal .exit))) (now (out .exit)) ⌝ }
+    requires { ⌜ length (now out) ≡ blockLength (stepOf (placesIn (five (now a) (now b) (now c) (now d) (now e))) kind (now arg)) ⌝ }
+    ensures { λ _. ⌜ Done (stepOf (placesIn (five (now (a .entry)) (now (b .entry)) (now (c .entry)) (now (d .entry)) (now (e .entry)))) kind (now (arg .entry))) (memory (now (index .entry)) (now (bodies .entry)) (five (now (a .entry)) (now (b .entry)) (now (c .entry)) (now (d .entry)) (now (e .entry))) (now (journal .entry))) (memory (now (index .exit)) (now (bodies .exit)) (five (now (a .exit)) (now (b .exit)) (now (c .exit)) (now (d .exit)) (now (e .exit))) (now (journal .exit))) (now (out .exit)) ⌝ }
 {
     if kind == UPDATE {
-        update_all(dir, bodies, cells, journal, arg, out);
+        update_all(index, bodies, a, b, c, d, e, journal, arg, out);
     } else {
-        single(dir, bodies, cells, journal, kind, arg, out);
+        single(index, bodies, a, b, c, d, e, journal, kind, arg, out);
     }
 }
 
 // The number with which the run ends at index at, 255 where a call is done.
 fn end_at(script: &[u8], at: usize, room: usize) -> u8
     requires { ⌜ at ≤ length (now script) ⌝ }
-    ensures { λ r. ⌜ r ≡ endNumber (endsWith (drop at (now (script .entry))) room) ⌝ }
+    ensures { λ r. ⌜ EndsAt r (drop at (now (script .entry))) room ⌝ }
 {
     let left = script.len() - at;
     if left == 0 {
@@ -276,15 +351,19 @@ fn end_at(script: &[u8], at: usize, room: usize) -> u8
 
 // The script's calls are done on emptied memory, each block behind the one before.
 fn run_on(
-    dir: &mut [u8],
+    index: &mut [u8],
     bodies: &mut [u8],
-    cells: &mut [u8],
+    a: &mut [u8],
+    b: &mut [u8],
+    c: &mut [u8],
+    d: &mut [u8],
+    e: &mut [u8],
     journal: &mut [u8],
     script: &[u8],
     out: &mut [u8],
 ) -> u64
-    requires { ⌜ viewOf (memory (now dir) (now bodies) (now cells) (now journal)) ≡ formed emptiedState ⌝ }
-    ensures { λ r. ⌜ RunAs (courseOf (now (script .entry)) (length (now (out .entry)))) (memory (now (dir .entry)) (now (bodies .entry)) (now (cells .entry)) (now (journal .entry))) (now (out .entry)) r (memory (now (dir .exit)) (now (bodies .exit)) (now (cells .exit)) (now (journal .exit))) (now (out .exit)) ⌝ }
+    requires { ⌜ viewOf (memory (now index) (now bodies) (five (now a) (now b) (now c) (now d) (now e)) (now journal)) ≡ formed (emptiedState (placesIn (five (now a) (now b) (now c) (now d) (now e)))) ⌝ }
+    ensures { λ r. ⌜ RunAs (fixedBy (placesIn (five (now (a .entry)) (now (b .entry)) (now (c .entry)) (now (d .entry)) (now (e .entry))))) (courseOf (placesIn (five (now (a .entry)) (now (b .entry)) (now (c .entry)) (now (d .entry)) (now (e .entry)))) (now (script .entry)) (length (now (out .entry)))) (memory (now (index .entry)) (now (bodies .entry)) (five (now (a .entry)) (now (b .entry)) (now (c .entry)) (now (d .entry)) (now (e .entry))) (now (journal .entry))) (now (out .entry)) r (memory (now (index .exit)) (now (bodies .exit)) (five (now (a .exit)) (now (b .exit)) (now (c .exit)) (now (d .exit)) (now (e .exit))) (now (journal .exit))) (now (out .exit)) ⌝ }
 {
     let mut at: usize = 0;
     let mut to: usize = 0;
@@ -297,9 +376,13 @@ fn run_on(
         let after = arg + size;
         let end = to + block_length(kind);
         call(
-            dir,
+            index,
             bodies,
-            cells,
+            a,
+            b,
+            c,
+            d,
+            e,
             journal,
             kind,
             &script[arg..after],
@@ -315,18 +398,23 @@ fn run_on(
 
 // Empties the memory and does the script's calls on it: the number with which the run ends, and 256 times the calls done.
 pub fn run(
-    dir: &mut [u8],
+    index: &mut [u8],
     bodies: &mut [u8],
-    cells: &mut [u8],
+    a: &mut [u8],
+    b: &mut [u8],
+    c: &mut [u8],
+    d: &mut [u8],
+    e: &mut [u8],
     journal: &mut [u8],
     script: &[u8],
     out: &mut [u8],
 ) -> u64
-    ensures { λ r. ⌜ Runs (now (script .entry)) (memory (now (dir .entry)) (now (bodies .entry)) (now (cells .entry)) (now (journal .entry))) (now (out .entry)) r (memory (now (dir .exit)) (now (bodies .exit)) (now (cells .exit)) (now (journal .exit))) (now (out .exit)) ⌝ }
+    ensures { λ r. ⌜ Runs (now (script .entry)) (memory (now (index .entry)) (now (bodies .entry)) (five (now (a .entry)) (now (b .entry)) (now (c .entry)) (now (d .entry)) (now (e .entry))) (now (journal .entry))) (now (out .entry)) r (memory (now (index .exit)) (now (bodies .exit)) (five (now (a .exit)) (now (b .exit)) (now (c .exit)) (now (d .exit)) (now (e .exit))) (now (journal .exit))) (now (out .exit)) ⌝ }
 {
-    let r = session::calls::reset(dir, bodies, cells, journal);
+    let lent = store::places(a, b, c, d, e);
+    let r = session::calls::reset(index, bodies, lent, journal);
     if r.number != 0 {
         return 1;
     }
-    run_on(dir, bodies, cells, journal, script, out)
+    run_on(index, bodies, a, b, c, d, e, journal, script, out)
 }

@@ -11,16 +11,20 @@ use Rattle.wire.specs.Numbers.{bytesOf}
 use Rattle.wire.specs.Parts.{splice}
 use Rattle.wire.proofs.Numbers.{length-bytes}
 use Rattle.wire.proofs.Parts.{drop-splice}
+use Rattle.places.specs.Memory.{placesOf}
+use Rattle.store.specs.Store.{placesIn}
 use Rattle.table.specs.Table.{Table, emptied}
-use Rattle.table.specs.Memory.{soundTable}
-use Rattle.table.specs.Outcome.{PastKept, Emptied}
+use Rattle.table.specs.Memory.{fixedBy, soundTable}
+use Rattle.table.specs.Outcome.{StoreKept, PastKept, Emptied}
+use Rattle.table.proofs.Past.{same-store}
+use Rattle.table.proofs.Changed.{as-many-places}
 use Rattle.journal.specs.declared.JournalExtent.{JournalExtent}
-use Rattle.journal.specs.Limits.{cellsLength, journalLength, mostOrders, logStart}
+use Rattle.journal.specs.Limits.{journalLength, mostOrders, logStart}
 use Rattle.journal.specs.State.{run}
 use Rattle.journal.specs.Journal.{endFrom, withinFrom}
 use Rattle.journal.specs.View.{Memory, memory, tooShort, wellFormed, formed, viewOf}
 use Rattle.journal.specs.Replay.{Applied}
-use Rattle.journal.proofs.Logged.{Long, Logged, markedIn, withJournal, logged-none, logged-take, logged-within, logged-orders, logged-low, logged-high, past-counted}
+use Rattle.journal.proofs.Logged.{LongIn, Logged, markedIn, withJournal, logged-none, logged-take, logged-within, logged-orders, logged-low, logged-high, past-counted}
 use Rattle.session.specs.declared.Reply.{Reply}
 use Rattle.session.specs.Calls.{Call, reset, checkpoint, undo, nothing, refuse, grant, answer, next, answerView, nextView}
 use Rattle.session.specs.Outcome.{plain, replied, sizeFor, bytesFor, replyOf, CallOutcome}
@@ -31,49 +35,53 @@ nothingStands = record { number = 0; count = 0; bytes = 0 }
 
 -- ---- a table with no orders after it
 
-module _ (m : Memory) (l : Long m) {d b k : List ℕ} (same-d : length d ≡ length (m .dir)) (same-b : length b ≡ length (m .bodies))
-    (same-k : length k ≡ length (m .cells)) {j : List ℕ} (put : j ≡ splice (m .journal) 0 (bytesOf 2 0)) where
+module _ (m : Memory) (l : LongIn m) {x b : List ℕ} (same-x : length x ≡ length (m .index)) (same-b : length b ≡ length (m .bodies)) {j : List ℕ}
+    (put : j ≡ splice (m .journal) 0 (bytesOf 2 0)) where
   -- with the table t at the mark
-  restarted : (c : Call) {t : Table} {r : Reply} → sizeFor c nothing ≡ 0 → bytesFor c nothing ≡ [] → markedIn (memory d b k j) ≡ t → soundTable d b k ≡ true
-      → PastKept (m .dir) (m .bodies) (m .cells) d b k → answerView c (viewOf m) ≡ grant [] nothing
-      → nextView c (viewOf m) ≡ formed (record { marked = t; log = [] }) → r ≡ nothingStands → CallOutcome (plain c) m (replied r) (memory d b k j)
-  restarted c {t = t} room none table sound past a n e =
+  restarted : (c : Call) {t : Table} {p : List (List ℕ)} {r : Reply} → sizeFor c nothing ≡ 0 → bytesFor c nothing ≡ [] → markedIn (memory x b p j) ≡ t
+      → soundTable x b (placesIn p) ≡ true → PastKept (m .index) (m .bodies) x b → StoreKept (placesOf (m .index)) (m .store) p
+      → answerView c (viewOf m) ≡ grant [] nothing → nextView c (viewOf m) ≡ formed (record { marked = t; log = [] }) → r ≡ nothingStands
+      → CallOutcome (plain c) m (replied r) (memory x b p j)
+  restarted c {t = t} {p = p} room none table sound past store a n e =
       let n' = length-bytes 2 0 in
-      let parts : Long (memory d b k (m .journal)) =
-      record { dir = omega (arith, same-d, l .dir); bodies = omega (arith, same-b, l .bodies); cells = omega (arith, same-k, l .cells); journal = l .journal } in
-      let log : Logged (memory d b k j) (record { count = 0; end = logStart }) [] = rw put (logged-none d b k (m .journal) parts sound) in
+      let same = as-many-places store in
+      let parts : LongIn (memory x b p (m .journal)) =
+      record { index = omega (arith, same-x, l .index); bodies = omega (arith, same-b, l .bodies); places = omega (arith, same, l .places); journal = l .journal } in
+      let log : Logged (memory x b p j) (record { count = 0; end = logStart }) [] = rw put (logged-none x b p (m .journal) parts sound) in
       granted c room none log a (n ∙ ap (λ (t : Table). formed (record { marked = t; log = [] })) (sym table)) e
       (record {
-        dir = past .dir;
+        index = past .index;
         bodies = past .bodies;
-        cells = past .cells;
+        store = store;
         journal = ap (drop journalLength) put ∙ drop-splice (m .journal) 0 (bytesOf 2 0) (omega (arith, l .journal)) journalLength (omega arith);
       })
 
-  pub reset-granted : {r : Reply} → tooShort m ≡ false → k ≡ m .cells → Emptied (m .dir) (m .bodies) d b k → r ≡ nothingStands → CallOutcome (plain reset) m (replied r) (memory d b k j)
-  reset-granted t c e f =
-      restarted reset refl refl (e .table) (e .sound) (record { dir = e .past .dir; bodies = e .past .bodies; cells = ap (drop cellsLength) c })
+  pub reset-granted : {lent : ℕ} {r : Reply} → placesIn (m .store) ≡ lent → tooShort m ≡ false → Emptied (m .index) (m .bodies) lent x b → r ≡ nothingStands
+      → CallOutcome (plain (reset lent)) m (replied r) (memory x b (m .store) j)
+  reset-granted {lent = lent} is t e f =
+      restarted (reset lent) refl refl (e .table (m .store)) (ap (soundTable x b) is ∙ e .sound) (e .past) (same-store (placesOf (m .index)) (m .store))
       (reset-answers t .0) (reset-answers t .1) f
     where
-      reset-answers : tooShort m ≡ false → (answerView reset (viewOf m) ≡ grant [] nothing) × (nextView reset (viewOf m) ≡ formed (record { marked = emptied; log = [] }))
+      reset-answers : tooShort m ≡ false
+          → (answerView (reset lent) (viewOf m) ≡ grant [] nothing) × (nextView (reset lent) (viewOf m) ≡ formed (record { marked = emptied (fixedBy lent); log = [] }))
       reset-answers t = go (wellFormed m) refl
         where
           go : (w : Bool) → wellFormed m ≡ w
-              → (answerView reset (viewOf m) ≡ grant [] nothing) × (nextView reset (viewOf m) ≡ formed (record { marked = emptied; log = [] }))
+              → (answerView (reset lent) (viewOf m) ≡ grant [] nothing) × (nextView (reset lent) (viewOf m) ≡ formed (record { marked = emptied (fixedBy lent); log = [] }))
           go true w = (unfold viewOf answerView answer in rw (t, w), unfold viewOf nextView next in rw (t, w))
           go false w = (unfold viewOf answerView in rw (t, w), unfold viewOf nextView in rw (t, w))
 
-  pub checkpoint-granted : {w : JournalExtent} {os : List (List ℕ)} {r : Reply} → Logged m w os → Applied (m .dir) (m .bodies) (m .cells) (m .journal) (w .count) d b k
-      → r ≡ nothingStands → CallOutcome (plain checkpoint) m (replied r) (memory d b k j)
+  pub checkpoint-granted : {w : JournalExtent} {os : List (List ℕ)} {p : List (List ℕ)} {r : Reply} → Logged m w os
+      → Applied (m .index) (m .bodies) (m .store) (m .journal) (w .count) x b p → r ≡ nothingStands → CallOutcome (plain checkpoint) m (replied r) (memory x b p j)
   unfolding answer next
   checkpoint-granted g a f =
-      restarted checkpoint refl refl (a .table ∙ ap (run (markedIn m)) (logged-orders g)) (a .sound) (a .past) (answer-in g checkpoint) (next-in g checkpoint) f
+      restarted checkpoint refl refl (a .table ∙ ap (run (markedIn m)) (logged-orders g)) (a .sound) (a .past) (a .store) (answer-in g checkpoint) (next-in g checkpoint) f
 
 -- ---- fewer orders
 
 module _ {m : Memory} {w : JournalExtent} {os : List (List ℕ)} (l : Logged m w os) where
   -- what applying all of them asks, and finding the end of the first n
-  pub apply-asks : (soundTable (m .dir) (m .bodies) (m .cells) ≡ true) × ((journalLength ≤ length (m .journal)) × (withinFrom (w .count) logStart (m .journal) ≡ true))
+  pub apply-asks : (soundTable (m .index) (m .bodies) (placesIn (m .store)) ≡ true) × ((journalLength ≤ length (m .journal)) × (withinFrom (w .count) logStart (m .journal) ≡ true))
   apply-asks = (l .sound, (l .long .journal, logged-within l (w .count) (omega arith)))
 
   pub end-asks : (n : ℕ) → n ≤ w .count → (n ≤ mostOrders) × (withinFrom n logStart (m .journal) ≡ true)

@@ -10,9 +10,9 @@ use lib.ListN.{length}
 use borrow.Author.Tests.{eqb-true, ne-eqb, ltb-false}
 use Rattle.wire.specs.Tests.{pick, either}
 use Rattle.wire.proofs.Numbers.{Bytes}
-use Rattle.directory.specs.declared.Plan.{Plan}
-use Rattle.directory.specs.Plans.{planOf, numberOf}
-use Rattle.directory.specs.Marks.{markedBy}
+use Rattle.index.specs.declared.Plan.{Plan}
+use Rattle.index.specs.Plans.{planOf, planNumber}
+use Rattle.index.specs.Changes.{appliedOf}
 use Rattle.table.specs.Table.{number}
 use Rattle.journal.specs.declared.JournalExtent.{JournalExtent}
 use Rattle.journal.specs.Limits.{mostOrders, mostBytes, logStart, journalLength}
@@ -31,9 +31,9 @@ use Rattle.session.proofs.Outcomes.{stateIn, answer-in, next-in, refuse
 
 -- ---- the ways through the code
 
-module _ (d j s : List ℕ) (w : JournalExtent) {p : Plan} (judged : p ≡ planOf d s) {n : ℕ} (is : n ≡ numberOf p) where
-  number-is : numberOf (planOf d s) ≡ n
-  number-is = sym (is ∙ ap numberOf judged)
+module _ (d j s : List ℕ) (w : JournalExtent) {p : Plan} (judged : p ≡ planOf d s) {n : ℕ} (is : n ≡ planNumber p) where
+  number-is : planNumber (planOf d s) ≡ n
+  number-is = sym (is ∙ ap planNumber judged)
 
   pub on-refused : (n ≡ 0 → ⊥) → DeliveredOn d j s w (record { number = n; extent = w }) d j
   unfolding numberOn
@@ -49,12 +49,12 @@ module _ (d j s : List ℕ) (w : JournalExtent) {p : Plan} (judged : p ≡ planO
         let k : numberOn d w s ≡ 12 = rw (number-is, zero, f) in
         record { number = sym k; extent = rw k; index = rw k; journal = rw k }
 
-    pub on-granted : isFull w s ≡ false → {d' j' : List ℕ} → j' ≡ appended j w s → d' ≡ markedBy d s p
+    pub on-granted : isFull w s ≡ false → {d' j' : List ℕ} → j' ≡ appended j w s → d' ≡ appliedOf d p
         → DeliveredOn d j s w (record { number = 0; extent = oneMore w s }) d' j'
     unfolding numberOn
     on-granted f x y =
         let k : numberOn d w s ≡ 0 = rw (number-is, zero, f) in
-        record { number = sym k; extent = rw k; index = y ∙ ap (markedBy d s) judged ∙ rw k; journal = x ∙ rw k }
+        record { number = sym k; extent = rw k; index = y ∙ ap (appliedOf d) judged ∙ rw k; journal = x ∙ rw k }
 
 -- what room there is
 either-false : (a b : Bool) → either a b ≡ false → (a ≡ false) × (b ≡ false)
@@ -73,44 +73,44 @@ room-has w s low h =
 pub ready : {m : Memory} {w : JournalExtent} {d : List ℕ} {os : List (List ℕ)} → Indexed m w d os → Ready d (m .journal) w
 ready i = let l = i .logged in record { sound = i .sound; few = l .few; low = logged-low l; high = logged-high l; long = l .long .journal }
 
-module _ {m : Memory} {w : JournalExtent} {d : List ℕ} {os : List (List ℕ)} (i : Indexed m w d os) (s : List ℕ) where
-  judged-is : number (run (markedIn m) os) s ≡ numberOf (planOf d s)
-  judged-is = sym (number-on (run (markedIn m) os) d s (i .directory))
+module _ {m : Memory} {w : JournalExtent} {d : List ℕ} {os : List (List ℕ)} (i : Indexed m w d os) (s : List ℕ) (bytes : Bytes s) where
+  judged-is : number (run (markedIn m) os) s ≡ planNumber (planOf d s)
+  judged-is = sym (number-on (run (markedIn m) os) d s (i .index) bytes (i .sound))
 
   full-is : overFull os s ≡ isFull w s
   full-is = rw (i .logged .many, logged-bytes (i .logged))
 
   pub answers : answer (deliver s) (stateIn m os) ≡ pick (eqb (numberOn d w s) 0) (grant (os ++ (s ∷ [])) nothing) (refuse (numberOn d w s))
   unfolding answer numberOn
-  answers = rw (judged-is, full-is) (go (eqb (numberOf (planOf d s)) 0) (isFull w s) refl)
+  answers = rw (judged-is, full-is) (go (eqb (planNumber (planOf d s)) 0) (isFull w s) refl)
     where
-      go : (x f : Bool) → eqb (numberOf (planOf d s)) 0 ≡ x
-          → pick (not x) (refuse (numberOf (planOf d s))) (pick f (refuse 12) (grant (os ++ (s ∷ [])) nothing))
-          ≡ pick (eqb (pick x (pick f 12 0) (numberOf (planOf d s))) 0) (grant (os ++ (s ∷ [])) nothing) (refuse (pick x (pick f 12 0) (numberOf (planOf d s))))
+      go : (x f : Bool) → eqb (planNumber (planOf d s)) 0 ≡ x
+          → pick (not x) (refuse (planNumber (planOf d s))) (pick f (refuse 12) (grant (os ++ (s ∷ [])) nothing))
+          ≡ pick (eqb (pick x (pick f 12 0) (planNumber (planOf d s))) 0) (grant (os ++ (s ∷ [])) nothing) (refuse (pick x (pick f 12 0) (planNumber (planOf d s))))
       go true true e = refl
       go true false e = refl
       go false f e = rw e
 
   pub changes : next (deliver s) (stateIn m os) ≡ pick (eqb (numberOn d w s) 0) (stateIn m (os ++ (s ∷ []))) (stateIn m os)
   unfolding next numberOn
-  changes = rw (judged-is, full-is) (go (eqb (numberOf (planOf d s)) 0) (isFull w s) refl)
+  changes = rw (judged-is, full-is) (go (eqb (planNumber (planOf d s)) 0) (isFull w s) refl)
     where
-      go : (x f : Bool) → eqb (numberOf (planOf d s)) 0 ≡ x
+      go : (x f : Bool) → eqb (planNumber (planOf d s)) 0 ≡ x
           → pick (either (not x) f) (stateIn m os) (stateIn m (os ++ (s ∷ [])))
-          ≡ pick (eqb (pick x (pick f 12 0) (numberOf (planOf d s))) 0) (stateIn m (os ++ (s ∷ []))) (stateIn m os)
+          ≡ pick (eqb (pick x (pick f 12 0) (planNumber (planOf d s))) 0) (stateIn m (os ++ (s ∷ []))) (stateIn m os)
       go true true e = refl
       go true false e = refl
       go false f e = rw e
 
   -- 0: accepted, and not full
-  zero-has : numberOn d w s ≡ 0 → (numberOf (planOf d s) ≡ 0) × (isFull w s ≡ false)
+  zero-has : numberOn d w s ≡ 0 → (planNumber (planOf d s) ≡ 0) × (isFull w s ≡ false)
   unfolding numberOn
-  zero-has = go (eqb (numberOf (planOf d s)) 0) (isFull w s) refl refl
+  zero-has = go (eqb (planNumber (planOf d s)) 0) (isFull w s) refl refl
     where
-      go : (x f : Bool) → eqb (numberOf (planOf d s)) 0 ≡ x → isFull w s ≡ f → pick x (pick f 12 0) (numberOf (planOf d s)) ≡ 0
-          → (numberOf (planOf d s) ≡ 0) × (isFull w s ≡ false)
+      go : (x f : Bool) → eqb (planNumber (planOf d s)) 0 ≡ x → isFull w s ≡ f → pick x (pick f 12 0) (planNumber (planOf d s)) ≡ 0
+          → (planNumber (planOf d s) ≡ 0) × (isFull w s ≡ false)
       go true true e g h = absurd (omega (arith, h))
-      go true false e g h = (eqb-true (numberOf (planOf d s)) 0 e, g)
+      go true false e g h = (eqb-true (planNumber (planOf d s)) 0 e, g)
       go false f e g h = absurd (clash (sym (ap (λ (k : ℕ). eqb k 0) h) ∙ e))
         where
           clash : _≡_ {A = Bool} true false → ⊥
@@ -152,7 +152,7 @@ module _ {m : Memory} {w : JournalExtent} {d : List ℕ} {os : List (List ℕ)} 
           (past-more (i .logged) s (fits .1)))
 
       -- the next order is judged on what this one leaves
-      pub delivery-again : Bytes s → Indexed (withJournal m j') (r .extent) d' (os ++ (s ∷ []))
-      delivery-again bytes =
+      pub delivery-again : Indexed (withJournal m j') (r .extent) d' (os ++ (s ∷ []))
+      delivery-again =
           let x : d' ≡ indexAfter d s = done .index ∙ rw number-zero in
           rw (appended-is, extent-is, x) (indexed-more i s bytes (zero-has number-zero .0) (omega (arith, fits .0)) (fits .1))

@@ -1,158 +1,214 @@
 -- The lookup: what is listed is held and handed out, else 9; 14 after that. Assumes nothing.
 use mathlib.Core.Path.{_≡_, refl, sym, ap, _∙_}
-use mathlib.Core.Bool.{Bool, true, false}
+use mathlib.Core.Bool.{Bool, true, false, not}
 use mathlib.Core.List.{List}
-use mathlib.Core.Option.{Option, none, some}
-use Prim.Native.Nat.{ℕ, _+_, _*_, _-_, _≤_, _<_}
+use mathlib.Core.Option.{none, some}
+use Prim.Native.Nat.{ℕ, _+_, _-_, _≤_, _<_}
 use native.Mathlib.Omega.{arith}
+use lib.Dec.{eqb, leb}
 use lib.ListN.{length}
-use borrow.Author.Tests.{lt-ltb, le-ltb}
+use borrow.Author.Tests.{lt-ltb, le-ltb, eq-eqb}
 use Rattle.wire.specs.Tests.{pick, both}
+use Rattle.wire.specs.Numbers.{numAt}
 use Rattle.wire.specs.Parts.{splice}
-use Rattle.wire.proofs.Tests.{both-left, both-right}
-use Rattle.directory.specs.Directory.{Family, windows, notifications, Directory, directoryOf}
+use Rattle.wire.proofs.Tests.{both-right}
+use Rattle.wire.proofs.Parts.{length-slice}
+use Rattle.order.specs.declared.Row.{Row}
+use Rattle.places.specs.declared.Family.the-variants as family
+use Rattle.places.specs.Memory.{pointerAt, shownOf, shown}
+use Rattle.places.specs.Holder.{cell, icon, numberOf}
+use Rattle.index.specs.Index.{Index}
+use Rattle.index.specs.Slots.{slotOf}
+use Rattle.index.specs.Memory.{indexOf}
+use Rattle.index.proofs.Ways.{sound-long}
+use Rattle.store.specs.Store.{placesIn}
 use Rattle.ids.specs.Ids.{idsIn}
-use Rattle.table.specs.Table.{Table, there, directory, recordAt, pictureAt}
-use Rattle.table.specs.Follow.{Holds}
+use Rattle.body.specs.Bodies.{windowFields, notificationFields, desktopFields, fieldsOk, bodyOk}
+use Rattle.table.specs.Table.{Table}
+use Rattle.table.specs.Memory.{shownIn}
+use Rattle.table.proofs.Rule.{table-has}
+use Rattle.follow.specs.declared.Want.the-variants as want
+use Rattle.follow.specs.Follow.{originsLength, roomFor, heldSlot, heldOrigins, originAt, presentPictures, PicturesHeld, Holds}
+use Rattle.shown.specs.Shown.{Ready}
 use Rattle.journal.specs.declared.JournalExtent.{JournalExtent}
-use Rattle.journal.specs.Limits.{logStart}
+use Rattle.journal.specs.Limits.{logStart, journalLength}
+use Rattle.journal.specs.Journal.{sizeAt}
 use Rattle.journal.specs.State.{run}
 use Rattle.journal.specs.View.{Memory, viewOf}
+use Rattle.journal.specs.Replay.{markedPictures, sincePictures, headIsOk}
 use Rattle.journal.proofs.Logged.{markedIn, logged-view}
 use Rattle.journal.proofs.Indexed.{Indexed, Followed}
 use Rattle.session.specs.declared.Reply.{Reply}
 use Rattle.session.specs.declared.LookupTarget.{LookupTarget}
-use Rattle.session.specs.declared.LookupTarget.the-variants.{Window, Notification, Cell, Desktop, Windows, Notifications}
-use Rattle.session.specs.Calls.{look, nothing, picture, ids, refuse, grant, aPicture, payloadIn, found, answer, next, answerView, nextView}
-use Rattle.session.specs.Outcome.{lookup, handed, layoutSize, payloadBytes, replyOf, answerWithin, outAfter, responseOf, CallOutcome}
-use Rattle.session.specs.Targets.{inCaches, cellNumber, wantOf, listedIn, payloadHeld, validHeld}
-use Rattle.session.proofs.Targets.{cell-inside}
+use Rattle.session.specs.declared.LookupTarget.the-variants.{Window, Notification, Cell, Desktop, Windows, Notifications, Shares}
+use Rattle.session.specs.Calls.{look, nothing, ids, shared, refuse, grant, aPicture, cellNumber, holderOf, payloadIn, found, answer, next, answerView, nextView}
+use Rattle.session.specs.Outcome.{lookup, handed, layoutSize, replyOf, answerWithin, outAfter, responseOf, CallOutcome}
+use Rattle.session.specs.Targets.{wantOf, listedIn, payloadHeld}
+use Rattle.session.specs.Handing.{picturesFor, bytesHeld, validHeld, ReadyFor, HandsOut}
+use Rattle.session.proofs.Targets.{shares-by}
+use Rattle.session.proofs.Handed.{cell-some}
 use Rattle.session.proofs.Outcomes.{answer-in, next-in, refused-in, reply-in, stays}
 
-clash : {A : Type 0} → _≡_ {A = Bool} false true → A
+clash : {A : Type 0} → _≡_ {A = Bool} true false → A
 clash e = let z : _≡_ {A = ℕ} 0 1 = cc in absurd (omega arith)
 
--- ---- what a table lists it has, and nothing else
+abbrev pointer : List ℕ → ℕ → ℕ
+pointer x c = pointerAt x (numberOf (slotOf x) (cell c))
 
-record Some {A : Type 0} (x : Option A) : Type 0 where
-  it : A
-  is : x ≡ some it
+-- a cell that points at none shows nothing
+cell-none : (x : List ℕ) (c : ℕ) → indexOf x .sharing .shares (cell c) (cell c) ≡ false → (pictures : ℕ → List ℕ) → shownIn x pictures (cell c) ≡ none
+unfolding shown shownOf
+cell-none x c e pictures = go (eqb (pointer x c) 0) refl
+  where
+    go : (b : Bool) → eqb (pointer x c) 0 ≡ b → pick b none (some (pictures (pointer x c - 1))) ≡ none
+    go true z = refl
+    go false z =
+        let s : both (not (eqb (pointer x c) 0)) (eqb (pointer x c) (pointer x c)) ≡ false = shares-by x (cell c) (cell c) ∙ e in
+        clash (sym (rw (z, eq-eqb (pointer x c) (pointer x c) refl)) ∙ s)
 
-is-there : {A : Type 0} (x : Option A) → there x ≡ true → Some x
-is-there none e = clash e
-is-there (some x) e = record { it = x; is = refl }
-
-not-there : {A : Type 0} (x : Option A) → there x ≡ false → x ≡ none
-not-there none e = refl
-not-there (some x) e = clash (sym e)
-
-module _ (t : Table) where
-  listed-record : (f : Family) (a b : ℕ) → directory t .listed f a b ≡ true → Some (recordAt t f a b)
-  listed-record f a b e = is-there (recordAt t f a b) (unfold directory in e)
-
-  absent-record : (f : Family) (a b : ℕ) → directory t .listed f a b ≡ false → recordAt t f a b ≡ none
-  absent-record f a b e = not-there (recordAt t f a b) (unfold directory in e)
-
-  filled-cell : (c : ℕ) → directory t .filled c ≡ true → Some (pictureAt t c)
-  filled-cell c e = is-there (pictureAt t c) (unfold directory in e)
-
-  empty-cell : (c : ℕ) → directory t .filled c ≡ false → pictureAt t c ≡ none
-  empty-cell c e = not-there (pictureAt t c) (unfold directory in e)
+fields-of : (rows : List Row) (slot : List ℕ) (x y : ℕ) → bodyOk rows x y slot ≡ true → fieldsOk rows 2 slot ≡ true
+unfolding bodyOk
+fields-of rows slot x y e =
+    both-right (leb (numAt 1 slot 1) y) (fieldsOk rows 2 slot) (both-right (leb (numAt 1 slot 0) x) (both (leb (numAt 1 slot 1) y) (fieldsOk rows 2 slot)) e)
 
 -- ---- on a table
 
-module _ (t : Table) where
+module _ (t : Table) (x m : List ℕ) (marked since : ℕ → List ℕ) (ok : ℕ → Bool) (same : indexOf x ≡ t .index) where
   -- 9
-  absent : (target : LookupTarget) → listedIn target (directory t) ≡ false → payloadIn target t ≡ nothing
-  unfolding payloadIn listedIn
-  absent (Window w) e = rw (absent-record t windows (w .id) 0 e)
-  absent (Notification w n) e = rw (absent-record t notifications (w .id) (n .id) e)
-  absent (Cell cache entry) e = go (inCaches cache entry) e
-    where
-      go : (x : Bool) → both x (directory t .filled (6 * cache + entry)) ≡ false → pick x (aPicture (pictureAt t (6 * cache + entry))) nothing ≡ nothing
-      go false e = refl
-      go true e = rw (empty-cell t (6 * cache + entry) e)
-  absent Desktop e = clash (sym e)
-  absent Windows e = clash (sym e)
-  absent Notifications e = clash (sym e)
-
-  cell-payload : (cache entry : ℕ) (p : List ℕ) → inCaches cache entry ≡ true → pictureAt t (6 * cache + entry) ≡ some p → payloadIn (Cell cache entry) t ≡ picture p
-  unfolding payloadIn
-  cell-payload cache entry p i x = rw (i, x)
+  absent : (target : LookupTarget) → listedIn target (t .index) ≡ false → Holds (wantOf target) t x m marked since ok → payloadIn target t ≡ nothing
+  unfolding payloadIn listedIn wantOf Holds
+  absent (Window w) e h = rw e
+  absent (Notification w n) e h = rw e
+  absent (Cell cache entry) e h =
+      let c = cellNumber cache entry in
+      ap aPicture
+      (h .shows (cell c)
+      ∙ cell-none x c (ap (λ (i : Index). i .sharing .shares (cell c) (cell c)) same ∙ e) (presentPictures marked since (heldOrigins want.Pictures m)))
+  absent Desktop e h = clash e
+  absent Windows e h = clash e
+  absent Notifications e h = clash e
+  absent (Shares g k) e h = rw e
 
   -- what is listed is held
-  record Held (target : LookupTarget) (d m : List ℕ) : Type 0 where
-    payload : payloadIn target t ≡ payloadHeld target d m
+  record Held (target : LookupTarget) : Type 0 where
+    payload : payloadIn target t ≡ payloadHeld target x m (presentPictures marked since (heldOrigins (wantOf target) m))
     valid : validHeld target m ≡ true
 
-  held-in : (target : LookupTarget) (d m : List ℕ) → directoryOf d ≡ directory t → listedIn target (directory t) ≡ true → Holds (wantOf target) t m → Held target d m
+  held-in : (target : LookupTarget) → listedIn target (t .index) ≡ true → Holds (wantOf target) t x m marked since ok → Held target
   unfolding payloadIn listedIn wantOf payloadHeld validHeld Holds
-  held-in (Window w) d m i e h =
-      let x = listed-record t windows (w .id) 0 e in
-      record { payload = rw (x .is, h (x .it) (x .is) .0); valid = h (x .it) (x .is) .1 }
-  held-in (Notification w n) d m i e h =
-      let x = listed-record t notifications (w .id) (n .id) e in
-      record { payload = rw (x .is, h (x .it) (x .is) .0); valid = h (x .it) (x .is) .1 }
-  held-in (Cell cache entry) d m x e h =
-      let i = both-left (inCaches cache entry) (directory t .filled (6 * cache + entry)) e in
-      let x = filled-cell t (6 * cache + entry) (both-right (inCaches cache entry) (directory t .filled (6 * cache + entry)) e) in
-      let n : 6 * cache + entry ≡ cellNumber cache entry = cell-inside cache entry i in
-      let y : pictureAt t (cellNumber cache entry) ≡ some (x .it) = ap (pictureAt t) (sym n) ∙ x .is in
-      record { payload = cell-payload cache entry (x .it) i (x .is) ∙ ap picture (sym (h (x .it) y .0)); valid = h (x .it) y .1 }
-  held-in Desktop d m i e h = record { payload = rw (h .0); valid = h .1 }
-  held-in Windows d m i e h = record { payload = ap (λ (x : Directory). ids windows (idsIn x windows)) (sym i); valid = refl }
-  held-in Notifications d m i e h = record { payload = ap (λ (x : Directory). ids notifications (idsIn x notifications)) (sym i); valid = refl }
+  held-in (Window w) e h =
+      record {
+        payload = rw (e, h .0 .fields e, h .1 .shows (icon family.Windows (w .id) 0 0), h .1 .shows (icon family.Windows (w .id) 0 1));
+        valid = fields-of windowFields (heldSlot m) 0 0 (h .0 .ok e);
+      }
+  held-in (Notification w n) e h =
+      record {
+        payload = rw (e, h .0 .fields e, h .1 .shows (icon family.Notifications (w .id) (n .id) 0));
+        valid = fields-of notificationFields (heldSlot m) 0 0 (h .0 .ok e);
+      }
+  held-in (Cell cache entry) e h = record { payload = ap aPicture (h .shows (cell (cellNumber cache entry))); valid = refl }
+  held-in Desktop e h = record { payload = rw (h .0); valid = fields-of desktopFields m 1 1 (h .1) }
+  held-in Windows e h = record { payload = ap (λ (i : Index). ids family.Windows (idsIn i family.Windows)) (sym same); valid = refl }
+  held-in Notifications e h = record { payload = ap (λ (i : Index). ids family.Notifications (idsIn i family.Notifications)) (sym same); valid = refl }
+  held-in (Shares g k) e h = record { payload = rw e (ap (λ (i : Index). shared (i .sharing .shares (holderOf g) (holderOf k))) (sym same)); valid = refl }
+
+payload-found : (log : List (List ℕ)) (target : LookupTarget) (x m : List ℕ) (pictures : ℕ → List ℕ) → listedIn target (indexOf x) ≡ true
+    → found log (payloadHeld target x m pictures) ≡ grant log (payloadHeld target x m pictures)
+unfolding payloadHeld listedIn
+payload-found log (Window w) x m pictures e = refl
+payload-found log (Notification w n) x m pictures e = refl
+payload-found log (Cell cache entry) x m pictures e = rw (cell-some x (cellNumber cache entry) e pictures)
+payload-found log Desktop x m pictures e = refl
+payload-found log Windows x m pictures e = refl
+payload-found log Notifications x m pictures e = refl
+payload-found log (Shares g k) x m pictures e = refl
 
 -- ---- on a memory that meets the rule
 
-payload-found : (log : List (List ℕ)) (target : LookupTarget) (d m : List ℕ) → found log (payloadHeld target d m) ≡ grant log (payloadHeld target d m)
-unfolding payloadHeld
-payload-found log (Window w) d m = refl
-payload-found log (Notification w n) d m = refl
-payload-found log (Cell cache entry) d m = refl
-payload-found log Desktop d m = refl
-payload-found log Windows d m = refl
-payload-found log Notifications d m = refl
+module _ {m : Memory} {w : JournalExtent} {x : List ℕ} {os : List (List ℕ)} (i : Indexed m w x os) where
+  -- pictures that are held can be handed out
+  pictures-ready : (origins : List ℕ) → length origins ≡ originsLength
+      → PicturesHeld (run (markedIn m) os) x origins (markedPictures m) (sincePictures m) (headIsOk m)
+      → ((p : ℕ) → (originAt origins p ≡ 0 → ⊥) → originAt origins p + sizeAt (m .journal) (originAt origins p) ≤ journalLength)
+      → Ready x (m .bodies) (m .store) (m .journal) origins
+  pictures-ready origins many h within =
+      record {
+        sound = i .sound;
+        room = i .logged .long .bodies;
+        places = omega (arith, i .places, table-has (m .index) (m .bodies) (placesIn (m .store)) (i .logged .sound) .lends);
+        long = i .logged .long .journal;
+        many = many;
+        heads = h .heads;
+        within = within;
+      }
 
-module _ {m : Memory} {w : JournalExtent} {d : List ℕ} {os : List (List ℕ)} (i : Indexed m w d os) (target : LookupTarget) {b : Bool}
-    (says : b ≡ listedIn target (directoryOf d)) (out : List ℕ) where
+  ready-for : (target : LookupTarget) {held : List ℕ} → length held ≡ roomFor (wantOf target) → Followed (wantOf target) m x os held
+      → ReadyFor target x (m .bodies) (m .store) (m .journal) held
+  unfolding wantOf ReadyFor Holds
+  ready-for (Window w) {held = held} n f = pictures-ready (heldOrigins (want.Window w) held) (length-slice held 916 originsLength (omega (arith, n))) (f .holds .1) (f .origins)
+  ready-for (Notification w k) {held = held} n f =
+      pictures-ready (heldOrigins (want.Notification w k) held) (length-slice held 916 originsLength (omega (arith, n))) (f .holds .1) (f .origins)
+  ready-for (Cell cache entry) {held = held} n f = pictures-ready (heldOrigins want.Pictures held) (length-slice held 0 originsLength (omega (arith, n))) (f .holds) (f .origins)
+  ready-for Desktop n f = tt
+  ready-for Windows n f = tt
+  ready-for Notifications n f = tt
+  ready-for (Shares g k) n f = tt
+
+module _ {m : Memory} {w : JournalExtent} {x : List ℕ} {os : List (List ℕ)} (i : Indexed m w x os) (target : LookupTarget) {b : Bool}
+    (says : b ≡ listedIn target (indexOf x)) (out : List ℕ) {held : List ℕ} (holds : Followed (wantOf target) m x os held) where
   abbrev table : Table
   table = run (markedIn m) os
 
-  listed-is : listedIn target (directory table) ≡ b
-  listed-is = ap (listedIn target) (sym (i .directory)) ∙ sym says
+  listed-is : listedIn target (table .index) ≡ b
+  listed-is = ap (listedIn target) (sym (i .index)) ∙ sym says
 
   -- 9
   pub look-absent : {r : Reply} → b ≡ false → r ≡ replyOf (refuse 9) → CallOutcome (lookup target out) m (handed r out) m
   unfolding answer next
-  look-absent e f = refused-in (i .logged) (lookup target out) 9 (λ z. omega (arith, z)) (rw (absent table target (listed-is ∙ e))) refl f
+  look-absent e f =
+      refused-in (i .logged) (lookup target out) 9 (λ z. omega (arith, z))
+      (rw (absent table x held (markedPictures m) (sincePictures m) (headIsOk m) (i .index) target (listed-is ∙ e) (holds .holds))) refl f
 
-  module _ (there : b ≡ true) {held : List ℕ} (holds : Followed (wantOf target) m os held) where
-    has : Held table target d held
-    has = held-in table target d held (i .directory) (listed-is ∙ there) (holds .holds)
+  module _ (there : b ≡ true) where
+    abbrev pictures : ℕ → List ℕ
+    pictures = picturesFor target (m .bodies) (m .store) (m .journal) held
 
-    pub look-valid : validHeld target held ≡ true
-    look-valid = has .valid
+    has : Held table x held (markedPictures m) (sincePictures m) (headIsOk m) (i .index) target
+    has = held-in table x held (markedPictures m) (sincePictures m) (headIsOk m) (i .index) target (listed-is ∙ there) (holds .holds)
 
-    found-is : answerView (look target) (viewOf m) ≡ grant os (payloadHeld target d held)
+    found-is : answerView (look target) (viewOf m) ≡ grant os (payloadHeld target x held pictures)
     unfolding answer
-    found-is = answer-in (i .logged) (look target) ∙ rw (has .payload) (payload-found os target d held)
+    found-is = answer-in (i .logged) (look target) ∙ rw (has .payload) (payload-found os target x held pictures (sym says ∙ there))
 
     same-view : nextView (look target) (viewOf m) ≡ viewOf m
     unfolding next
     same-view = next-in (i .logged) (look target) ∙ sym (logged-view (i .logged))
 
-    -- 14
-    pub look-small : {r : Reply} {size : ℕ} → size ≡ layoutSize target → length out < size → r ≡ replyOf (refuse 14) → CallOutcome (lookup target out) m (handed r out) m
-    unfolding responseOf answerWithin outAfter
-    look-small is h e =
-        let x = lt-ltb (length out) (layoutSize target) (omega (arith, is)) in
-        stays (lookup target out) m found-is same-view (rw (e, x))
+    module _ {size : ℕ} (is : size ≡ layoutSize target) where
+      -- 14
+      pub look-small : {r : Reply} → length out < size → r ≡ replyOf (refuse 14) → CallOutcome (lookup target out) m (handed r out) m
+      unfolding responseOf answerWithin outAfter
+      look-small h e =
+          let l = lt-ltb (length out) (layoutSize target) (omega (arith, is)) in
+          stays (lookup target out) m found-is same-view (rw (e, l))
 
-    pub look-found : {r : Reply} {size : ℕ} → size ≡ layoutSize target → size ≤ length out → {out' : List ℕ} → out' ≡ splice out 0 (payloadBytes target (payloadHeld target d held))
-        → r ≡ record { number = 0; count = w .count; bytes = w .end - logStart } → CallOutcome (lookup target out) m (handed r out') m
-    unfolding responseOf answerWithin outAfter
-    look-found is h f e =
-        let x = le-ltb (length out) (layoutSize target) (omega (arith, is)) in
-        let g = e ∙ reply-in (i .logged) (payloadHeld target d held) in
-        stays (lookup target out) m found-is same-view (rw (g, f, x))
+      module _ (fits : size ≤ length out) where
+        pub look-found : {r : Reply} {out' : List ℕ} → out' ≡ splice out 0 (bytesHeld target x (m .bodies) (m .store) (m .journal) held)
+            → r ≡ record { number = 0; count = w .count; bytes = w .end - logStart } → CallOutcome (lookup target out) m (handed r out') m
+        unfolding responseOf answerWithin outAfter bytesHeld
+        look-found f e =
+            let l = le-ltb (length out) (layoutSize target) (omega (arith, is)) in
+            let g = e ∙ reply-in (i .logged) (payloadHeld target x held pictures) in
+            stays (lookup target out) m found-is same-view (rw (g, f, l))
+
+        -- what handing out asks
+        pub look-hands : length held ≡ roomFor (wantOf target) → HandsOut target x (m .bodies) (m .store) (m .journal) held out
+        look-hands room =
+            record {
+              room = omega (arith, is);
+              long = sound-long x (i .sound);
+              size = room;
+              listed = sym says ∙ there;
+              valid = has .valid;
+              ready = ready-for i target room holds;
+            }

@@ -1,7 +1,10 @@
 pub mod Outcomes
 pub mod Unpacks
+pub mod Lent
 pub mod Deliveries
 pub mod Changes
-pub mod Targets
-pub mod Found
 pub mod Recorded
+pub mod Targets
+pub mod Handed
+pub mod Found
+pub mod HolderKinds

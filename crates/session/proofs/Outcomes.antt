@@ -6,19 +6,21 @@ use Prim.Native.Nat.{ℕ, _-_}
 use native.Mathlib.Omega.{arith}
 use borrow.Author.Tests.{ne-eqb}
 use Rattle.wire.specs.Parts.{splice}
+use Rattle.places.specs.Memory.{placesOf}
+use Rattle.table.proofs.Past.{same-store}
 use Rattle.journal.specs.declared.JournalExtent.{JournalExtent}
 use Rattle.journal.specs.Limits.{logStart}
 use Rattle.journal.specs.State.{State}
 use Rattle.journal.specs.View.{Memory, Past, tooShort, wellFormed, meetsRule, short, unformed, formed, viewOf}
 use Rattle.journal.proofs.Logged.{Logged, markedIn, logged-view, logged-bytes}
 use Rattle.session.specs.declared.Reply.{Reply}
-use Rattle.session.specs.Calls.{Call, Payload, nothing, Answer, refuse, grant, isReset, answer, next, answerView, nextView}
+use Rattle.session.specs.Calls.{Call, reset, deliver, checkpoint, undo, look, writeRecord, Payload, nothing, Answer, refuse, grant, isReset, answer, next, answerView, nextView}
 use Rattle.session.specs.Outcome.{Request, plain, Response, replied, handed, sizeFor, bytesFor, replyOf, answerWithin, outAfter, responseOf, CallOutcome}
 
 -- ---- a call that leaves the memory as it is
 
 pub same-past : (m : Memory) → Past m m
-same-past m = record { dir = refl; bodies = refl; cells = refl; journal = refl }
+same-past m = record { index = refl; bodies = refl; store = same-store (placesOf (m .index)) (m .store); journal = refl }
 
 pub stays : (q : Request) (m : Memory) {a : Answer} {r : Response} → answerView (q .call) (viewOf m) ≡ a → nextView (q .call) (viewOf m) ≡ viewOf m
     → r ≡ responseOf q a → CallOutcome q m r m
@@ -35,13 +37,23 @@ pub refused-short : (q : Request) (m : Memory) {r : Reply} → tooShort m ≡ tr
 unfolding viewOf answerView nextView
 refused-short q m t e = refused q m 1 (λ z. omega (arith, z)) (rw t) (rw t) e
 
+no : {A : Type 0} → _≡_ {A = Bool} true false → A
+no e = let z : _≡_ {A = ℕ} 0 1 = cc in absurd (omega arith)
+
+-- memory that is not well formed stays so under any call but emptying
+unformed-stays : (c : Call) → isReset c ≡ false → nextView c unformed ≡ unformed
+unfolding nextView
+unformed-stays (reset n) e = no e
+unformed-stays (deliver o) e = refl
+unformed-stays checkpoint e = refl
+unformed-stays (undo k) e = refl
+unformed-stays (look target) e = refl
+unformed-stays writeRecord e = refl
+
 -- 1: the rule is not met
 pub refused-unmet : (q : Request) (m : Memory) {r : Reply} → isReset (q .call) ≡ false → meetsRule m ≡ false → r ≡ replyOf (refuse 1) → CallOutcome q m (handed r (q .out)) m
 refused-unmet q m {r = r} c u e = go (tooShort m) (wellFormed m) refl refl
   where
-    no : {A : Type 0} → _≡_ {A = Bool} true false → A
-    no e = let z : _≡_ {A = ℕ} 0 1 = cc in absurd (omega arith)
-
     unformed-is : tooShort m ≡ false → wellFormed m ≡ false → viewOf m ≡ unformed
     unformed-is t w = unfold viewOf in rw (t, w)
 
@@ -49,7 +61,7 @@ refused-unmet q m {r = r} c u e = go (tooShort m) (wellFormed m) refl refl
     go true b x y = refused-short q m x e
     go false false x y =
         let v = unformed-is x y in
-        refused q m 1 (λ z. omega (arith, z)) (unfold answerView in rw (v, c)) (unfold nextView in rw (v, c)) e
+        refused q m 1 (λ z. omega (arith, z)) (unfold answerView in rw (v, c)) (rw v (unformed-stays (q .call) c)) e
     go false true x y = no (sym (rw (x, y)) ∙ u)
 
 -- ---- on a memory that meets the rule

@@ -1,34 +1,38 @@
--- A lookup's target by its kind: what is followed for it, whether an index lists it, what handing it out asks. Assumes nothing.
-use mathlib.Core.Path.{_≡_, refl, sym, ap, subst, _∙_}
-use mathlib.Core.Bool.{Bool, true, false}
+-- A lookup's target by its kind: what is followed for it, whether an index lists it; and holders by their numbers. Assumes nothing.
+use mathlib.Core.Path.{_≡_, refl, sym, ap, _∙_}
+use mathlib.Core.Bool.{Bool, true, false, not}
 use mathlib.Core.List.{List}
-use Prim.Native.Nat.{ℕ, _+_, _*_, _≤_}
+use Prim.Native.Nat.{ℕ, _+_, _*_, _≤_, _<_}
 use native.Mathlib.Omega.{arith}
-use lib.Dec.{leb}
-use lib.ListN.{length}
-use Rattle.wire.specs.Tests.{pick, both}
-use Rattle.wire.specs.Numbers.{numAt}
-use Rattle.wire.specs.Parts.{splice}
-use Rattle.wire.proofs.Tests.{both-right}
-use Rattle.order.specs.declared.Row.{Row}
+use lib.Dec.{eqb}
+use lib.ListN.{getD}
+use borrow.Author.Tests.{lt-ltb, le-ltb}
+use Rattle.wire.specs.Tests.{both}
 use Rattle.protocol.specs.declared.WindowId.{WindowId}
 use Rattle.protocol.specs.declared.NotifyIconId.{NotifyIconId}
-use Rattle.directory.specs.declared.Found.{Found}
-use Rattle.directory.specs.declared.Searched.{Searched}
-use Rattle.directory.specs.Slots.{isAt, firstFrom, searchFrom, filledAt}
-use Rattle.directory.proofs.Search.{search-found}
-use Rattle.directory.specs.Directory.{directoryOf}
-use Rattle.ids.specs.Ids.{listSize}
-use Rattle.body.specs.Bodies.{windowFields, notificationFields, desktopFields, bodyOk, fieldsOk}
-use Rattle.body.specs.Stores.{roomAll}
-use Rattle.cache.specs.Cells.{cellOk}
-use Rattle.table.specs.declared.Want.{Want}
-use Rattle.table.specs.declared.Want.the-variants as want
-use Rattle.table.specs.Follow.{roomFor}
+use Rattle.places.specs.declared.Family.{Family}
+use Rattle.places.specs.declared.Family.the-variants as family
+use Rattle.places.specs.declared.Found.{Found}
+use Rattle.places.specs.declared.Found.the-variants.{At}
+use Rattle.places.specs.Counts.{onFound}
+use Rattle.places.specs.Sizes.{cellCount, holderCount}
+use Rattle.places.specs.Memory.{pointerAt, sharesOf, sharingOf, decode}
+use Rattle.places.specs.Keyed.{keyed}
+use Rattle.places.specs.Holder.{Holder, cell, icon, iconNumber, numberOf}
+use Rattle.index.specs.declared.Searched.{Searched}
+use Rattle.index.specs.Families.{start, capacity}
+use Rattle.index.specs.Slots.{isAt, slotOf, searchOf}
+use Rattle.index.specs.Memory.{indexOf}
+use Rattle.index.proofs.Ways.{found-is}
+use Rattle.index.proofs.Soundness.{found-within}
+use Rattle.follow.specs.declared.Want.{Want}
+use Rattle.follow.specs.Follow.{roomFor}
+use Rattle.session.specs.declared.PictureHolder.{PictureHolder}
+use Rattle.session.specs.declared.PictureHolder.the-variants as holder
 use Rattle.session.specs.declared.LookupTarget.{LookupTarget}
-use Rattle.session.specs.declared.LookupTarget.the-variants.{Window, Notification, Cell, Desktop, Windows, Notifications}
-use Rattle.session.specs.Outcome.{layoutSize, payloadBytes}
-use Rattle.session.specs.Targets.{inCaches, cellNumber, isFound, wantOf, listedIn, payloadHeld, validHeld}
+use Rattle.session.specs.declared.LookupTarget.the-variants.{Window, Notification, Cell, Desktop, Windows, Notifications, Shares}
+use Rattle.session.specs.Calls.{inCaches, cellNumber, holderOf}
+use Rattle.session.specs.Targets.{wantOf, listedIn}
 
 -- ---- the cell
 
@@ -43,95 +47,118 @@ cell-inside cache entry e = rw e
 pub wanted-as : {target v : LookupTarget} {x : Want} → target ≡ v → x ≡ wantOf v → x ≡ wantOf target
 wanted-as e f = f ∙ ap wantOf (sym e)
 
-pub cell-wanted : (cache entry : ℕ) {k : ℕ} → k ≡ cellNumber cache entry → want.Cell k ≡ wantOf (Cell cache entry)
-unfolding wantOf
-cell-wanted cache entry e = ap want.Cell e
-
 pub room-as : {target v : LookupTarget} {n : ℕ} → target ≡ v → n ≡ roomFor (wantOf v) → n ≡ roomFor (wantOf target)
 room-as e f = f ∙ ap (λ (t : LookupTarget). roomFor (wantOf t)) (sym e)
 
--- ---- whether it is listed
+-- ---- holders by their numbers
 
-pub found-is : (test : ℕ → Bool) (first count : ℕ) {s : Searched} {h : Found} → s ≡ searchFrom count first test → s .found ≡ h → isFound h ≡ isFound (firstFrom count first test)
-found-is test first count e h = ap isFound (sym h ∙ search-found test first count e)
+module _ (d : List ℕ) where
+  module _ (f : Family) (a b : ℕ) {s : Searched} {h : Found} (searched : s ≡ searchOf d f a b) (found : s .found ≡ h) where
+    slot-is : slotOf d f a b ≡ h
+    slot-is = found-is (isAt d a b) (start f) (capacity f) searched found
 
-pub listed-as : (d : List ℕ) {target v : LookupTarget} {r : Bool} → target ≡ v → r ≡ listedIn v (directoryOf d) → r ≡ listedIn target (directoryOf d)
-listed-as d e f = f ∙ ap (λ (t : LookupTarget). listedIn t (directoryOf d)) (sym e)
+    pub listed-found : onFound h false (λ i. true) ≡ indexOf d .listed f a b
+    unfolding indexOf
+    listed-found = ap (λ (r : Found). onFound r false (λ i. true)) (sym slot-is)
 
-pub window-listed : (d : List ℕ) (w : WindowId) {r : Bool} → r ≡ isFound (firstFrom 32 0 (isAt d (w .id) 0)) → r ≡ listedIn (Window w) (directoryOf d)
-unfolding listedIn directoryOf
-window-listed d w e = e
+    pub icon-found : (w : ℕ) → w < 3 → onFound h holderCount (λ i. iconNumber i w) ≡ numberOf (slotOf d) (icon f a b w)
+    unfolding numberOf
+    icon-found w l = rw (lt-ltb w 3 l) (ap (λ (r : Found). onFound r holderCount (λ i. iconNumber i w)) (sym slot-is))
 
-pub notification-listed : (d : List ℕ) (w : WindowId) (n : NotifyIconId) {r : Bool} → r ≡ isFound (firstFrom 16 32 (isAt d (w .id) (n .id)))
-    → r ≡ listedIn (Notification w n) (directoryOf d)
-unfolding listedIn directoryOf
-notification-listed d w n e = e
+  pub slot-below : (f : Family) (a b i : ℕ) → slotOf d f a b ≡ At i → i < 48
+  slot-below family.Windows a b i e = omega (arith, found-within family.Windows d a b i e .high)
+  slot-below family.Notifications a b i e = omega (arith, found-within family.Notifications d a b i e .high)
 
-pub cell-listed : (d : List ℕ) (cache entry : ℕ) {k : ℕ} {r : Bool} → k ≡ cellNumber cache entry → r ≡ filledAt d k → r ≡ listedIn (Cell cache entry) (directoryOf d)
-unfolding listedIn directoryOf
-cell-listed d cache entry is e = e ∙ ap (filledAt d) is ∙ go (inCaches cache entry)
-  where
-    none : filledAt d 12 ≡ false
-    none = unfold filledAt in refl
+  pub icon-below : (f : Family) (a b : ℕ) {s : Searched} {i : ℕ} → s ≡ searchOf d f a b → s .found ≡ At i → i < 48
+  icon-below f a b {i = i} e g = slot-below f a b i (slot-is f a b e g)
 
-    go : (x : Bool) → filledAt d (pick x (6 * cache + entry) 12) ≡ both x (filledAt d (6 * cache + entry))
-    go true = refl
-    go false = none
+  cell-kept : (c : ℕ) → c < cellCount → c ≡ numberOf (slotOf d) (cell c)
+  unfolding numberOf
+  cell-kept c l = rw (lt-ltb c cellCount l)
 
-pub desktop-listed : (d : List ℕ) → true ≡ listedIn Desktop (directoryOf d)
-unfolding listedIn
-desktop-listed d = refl
+  cell-unkept : (c : ℕ) → cellCount ≤ c → holderCount ≡ numberOf (slotOf d) (cell c)
+  unfolding numberOf
+  cell-unkept c l = rw (le-ltb c cellCount l)
 
-pub windows-listed : (d : List ℕ) → true ≡ listedIn Windows (directoryOf d)
-unfolding listedIn
-windows-listed d = refl
+  -- the number of a cell that the code made
+  module _ (cache entry : ℕ) {k : ℕ} (is : k ≡ cellNumber cache entry) where
+    pub cell-number : k < cellCount → k ≡ numberOf (slotOf d) (holderOf (holder.Cell cache entry))
+    unfolding holderOf
+    cell-number l = is ∙ cell-kept (cellNumber cache entry) (omega (arith, l, is))
 
-pub notifications-listed : (d : List ℕ) → true ≡ listedIn Notifications (directoryOf d)
-unfolding listedIn
-notifications-listed d = refl
+    pub no-cell-number : cellCount ≤ k → holderCount ≡ numberOf (slotOf d) (holderOf (holder.Cell cache entry))
+    unfolding holderOf
+    no-cell-number l = cell-unkept (cellNumber cache entry) (omega (arith, l, is))
 
--- ---- handing it out
+  pub small-number : (w : WindowId) {n : ℕ} → n ≡ numberOf (slotOf d) (icon family.Windows (w .id) 0 0) → n ≡ numberOf (slotOf d) (holderOf (holder.Small w))
+  unfolding holderOf
+  small-number w e = e
 
-module _ (out m : List ℕ) where
-  -- what it asks
-  pub record Hands (target : LookupTarget) : Type 0 where
-    pub room : layoutSize target ≤ length out
-    pub size : length m ≡ roomFor (wantOf target)
-    pub valid : validHeld target m ≡ true
+  pub big-number : (w : WindowId) {n : ℕ} → n ≡ numberOf (slotOf d) (icon family.Windows (w .id) 0 1) → n ≡ numberOf (slotOf d) (holderOf (holder.Big w))
+  unfolding holderOf
+  big-number w e = e
 
-  pub hands-as : {target v : LookupTarget} → target ≡ v → (layoutSize target ≤ length out) × (length m ≡ roomFor (wantOf target)) × (validHeld target m ≡ true) → Hands v
-  hands-as e h = subst Hands e (record { room = h .0; size = h .1; valid = h .2 })
+  pub notification-number : (w : WindowId) (i : NotifyIconId) {n : ℕ} → n ≡ numberOf (slotOf d) (icon family.Notifications (w .id) (i .id) 0)
+      → n ≡ numberOf (slotOf d) (holderOf (holder.Notification w i))
+  unfolding holderOf
+  notification-number w i e = e
 
-  fields-of : (rows : List Row) (x y : ℕ) → bodyOk rows x y m ≡ true → fieldsOk rows 2 m ≡ true
-  unfolding bodyOk
-  fields-of rows x y e =
-      both-right (leb (numAt 1 m 1) y) (fieldsOk rows 2 m) (both-right (leb (numAt 1 m 0) x) (both (leb (numAt 1 m 1) y) (fieldsOk rows 2 m)) e)
+  pub holder-as : {g v : PictureHolder} {n : ℕ} → g ≡ v → n ≡ numberOf (slotOf d) (holderOf v) → n ≡ numberOf (slotOf d) (holderOf g)
+  holder-as e f = f ∙ ap (λ (g : PictureHolder). numberOf (slotOf d) (holderOf g)) (sym e)
 
-  pub window-asks : {w : WindowId} → Hands (Window w)
-      → ((1 ≤ 15) × (15 ≤ 24) × (2 + roomAll windowFields ≤ length out) × (2 + roomAll windowFields ≤ length m)) × (fieldsOk windowFields 2 m ≡ true)
-  unfolding roomAll wantOf validHeld
-  window-asks h = ((omega arith, omega arith, omega (arith, h .room), omega (arith, h .size)), fields-of windowFields 12 12 (h .valid))
+  -- ---- pointers
 
-  pub notification-asks : {w : WindowId} {n : NotifyIconId} → Hands (Notification w n)
-      → ((16 ≤ 22) × (22 ≤ 24) × (2 + roomAll notificationFields ≤ length out) × (2 + roomAll notificationFields ≤ length m)) × (fieldsOk notificationFields 2 m ≡ true)
-  unfolding roomAll wantOf validHeld
-  notification-asks h = ((omega arith, omega arith, omega (arith, h .room), omega (arith, h .size)), fields-of notificationFields 12 0 (h .valid))
+  pub no-pointer : (h : ℕ) → holderCount ≤ h → 0 ≡ pointerAt d h
+  unfolding pointerAt
+  no-pointer h l = rw (le-ltb h holderCount l)
 
-  pub picture-asks : {cache entry : ℕ} → Hands (Cell cache entry) → (4235 ≤ length out) × (4240 ≤ length m) × (cellOk m ≡ true)
-  unfolding wantOf validHeld
-  picture-asks h = (h .room, omega (arith, h .size), h .valid)
+  pub pointer-read : (h : ℕ) → h < holderCount → getD d (h + 1) 0 ≡ pointerAt d h
+  unfolding pointerAt
+  pointer-read h l = rw (lt-ltb h holderCount l)
 
-  pub desktop-asks : Hands Desktop
-      → ((22 ≤ 24) × (24 ≤ 24) × (2 + roomAll desktopFields ≤ length out) × (2 + roomAll desktopFields ≤ length m)) × (fieldsOk desktopFields 2 m ≡ true)
-  unfolding roomAll wantOf validHeld
-  desktop-asks h = ((omega arith, omega arith, omega (arith, h .room), omega (arith, h .size)), fields-of desktopFields 1 1 (h .valid))
+  pub shares-by : (g k : Holder) → sharesOf (pointerAt d) (numberOf (slotOf d) g) (numberOf (slotOf d) k) ≡ indexOf d .sharing .shares g k
+  unfolding indexOf keyed decode sharingOf
+  shares-by g k = refl
 
-  pub windows-asks : Hands Windows → listSize ≤ length out
-  windows-asks h = h .room
+  pub shares-read : (g k : PictureHolder) {m n p q : ℕ} → m ≡ numberOf (slotOf d) (holderOf g) → p ≡ pointerAt d m → n ≡ numberOf (slotOf d) (holderOf k)
+      → q ≡ pointerAt d n → both (not (eqb p 0)) (eqb p q) ≡ indexOf d .sharing .shares (holderOf g) (holderOf k)
+  shares-read g k m p n q =
+      let x = p ∙ ap (pointerAt d) m in
+      let y = q ∙ ap (pointerAt d) n in
+      rw (x, y) (shares-by (holderOf g) (holderOf k))
 
-  pub notifications-asks : Hands Notifications → listSize ≤ length out
-  notifications-asks h = h .room
+  -- ---- whether a target is listed
 
-  pub handed-as : {target v : LookupTarget} (d : List ℕ) {out' : List ℕ} → target ≡ v → out' ≡ splice out 0 (payloadBytes v (payloadHeld v d m))
-      → out' ≡ splice out 0 (payloadBytes target (payloadHeld target d m))
-  handed-as d e f = f ∙ ap (λ (t : LookupTarget). splice out 0 (payloadBytes t (payloadHeld t d m))) (sym e)
+  pub listed-as : {target v : LookupTarget} {r : Bool} → target ≡ v → r ≡ listedIn v (indexOf d) → r ≡ listedIn target (indexOf d)
+  listed-as e f = f ∙ ap (λ (t : LookupTarget). listedIn t (indexOf d)) (sym e)
+
+  pub window-listed : (w : WindowId) {r : Bool} → r ≡ indexOf d .listed family.Windows (w .id) 0 → r ≡ listedIn (Window w) (indexOf d)
+  unfolding listedIn
+  window-listed w e = e
+
+  pub notification-listed : (w : WindowId) (n : NotifyIconId) {r : Bool} → r ≡ indexOf d .listed family.Notifications (w .id) (n .id)
+      → r ≡ listedIn (Notification w n) (indexOf d)
+  unfolding listedIn
+  notification-listed w n e = e
+
+  pub cell-listed : (cache entry : ℕ) {r : Bool} → r ≡ indexOf d .sharing .shares (holderOf (holder.Cell cache entry)) (holderOf (holder.Cell cache entry))
+      → r ≡ listedIn (Cell cache entry) (indexOf d)
+  unfolding listedIn holderOf
+  cell-listed cache entry e = e
+
+  pub desktop-listed : true ≡ listedIn Desktop (indexOf d)
+  unfolding listedIn
+  desktop-listed = refl
+
+  pub windows-listed : true ≡ listedIn Windows (indexOf d)
+  unfolding listedIn
+  windows-listed = refl
+
+  pub notifications-listed : true ≡ listedIn Notifications (indexOf d)
+  unfolding listedIn
+  notifications-listed = refl
+
+  pub shares-listed : (g k : PictureHolder) {r t : Bool} → r ≡ indexOf d .sharing .shares (holderOf g) (holderOf g) → t ≡ indexOf d .sharing .shares (holderOf k) (holderOf k)
+      → both r t ≡ listedIn (Shares g k) (indexOf d)
+  unfolding listedIn
+  shares-listed g k e f = rw (e, f)

@@ -9,8 +9,8 @@ use lib.ListN.{length}
 use Rattle.wire.specs.Tests.{pick, either}
 use Rattle.wire.specs.Numbers.{bytesOf}
 use Rattle.wire.specs.Parts.{splice}
-use Rattle.directory.specs.Plans.{planOf, numberOf}
-use Rattle.directory.specs.Sound.{soundDirectory}
+use Rattle.index.specs.Plans.{planOf, planNumber}
+use Rattle.index.specs.Sound.{soundIndex}
 use Rattle.journal.specs.declared.JournalExtent.{JournalExtent}
 use Rattle.journal.specs.Limits.{mostOrders, mostBytes, logStart, journalLength}
 use Rattle.journal.specs.Replay.{indexAfter}
@@ -18,7 +18,7 @@ use Rattle.session.specs.declared.Delivery.{Delivery}
 
 -- what a validation established
 pub record Ready (d j : List ℕ) (w : JournalExtent) : Type 0 where
-  pub sound : soundDirectory d ≡ true
+  pub sound : soundIndex d ≡ true
   pub few : w .count ≤ mostOrders
   pub low : logStart ≤ w .end
   pub high : w .end ≤ journalLength
@@ -28,9 +28,9 @@ pub record Ready (d j : List ℕ) (w : JournalExtent) : Type 0 where
 abbrev pub isFull : JournalExtent → List ℕ → Bool
 isFull w s = either (ltb mostOrders (w .count + 1)) (ltb mostBytes (w .end - logStart + length s))
 
--- the first of the numbers 2 to 12 that applies
+-- the first of the numbers 2 to 12 and 17 that applies
 unfoldable pub numberOn : List ℕ → JournalExtent → List ℕ → ℕ
-numberOn d w s = pick (eqb (numberOf (planOf d s)) 0) (pick (isFull w s) 12 0) (numberOf (planOf d s))
+numberOn d w s = pick (eqb (planNumber (planOf d s)) 0) (pick (isFull w s) 12 0) (planNumber (planOf d s))
 
 abbrev pub appended : List ℕ → JournalExtent → List ℕ → List ℕ
 appended journal w s = splice (splice journal (w .end) s) 0 (bytesOf 2 (w .count + 1))

@@ -1,20 +1,24 @@
 -- What every entry point states: a call with the output memory lent to it, its reply, and both memories after it. Assumes nothing.
-use Prim.Native.Nat.{ℕ}
+use Prim.Native.Nat.{ℕ, _+_}
 use mathlib.Core.Path.{_≡_}
-use mathlib.Core.List.{List, []}
+use mathlib.Core.List.{List, [], _∷_, _++_, map, flatten}
+use mathlib.Core.Option.{Option}
 use lib.Dec.{eqb, ltb}
 use lib.ListN.{length}
 use Rattle.wire.specs.Tests.{pick, both}
 use Rattle.wire.specs.Parts.{splice}
 use Rattle.ids.specs.Ids.{listSize, listBytes}
-use Rattle.body.specs.Bodies.{Body, windowFields, notificationFields, desktopFields}
-use Rattle.layout.specs.Layouts.{recordBytes, pictureBytes}
+use Rattle.body.specs.Bodies.{desktopFields}
+use Rattle.places.specs.declared.Family.{Family}
+use Rattle.table.specs.Table.{fieldRows}
+use Rattle.layout.specs.Layouts.{windowSize, notificationSize, desktopSize, pictureSize, recordBytes, pictureBytes}
+use Rattle.shown.specs.Shown.{isThere, shownBytes}
 use Rattle.journal.specs.View.{Memory, Past, viewOf}
 use Rattle.record.specs.Layout.{recordOf, mostRecord}
 use Rattle.session.specs.declared.Reply.{Reply}
 use Rattle.session.specs.declared.LookupTarget.{LookupTarget}
-use Rattle.session.specs.declared.LookupTarget.the-variants.{Window, Notification, Cell, Desktop, Windows, Notifications}
-use Rattle.session.specs.Calls.{Call, reset, deliver, checkpoint, undo, look, writeRecord, Payload, nothing, body, picture, ids, orders, Answer, refuse, answerView, nextView}
+use Rattle.session.specs.declared.LookupTarget.the-variants.{Window, Notification, Cell, Desktop, Windows, Notifications, Shares}
+use Rattle.session.specs.Calls.{Call, reset, deliver, checkpoint, undo, look, writeRecord, Payload, nothing, listed, body, picture, ids, orders, shared, Answer, refuse, answerView, nextView}
 
 -- a call and the output memory lent with it: none for a call that hands nothing out
 pub record Request : Type 0 where
@@ -43,41 +47,52 @@ handed r out = record { reply = r; out = out }
 
 -- ---- the fixed layout of what is handed out
 
--- the bytes that a target takes
+-- the bytes that a target takes: a record's fields, and a picture for each of its icons
 abbrev pub layoutSize : LookupTarget → ℕ
-layoutSize (Window w) = 850
-layoutSize (Notification w n) = 916
-layoutSize (Cell cache entry) = 4235
-layoutSize Desktop = 263
+layoutSize (Window w) = windowSize + (pictureSize + pictureSize)
+layoutSize (Notification w n) = notificationSize + pictureSize
+layoutSize (Cell cache entry) = pictureSize
+layoutSize Desktop = desktopSize
 layoutSize Windows = listSize
 layoutSize Notifications = listSize
+layoutSize (Shares g k) = 1
 
-abbrev pub layoutOf : LookupTarget → Body → List ℕ
-layoutOf (Window w) b = recordBytes windowFields b
-layoutOf (Notification w n) b = recordBytes notificationFields b
-layoutOf (Cell cache entry) b = []
-layoutOf Desktop b = recordBytes desktopFields b
-layoutOf Windows b = []
-layoutOf Notifications b = []
+-- the two marks of a record say which of its icons show a picture
+abbrev pub firstThere : List (Option (List ℕ)) → ℕ
+firstThere [] = 0
+firstThere (p ∷ ps) = isThere p
+
+abbrev pub secondThere : List (Option (List ℕ)) → ℕ
+secondThere [] = 0
+secondThere (p ∷ ps) = firstThere ps
+
+unfoldable pub listedBytes : Family → List (List ℕ) → List (Option (List ℕ)) → List ℕ
+listedBytes f fields pictures =
+    recordBytes (fieldRows f) (record { first = firstThere pictures; second = secondThere pictures; fields = fields })
+    ++ flatten (map shownBytes pictures)
 
 unfoldable pub payloadBytes : LookupTarget → Payload → List ℕ
 payloadBytes target nothing = []
-payloadBytes target (body b) = layoutOf target b
+payloadBytes target (listed f fields pictures) = listedBytes f fields pictures
+payloadBytes target (body b) = recordBytes desktopFields b
 payloadBytes target (picture p) = pictureBytes p
 payloadBytes target (ids f ks) = listBytes f ks
 payloadBytes target (orders os) = []
+payloadBytes target (shared b) = pick b 1 0 ∷ []
 
 -- the session record of the orders handed out
 unfoldable pub sessionRecord : Payload → List ℕ
 sessionRecord nothing = []
+sessionRecord (listed f fields pictures) = []
 sessionRecord (body b) = []
 sessionRecord (picture p) = []
 sessionRecord (ids f ks) = []
 sessionRecord (orders os) = recordOf os
+sessionRecord (shared b) = []
 
 -- of any call: so many bytes are enough whatever it hands out
 abbrev pub neededFor : Call → ℕ
-neededFor reset = 0
+neededFor (reset n) = 0
 neededFor (deliver o) = 0
 neededFor checkpoint = 0
 neededFor (undo k) = 0
@@ -86,7 +101,7 @@ neededFor writeRecord = mostRecord
 
 -- so many it needs for what it hands out
 abbrev pub sizeFor : Call → Payload → ℕ
-sizeFor reset p = 0
+sizeFor (reset n) p = 0
 sizeFor (deliver o) p = 0
 sizeFor checkpoint p = 0
 sizeFor (undo k) p = 0
@@ -94,7 +109,7 @@ sizeFor (look target) p = layoutSize target
 sizeFor writeRecord p = length (sessionRecord p)
 
 abbrev pub bytesFor : Call → Payload → List ℕ
-bytesFor reset p = []
+bytesFor (reset n) p = []
 bytesFor (deliver o) p = []
 bytesFor checkpoint p = []
 bytesFor (undo k) p = []

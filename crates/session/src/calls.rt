@@ -5,7 +5,8 @@ ghost use lib.ListN.{length};
 ghost use Rattle.wire.specs.Numbers.{bytesOf};
 ghost use Rattle.wire.specs.Parts.{splice};
 ghost use Rattle.journal.specs.Limits.{journalLength, mostOrders};
-ghost use Rattle.journal.specs.View.{memory};
+ghost use Rattle.store.specs.Store.{five};
+ghost use Rattle.journal.specs.View.{memory, InEachStore};
 ghost use Rattle.session.specs.Calls.{reset, deliver, checkpoint, undo};
 ghost use Rattle.session.specs.Outcome.{plain, replied, CallOutcome};
 ghost use Rattle.session.specs.Delivery.{Ready, DeliveredOn};
@@ -15,13 +16,14 @@ use crate::replies::granted;
 use crate::replies::refused;
 use journal::JournalExtent;
 
-pub fn reset(dir: &mut [u8], bodies: &mut [u8], cells: &[u8], journal: &mut [u8]) -> Reply
-    ensures { λ r. ⌜ CallOutcome (plain reset) (memory (now (dir .entry)) (now (bodies .entry)) (now (cells .entry)) (now (journal .entry))) (replied r) (memory (now (dir .exit)) (now (bodies .exit)) (now (cells .entry)) (now (journal .exit))) ⌝ }
+// Empties a state to which so many places are lent.
+pub fn reset(index: &mut [u8], bodies: &mut [u8], lent: usize, journal: &mut [u8]) -> Reply
+    ensures { λ r. ⌜ InEachStore lent (λ store. CallOutcome (plain (reset lent)) (memory (now (index .entry)) (now (bodies .entry)) store (now (journal .entry))) (replied r) (memory (now (index .exit)) (now (bodies .exit)) store (now (journal .exit)))) ⌝ }
 {
-    if journal::too_short(dir, bodies, cells, journal) {
+    if journal::too_short(index, bodies, lent, journal) {
         return refused(1);
     }
-    table::empty(dir, bodies, cells);
+    table::empty(index, bodies, lent);
     wire::write_u16(journal, 0, 0);
     granted(JournalExtent {
         count: 0,
@@ -45,8 +47,8 @@ pub fn deliver_on(journal: &mut [u8], d: &mut [u8], s: &[u8], w: JournalExtent) 
     requires { ⌜ Ready (now d) (now journal) w ⌝ }
     ensures { λ r. ⌜ DeliveredOn (now (d .entry)) (now (journal .entry)) (now (s .entry)) w r (now (d .exit)) (now (journal .exit)) ⌝ }
 {
-    let p = directory::judge(d, s);
-    let number = directory::number(p);
+    let p = index::judge(d, s);
+    let number = index::number(p);
     if number != 0 {
         return Delivery { number, extent: w };
     }
@@ -59,7 +61,7 @@ pub fn deliver_on(journal: &mut [u8], d: &mut [u8], s: &[u8], w: JournalExtent) 
         };
     }
     append(journal, s, w.count, w.end);
-    directory::note(d, s, p);
+    index::changes::apply(d, p);
     Delivery {
         number: 0,
         extent: JournalExtent {
@@ -69,11 +71,11 @@ pub fn deliver_on(journal: &mut [u8], d: &mut [u8], s: &[u8], w: JournalExtent) 
     }
 }
 
-pub fn deliver(dir: &[u8], bodies: &[u8], cells: &[u8], journal: &mut [u8], s: &[u8]) -> Reply
-    ensures { λ r. ⌜ CallOutcome (plain (deliver (now (s .entry)))) (memory (now (dir .entry)) (now (bodies .entry)) (now (cells .entry)) (now (journal .entry))) (replied r) (memory (now (dir .entry)) (now (bodies .entry)) (now (cells .entry)) (now (journal .exit))) ⌝ }
+pub fn deliver(index: &[u8], bodies: &[u8], lent: usize, journal: &mut [u8], s: &[u8]) -> Reply
+    ensures { λ r. ⌜ InEachStore lent (λ store. CallOutcome (plain (deliver (now (s .entry)))) (memory (now (index .entry)) (now (bodies .entry)) store (now (journal .entry))) (replied r) (memory (now (index .entry)) (now (bodies .entry)) store (now (journal .exit)))) ⌝ }
 {
-    let mut d = [0u8; crate::DIRECTORY];
-    let w = journal::extent(dir, bodies, cells, journal, &mut d);
+    let mut d = [0u8; crate::INDEX];
+    let w = journal::extent(index, bodies, lent, journal, &mut d);
     if w.end == 0 {
         return refused(1);
     }
@@ -84,15 +86,25 @@ pub fn deliver(dir: &[u8], bodies: &[u8], cells: &[u8], journal: &mut [u8], s: &
     granted(r.extent)
 }
 
-pub fn checkpoint(dir: &mut [u8], bodies: &mut [u8], cells: &mut [u8], journal: &mut [u8]) -> Reply
-    ensures { λ r. ⌜ CallOutcome (plain checkpoint) (memory (now (dir .entry)) (now (bodies .entry)) (now (cells .entry)) (now (journal .entry))) (replied r) (memory (now (dir .exit)) (now (bodies .exit)) (now (cells .exit)) (now (journal .exit))) ⌝ }
+pub fn checkpoint(
+    index: &mut [u8],
+    bodies: &mut [u8],
+    a: &mut [u8],
+    b: &mut [u8],
+    c: &mut [u8],
+    d: &mut [u8],
+    e: &mut [u8],
+    journal: &mut [u8],
+) -> Reply
+    ensures { λ r. ⌜ CallOutcome (plain checkpoint) (memory (now (index .entry)) (now (bodies .entry)) (five (now (a .entry)) (now (b .entry)) (now (c .entry)) (now (d .entry)) (now (e .entry))) (now (journal .entry))) (replied r) (memory (now (index .exit)) (now (bodies .exit)) (five (now (a .exit)) (now (b .exit)) (now (c .exit)) (now (d .exit)) (now (e .exit))) (now (journal .exit))) ⌝ }
 {
-    let mut d = [0u8; crate::DIRECTORY];
-    let w = journal::extent(dir, bodies, cells, journal, &mut d);
+    let lent = store::places(a, b, c, d, e);
+    let mut x = [0u8; crate::INDEX];
+    let w = journal::extent(index, bodies, lent, journal, &mut x);
     if w.end == 0 {
         return refused(1);
     }
-    journal::apply(dir, bodies, cells, journal, w.count);
+    journal::apply(index, bodies, a, b, c, d, e, journal, w.count);
     wire::write_u16(journal, 0, 0);
     granted(JournalExtent {
         count: 0,
@@ -100,11 +112,11 @@ pub fn checkpoint(dir: &mut [u8], bodies: &mut [u8], cells: &mut [u8], journal: 
     })
 }
 
-pub fn undo(dir: &[u8], bodies: &[u8], cells: &[u8], journal: &mut [u8], k: u64) -> Reply
-    ensures { λ r. ⌜ CallOutcome (plain (undo k)) (memory (now (dir .entry)) (now (bodies .entry)) (now (cells .entry)) (now (journal .entry))) (replied r) (memory (now (dir .entry)) (now (bodies .entry)) (now (cells .entry)) (now (journal .exit))) ⌝ }
+pub fn undo(index: &[u8], bodies: &[u8], lent: usize, journal: &mut [u8], k: u64) -> Reply
+    ensures { λ r. ⌜ InEachStore lent (λ store. CallOutcome (plain (undo k)) (memory (now (index .entry)) (now (bodies .entry)) store (now (journal .entry))) (replied r) (memory (now (index .entry)) (now (bodies .entry)) store (now (journal .exit)))) ⌝ }
 {
-    let mut d = [0u8; crate::DIRECTORY];
-    let w = journal::extent(dir, bodies, cells, journal, &mut d);
+    let mut d = [0u8; crate::INDEX];
+    let w = journal::extent(index, bodies, lent, journal, &mut d);
     if w.end == 0 {
         return refused(1);
     }

@@ -1,21 +1,21 @@
-// The state calls: a table at the last checkpoint and a journal of the orders since, in four lent memories. A call that
-// cannot change a memory takes it shared; bytes past the needed lengths stay as they were.
+// The state calls: a table at the last checkpoint and a journal of the orders since, in lent memory: index, bodies, a store of
+// pictures in five parts, journal. A call that cannot change a memory takes it shared, and one that needs no picture is told how
+// many places are lent; bytes past the needed lengths stay as they were.
 use journal::JournalExtent;
 use protocol::NotifyIconId;
 use protocol::WindowId;
 
 pub mod calls;
+pub mod holders;
 pub mod lookups;
 pub mod packed;
 pub mod records;
 mod replies;
 
-// The needed bytes of the four parts.
-pub const DIRECTORY: usize = directory::slots::LENGTH;
+// The needed bytes of index, bodies and journal.
+pub const INDEX: usize = index::LENGTH;
 
 pub const BODIES: usize = table::BODIES;
-
-pub const CELLS: usize = cache::LENGTH;
 
 pub const JOURNAL: usize = journal::LENGTH;
 
@@ -26,8 +26,16 @@ pub struct Reply {
     pub bytes: u32,
 }
 
-// What a lookup finds: a window by its id, a notification icon by its two ids, a cell by cache id and entry, the desktop state, or
-// the ids of the listed windows or notification icons.
+// Who shows a picture: a cell by cache id and entry, a window's small or big icon, or a notification icon.
+pub enum PictureHolder {
+    Cell(u8, u16),
+    Small(WindowId),
+    Big(WindowId),
+    Notification(WindowId, NotifyIconId),
+}
+
+// What a lookup finds: a window by its id, a notification icon by its two ids, a cell by cache id and entry, the desktop state,
+// the ids of the listed windows or notification icons, or whether two holders share a place.
 pub enum LookupTarget {
     Window(WindowId),
     Notification(WindowId, NotifyIconId),
@@ -35,6 +43,7 @@ pub enum LookupTarget {
     Desktop,
     Windows,
     Notifications,
+    Shares(PictureHolder, PictureHolder),
 }
 
 // The number of an order that is delivered, and the extent of the journal after it.

@@ -1,24 +1,31 @@
 // The lookup: what is looked up is followed from the mark through the journal's orders, and handed out in its fixed layout.
 ghost use mathlib.Core.Path.{_≡_};
-ghost use mathlib.Core.Bool.{true};
-ghost use Prim.Native.Nat.{_+_, _≤_};
+ghost use Prim.Native.Nat.{_+_, _<_, _≤_};
 ghost use lib.ListN.{length};
 ghost use Rattle.wire.specs.Parts.{splice};
-ghost use Rattle.directory.specs.Slots.{isAt, firstFrom};
-ghost use Rattle.directory.specs.Directory.{directoryOf};
-ghost use Rattle.table.specs.Follow.{roomFor};
+ghost use Rattle.places.specs.Memory.{pointerAt};
+ghost use Rattle.places.specs.Holder.{icon, numberOf};
+ghost use Rattle.index.specs.Families.{indexLength};
+ghost use Rattle.index.specs.Slots.{slotOf};
+ghost use Rattle.index.specs.Memory.{indexOf};
+ghost use Rattle.store.specs.Store.{five};
+ghost use Rattle.follow.specs.Follow.{roomFor};
 ghost use Rattle.journal.specs.View.{memory};
-ghost use Rattle.session.specs.Outcome.{lookup, handed, layoutSize, payloadBytes, CallOutcome};
-ghost use Rattle.session.specs.Targets.{cellNumber, isFound, wantOf, listedIn, payloadHeld, validHeld};
+ghost use Rattle.session.specs.declared.LookupTarget.the-variants as target;
+ghost use Rattle.session.specs.Calls.{cellNumber, holderOf};
+ghost use Rattle.session.specs.Outcome.{lookup, handed, layoutSize, CallOutcome};
+ghost use Rattle.session.specs.Targets.{wantOf, listedIn};
+ghost use Rattle.session.specs.Handing.{bytesHeld, HandsOut};
 use crate::LookupTarget;
+use crate::PictureHolder;
 use crate::Reply;
 use crate::replies::granted;
 use crate::replies::refused;
-use directory::Found;
-use directory::slots;
+use follow::Want;
+use places::Family;
+use places::Found;
 use protocol::NotifyIconId;
 use protocol::WindowId;
-use table::Want;
 
 // The cell of a cache and an entry, 12 for one outside the caches.
 fn cell_number(cache: u8, entry: u16) -> usize
@@ -26,9 +33,62 @@ fn cell_number(cache: u8, entry: u16) -> usize
 {
     let inside = (cache <= 1) & (entry <= 5);
     if !inside {
-        return slots::CELLS;
+        return places::CELLS;
     }
     6 * (cache as usize) + (entry as usize)
+}
+
+// The number of icon w of a record, that of no holder where the record is not listed.
+fn icon_number(d: &[u8], family: Family, window: WindowId, notify: NotifyIconId, w: usize) -> usize
+    requires { ⌜ (indexLength ≤ length (now d)) × (w < 3) ⌝ }
+    ensures { λ r. ⌜ r ≡ numberOf (slotOf (now (d .entry))) (icon family (window .id) (notify .id) w) ⌝ }
+{
+    let search = index::slots::find(d, family, window, notify);
+    let f = search.found;
+    let Found::At(i) = f else {
+        return places::HOLDERS;
+    };
+    places::CELLS + places::ICONS_EACH * i + w
+}
+
+// The number of a holder.
+fn holder_number(d: &[u8], g: PictureHolder) -> usize
+    requires { ⌜ indexLength ≤ length (now d) ⌝ }
+    ensures { λ r. ⌜ r ≡ numberOf (slotOf (now (d .entry))) (holderOf g) ⌝ }
+{
+    match g {
+        PictureHolder::Cell(cache, entry) => {
+            let c = cell_number(cache, entry);
+            if c < places::CELLS {
+                return c;
+            }
+            places::HOLDERS
+        }
+        PictureHolder::Small(w) => icon_number(d, Family::Windows, w, NotifyIconId { id: 0 }, 0),
+        PictureHolder::Big(w) => icon_number(d, Family::Windows, w, NotifyIconId { id: 0 }, 1),
+        PictureHolder::Notification(w, n) => icon_number(d, Family::Notifications, w, n, 0),
+    }
+}
+
+// The pointer of a holder, 0 for one that is not kept.
+fn pointer(d: &[u8], h: usize) -> u8
+    requires { ⌜ indexLength ≤ length (now d) ⌝ }
+    ensures { λ r. ⌜ r ≡ pointerAt (now (d .entry)) h ⌝ }
+{
+    if places::HOLDERS <= h {
+        return 0;
+    }
+    d[h + 1]
+}
+
+// Whether two holders share a place.
+fn shares(d: &[u8], g: PictureHolder, k: PictureHolder) -> bool
+    requires { ⌜ indexLength ≤ length (now d) ⌝ }
+    ensures { λ r. ⌜ r ≡ indexOf (now (d .entry)) .sharing .shares (holderOf g) (holderOf k) ⌝ }
+{
+    let p = pointer(d, holder_number(d, g));
+    let q = pointer(d, holder_number(d, k));
+    (p != 0) & (p == q)
 }
 
 fn want_of(target: LookupTarget) -> Want
@@ -37,18 +97,19 @@ fn want_of(target: LookupTarget) -> Want
     match target {
         LookupTarget::Window(w) => Want::Window(w),
         LookupTarget::Notification(w, n) => Want::Notification(w, n),
-        LookupTarget::Cell(cache, entry) => Want::Cell(cell_number(cache, entry)),
+        LookupTarget::Cell(_, _) => Want::Pictures,
         LookupTarget::Desktop => Want::Desktop,
         LookupTarget::Windows => Want::Nothing,
         LookupTarget::Notifications => Want::Nothing,
+        LookupTarget::Shares(_, _) => Want::Nothing,
     }
 }
 
-fn found(d: &[u8], first: usize, count: usize, window: WindowId, notify: NotifyIconId) -> bool
-    requires { ⌜ first + count ≤ 48 ⌝ }
-    ensures { λ r. ⌜ r ≡ isFound (firstFrom count first (isAt (now (d .entry)) (window .id) (notify .id))) ⌝ }
+fn found(d: &[u8], family: Family, window: WindowId, notify: NotifyIconId) -> bool
+    requires { ⌜ indexLength ≤ length (now d) ⌝ }
+    ensures { λ r. ⌜ r ≡ indexOf (now (d .entry)) .listed family (window .id) (notify .id) ⌝ }
 {
-    let search = slots::find(d, first, count, window, notify);
+    let search = index::slots::find(d, family, window, notify);
     let f = search.found;
     match f {
         Found::At(_) => true,
@@ -58,15 +119,20 @@ fn found(d: &[u8], first: usize, count: usize, window: WindowId, notify: NotifyI
 
 // Whether an index lists the target.
 fn listed(d: &[u8], target: LookupTarget) -> bool
-    ensures { λ r. ⌜ r ≡ listedIn target (directoryOf (now (d .entry))) ⌝ }
+    requires { ⌜ indexLength ≤ length (now d) ⌝ }
+    ensures { λ r. ⌜ r ≡ listedIn target (indexOf (now (d .entry))) ⌝ }
 {
     match target {
-        LookupTarget::Window(w) => found(d, 0, 32, w, NotifyIconId { id: 0 }),
-        LookupTarget::Notification(w, n) => found(d, 32, 16, w, n),
-        LookupTarget::Cell(cache, entry) => slots::is_filled(d, cell_number(cache, entry)),
+        LookupTarget::Window(w) => found(d, Family::Windows, w, NotifyIconId { id: 0 }),
+        LookupTarget::Notification(w, n) => found(d, Family::Notifications, w, n),
+        LookupTarget::Cell(cache, entry) => {
+            let g = PictureHolder::Cell(cache, entry);
+            shares(d, g, g)
+        }
         LookupTarget::Desktop => true,
         LookupTarget::Windows => true,
         LookupTarget::Notifications => true,
+        LookupTarget::Shares(g, k) => shares(d, g, g) & shares(d, k, k),
     }
 }
 
@@ -75,94 +141,217 @@ fn size_of(target: LookupTarget) -> usize
     ensures { λ r. ⌜ r ≡ layoutSize target ⌝ }
 {
     match target {
-        LookupTarget::Window(_) => layout::WINDOW,
-        LookupTarget::Notification(_, _) => layout::NOTIFICATION,
+        LookupTarget::Window(_) => layout::WINDOW + 2 * layout::PICTURE,
+        LookupTarget::Notification(_, _) => layout::NOTIFICATION + layout::PICTURE,
         LookupTarget::Cell(_, _) => layout::PICTURE,
         LookupTarget::Desktop => layout::DESKTOP,
         LookupTarget::Windows => ids::LENGTH,
         LookupTarget::Notifications => ids::LENGTH,
+        LookupTarget::Shares(_, _) => 1,
     }
 }
 
-// Hands out what the index d and the memory m hold of the target.
-fn hand_out(out: &mut [u8], d: &[u8], m: &[u8], target: LookupTarget)
-    requires { ⌜ (layoutSize target ≤ length (now out)) × (length (now m) ≡ roomFor (wantOf target)) × (validHeld target (now m) ≡ true) ⌝ }
-    ensures { λ _. ⌜ now (out .exit) ≡ splice (now (out .entry)) 0 (payloadBytes target (payloadHeld target (now (d .entry)) (now (m .entry)))) ⌝ }
+// Hands out a window: its fields, then the pictures of its small and its big icon; its two marks say which are there.
+fn window(
+    out: &mut [u8],
+    x: &[u8],
+    bodies: &[u8],
+    a: &[u8],
+    b: &[u8],
+    c: &[u8],
+    d: &[u8],
+    e: &[u8],
+    journal: &[u8],
+    m: &[u8],
+    w: WindowId,
+)
+    requires { ⌜ HandsOut (target.Window w) (now x) (now bodies) (five (now a) (now b) (now c) (now d) (now e)) (now journal) (now m) (now out) ⌝ }
+    ensures { λ _. ⌜ now (out .exit) ≡ splice (now (out .entry)) 0 (bytesHeld (target.Window w) (now (x .entry)) (now (bodies .entry)) (five (now (a .entry)) (now (b .entry)) (now (c .entry)) (now (d .entry)) (now (e .entry))) (now (journal .entry)) (now (m .entry))) ⌝ }
+{
+    let none = NotifyIconId { id: 0 };
+    let small = icon_number(x, Family::Windows, w, none, 0);
+    let big = icon_number(x, Family::Windows, w, none, 1);
+    let origins = &m[body::SLOT..follow::RECORD];
+    layout::record(out, &m[0..body::SLOT], 1, 15);
+    let s = shown::holder(
+        out,
+        layout::WINDOW,
+        x,
+        small,
+        bodies,
+        a,
+        b,
+        c,
+        d,
+        e,
+        journal,
+        origins,
+    );
+    let at = layout::WINDOW + layout::PICTURE;
+    let t = shown::holder(out, at, x, big, bodies, a, b, c, d, e, journal, origins);
+    wire::write_u8(out, 0, s as u8);
+    wire::write_u8(out, 1, t as u8);
+}
+
+// Hands out a notification icon: its fields, then its picture; its first mark says whether that is there.
+fn notification(
+    out: &mut [u8],
+    x: &[u8],
+    bodies: &[u8],
+    a: &[u8],
+    b: &[u8],
+    c: &[u8],
+    d: &[u8],
+    e: &[u8],
+    journal: &[u8],
+    m: &[u8],
+    w: WindowId,
+    n: NotifyIconId,
+)
+    requires { ⌜ HandsOut (target.Notification w n) (now x) (now bodies) (five (now a) (now b) (now c) (now d) (now e)) (now journal) (now m) (now out) ⌝ }
+    ensures { λ _. ⌜ now (out .exit) ≡ splice (now (out .entry)) 0 (bytesHeld (target.Notification w n) (now (x .entry)) (now (bodies .entry)) (five (now (a .entry)) (now (b .entry)) (now (c .entry)) (now (d .entry)) (now (e .entry))) (now (journal .entry)) (now (m .entry))) ⌝ }
+{
+    let own = icon_number(x, Family::Notifications, w, n, 0);
+    let origins = &m[body::SLOT..follow::RECORD];
+    layout::record(out, &m[0..body::SLOT], 16, 22);
+    let at = layout::NOTIFICATION;
+    let s = shown::holder(out, at, x, own, bodies, a, b, c, d, e, journal, origins);
+    wire::write_u8(out, 0, s as u8);
+    wire::write_u8(out, 1, 0);
+}
+
+// Hands out the picture of a cell.
+fn cell(
+    out: &mut [u8],
+    x: &[u8],
+    bodies: &[u8],
+    a: &[u8],
+    b: &[u8],
+    c: &[u8],
+    d: &[u8],
+    e: &[u8],
+    journal: &[u8],
+    m: &[u8],
+    cache: u8,
+    entry: u16,
+)
+    requires { ⌜ HandsOut (target.Cell cache entry) (now x) (now bodies) (five (now a) (now b) (now c) (now d) (now e)) (now journal) (now m) (now out) ⌝ }
+    ensures { λ _. ⌜ now (out .exit) ≡ splice (now (out .entry)) 0 (bytesHeld (target.Cell cache entry) (now (x .entry)) (now (bodies .entry)) (five (now (a .entry)) (now (b .entry)) (now (c .entry)) (now (d .entry)) (now (e .entry))) (now (journal .entry)) (now (m .entry))) ⌝ }
+{
+    let h = cell_number(cache, entry);
+    let origins = &m[0..follow::ORIGINS];
+    shown::holder(out, 0, x, h, bodies, a, b, c, d, e, journal, origins);
+}
+
+// Hands out what the index x of the present table, the memory m of the target and the pictures hold.
+fn hand_out(
+    out: &mut [u8],
+    x: &[u8],
+    bodies: &[u8],
+    a: &[u8],
+    b: &[u8],
+    c: &[u8],
+    d: &[u8],
+    e: &[u8],
+    journal: &[u8],
+    m: &[u8],
+    target: LookupTarget,
+)
+    requires { ⌜ HandsOut target (now x) (now bodies) (five (now a) (now b) (now c) (now d) (now e)) (now journal) (now m) (now out) ⌝ }
+    ensures { λ _. ⌜ now (out .exit) ≡ splice (now (out .entry)) 0 (bytesHeld target (now (x .entry)) (now (bodies .entry)) (five (now (a .entry)) (now (b .entry)) (now (c .entry)) (now (d .entry)) (now (e .entry))) (now (journal .entry)) (now (m .entry))) ⌝ }
 {
     match target {
-        LookupTarget::Window(_) => layout::record(out, m, 1, 15),
-        LookupTarget::Notification(_, _) => layout::record(out, m, 16, 22),
-        LookupTarget::Cell(_, _) => layout::picture(out, m),
+        LookupTarget::Window(w) => window(out, x, bodies, a, b, c, d, e, journal, m, w),
+        LookupTarget::Notification(w, n) => {
+            notification(out, x, bodies, a, b, c, d, e, journal, m, w, n)
+        }
+        LookupTarget::Cell(cache, entry) => {
+            cell(out, x, bodies, a, b, c, d, e, journal, m, cache, entry)
+        }
         LookupTarget::Desktop => layout::record(out, m, 22, 24),
-        LookupTarget::Windows => ids::list(out, d, false),
-        LookupTarget::Notifications => ids::list(out, d, true),
+        LookupTarget::Windows => ids::list(out, x, false),
+        LookupTarget::Notifications => ids::list(out, x, true),
+        LookupTarget::Shares(g, k) => wire::write_u8(out, 0, shares(x, g, k) as u8),
     }
 }
 
 // The lookup in a memory m of the target's size.
 fn look_in(
-    dir: &[u8],
+    index: &[u8],
     bodies: &[u8],
-    cells: &[u8],
+    a: &[u8],
+    b: &[u8],
+    c: &[u8],
+    d: &[u8],
+    e: &[u8],
     journal: &[u8],
     target: LookupTarget,
     m: &mut [u8],
     out: &mut [u8],
 ) -> Reply
     requires { ⌜ length (now m) ≡ roomFor (wantOf target) ⌝ }
-    ensures { λ r. ⌜ CallOutcome (lookup target (now (out .entry))) (memory (now (dir .entry)) (now (bodies .entry)) (now (cells .entry)) (now (journal .entry))) (handed r (now (out .exit))) (memory (now (dir .entry)) (now (bodies .entry)) (now (cells .entry)) (now (journal .entry))) ⌝ }
+    ensures { λ r. ⌜ CallOutcome (lookup target (now (out .entry))) (memory (now (index .entry)) (now (bodies .entry)) (five (now (a .entry)) (now (b .entry)) (now (c .entry)) (now (d .entry)) (now (e .entry))) (now (journal .entry))) (handed r (now (out .exit))) (memory (now (index .entry)) (now (bodies .entry)) (five (now (a .entry)) (now (b .entry)) (now (c .entry)) (now (d .entry)) (now (e .entry))) (now (journal .entry))) ⌝ }
 {
-    let mut d = [0u8; crate::DIRECTORY];
+    let lent = store::places(a, b, c, d, e);
+    let mut x = [0u8; crate::INDEX];
     let want = want_of(target);
-    let w = journal::validate(dir, bodies, cells, journal, want, &mut d, m);
+    let w = journal::validate(index, bodies, lent, journal, want, &mut x, m);
     if w.end == 0 {
         return refused(1);
     }
-    if !listed(&d, target) {
+    if !listed(&x, target) {
         return refused(9);
     }
     let size = size_of(target);
     if out.len() < size {
         return refused(14);
     }
-    hand_out(out, &d, m, target);
+    hand_out(out, &x, bodies, a, b, c, d, e, journal, m, target);
     granted(w)
 }
 
 pub fn look(
-    dir: &[u8],
+    index: &[u8],
     bodies: &[u8],
-    cells: &[u8],
+    a: &[u8],
+    b: &[u8],
+    c: &[u8],
+    d: &[u8],
+    e: &[u8],
     journal: &[u8],
     target: LookupTarget,
     out: &mut [u8],
 ) -> Reply
-    ensures { λ r. ⌜ CallOutcome (lookup target (now (out .entry))) (memory (now (dir .entry)) (now (bodies .entry)) (now (cells .entry)) (now (journal .entry))) (handed r (now (out .exit))) (memory (now (dir .entry)) (now (bodies .entry)) (now (cells .entry)) (now (journal .entry))) ⌝ }
+    ensures { λ r. ⌜ CallOutcome (lookup target (now (out .entry))) (memory (now (index .entry)) (now (bodies .entry)) (five (now (a .entry)) (now (b .entry)) (now (c .entry)) (now (d .entry)) (now (e .entry))) (now (journal .entry))) (handed r (now (out .exit))) (memory (now (index .entry)) (now (bodies .entry)) (five (now (a .entry)) (now (b .entry)) (now (c .entry)) (now (d .entry)) (now (e .entry))) (now (journal .entry))) ⌝ }
 {
     match target {
         LookupTarget::Window(_) => {
-            let mut m = [0u8; body::SLOT];
-            look_in(dir, bodies, cells, journal, target, &mut m, out)
+            let mut m = [0u8; follow::RECORD];
+            look_in(index, bodies, a, b, c, d, e, journal, target, &mut m, out)
         }
         LookupTarget::Notification(_, _) => {
-            let mut m = [0u8; body::SLOT];
-            look_in(dir, bodies, cells, journal, target, &mut m, out)
+            let mut m = [0u8; follow::RECORD];
+            look_in(index, bodies, a, b, c, d, e, journal, target, &mut m, out)
         }
         LookupTarget::Cell(_, _) => {
-            let mut m = [0u8; cache::CELL];
-            look_in(dir, bodies, cells, journal, target, &mut m, out)
+            let mut m = [0u8; follow::ORIGINS];
+            look_in(index, bodies, a, b, c, d, e, journal, target, &mut m, out)
         }
         LookupTarget::Desktop => {
             let mut m = [0u8; body::SLOT];
-            look_in(dir, bodies, cells, journal, target, &mut m, out)
+            look_in(index, bodies, a, b, c, d, e, journal, target, &mut m, out)
         }
         LookupTarget::Windows => {
             let mut m = [0u8; 0];
-            look_in(dir, bodies, cells, journal, target, &mut m, out)
+            look_in(index, bodies, a, b, c, d, e, journal, target, &mut m, out)
         }
         LookupTarget::Notifications => {
             let mut m = [0u8; 0];
-            look_in(dir, bodies, cells, journal, target, &mut m, out)
+            look_in(index, bodies, a, b, c, d, e, journal, target, &mut m, out)
+        }
+        LookupTarget::Shares(_, _) => {
+            let mut m = [0u8; 0];
+            look_in(index, bodies, a, b, c, d, e, journal, target, &mut m, out)
         }
     }
 }

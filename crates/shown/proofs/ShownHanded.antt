@@ -19,9 +19,9 @@ use Rattle.index.proofs.Ways.{sound-long, sound-holders}
 use Rattle.store.specs.Store.{placesIn}
 use Rattle.picture.specs.Pictures.{headLength, pictureAt, headOk}
 use Rattle.layout.specs.Layouts.{pictureSize, pictureBytes}
-use Rattle.kept_table.specs.Memory.{headsStart, headsOf}
-use Rattle.kept_follow.specs.Follow.{originAt, carriedBy, presentPictures}
-use Rattle.kept_journal.specs.Journal.{sizeAt, orderAt}
+use Rattle.table.specs.Memory.{headsStart, headsOf}
+use Rattle.follow.specs.Follow.{originAt, carriedBy, presentPictures}
+use Rattle.journal.specs.Journal.{sizeAt, orderAt}
 use Rattle.shown.specs.Shown.{shows, shownBytes, heldPictures, Ready}
 use Rattle.shown.specs.Steps.{PlaceReady}
 

@@ -27,7 +27,7 @@ use Rattle.index.proofs.Ordered.{Ordered, windowOrder, notificationOrder, order
 use Rattle.cache.specs.Cells.{carriedPicture}
 use Rattle.layout.specs.Layouts.{pictureSize, pictureBytes}
 use Rattle.layout.proofs.LayoutsWritten.{padded-put}
-use Rattle.kept_follow.specs.Follow.{carriedBy}
+use Rattle.follow.specs.Follow.{carriedBy}
 use Rattle.shown.specs.Steps.{beginsAt, Carries}
 
 -- ---- where it begins

@@ -11,10 +11,10 @@ use Rattle.index.specs.Sound.{soundIndex}
 use Rattle.store.specs.Store.{placesIn}
 use Rattle.picture.specs.Pictures.{pictureAt, headOk}
 use Rattle.layout.specs.Layouts.{pictureBytes}
-use Rattle.kept_table.specs.Memory.{bodiesLength, headsOf}
-use Rattle.kept_follow.specs.Follow.{originsLength, originAt, carriedBy, presentPictures}
-use Rattle.kept_journal.specs.Limits.{journalLength}
-use Rattle.kept_journal.specs.Journal.{sizeAt, orderAt}
+use Rattle.table.specs.Memory.{bodiesLength, headsOf}
+use Rattle.follow.specs.Follow.{originsLength, originAt, carriedBy, presentPictures}
+use Rattle.journal.specs.Limits.{journalLength}
+use Rattle.journal.specs.Journal.{sizeAt, orderAt}
 
 -- 1 for a picture, 0 for none
 abbrev pub isThere : Option (List ℕ) → ℕ

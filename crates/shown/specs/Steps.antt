@@ -11,10 +11,10 @@ use Rattle.index.specs.Orders.{bringsIcon}
 use Rattle.store.specs.Store.{placesIn}
 use Rattle.picture.specs.Pictures.{headOk}
 use Rattle.layout.specs.Layouts.{pictureSize}
-use Rattle.kept_table.specs.Memory.{bodiesLength, headsOf}
-use Rattle.kept_follow.specs.Follow.{originAt, carriedBy}
-use Rattle.kept_journal.specs.Limits.{journalLength}
-use Rattle.kept_journal.specs.Journal.{sizeAt}
+use Rattle.table.specs.Memory.{bodiesLength, headsOf}
+use Rattle.follow.specs.Follow.{originAt, carriedBy}
+use Rattle.journal.specs.Limits.{journalLength}
+use Rattle.journal.specs.Journal.{sizeAt}
 
 -- where the picture begins that an order with an icon at index icon carries: at its end where it brings none
 abbrev pub beginsAt : List ℕ → ℕ → ℕ → ℕ

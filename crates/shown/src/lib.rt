@@ -8,7 +8,7 @@ ghost use Rattle.places.specs.Sizes.{holderCount};
 ghost use Rattle.places.specs.Memory.{shown};
 ghost use Rattle.store.specs.Store.{five};
 ghost use Rattle.layout.specs.Layouts.{pictureSize, pictureBytes};
-ghost use Rattle.kept_follow.specs.Follow.{carriedBy};
+ghost use Rattle.follow.specs.Follow.{carriedBy};
 ghost use Rattle.shown.specs.Shown.{shows, shownBytes, heldPictures, Ready};
 ghost use Rattle.shown.specs.Steps.{beginsAt, Carries, PlaceReady};
 use order::Judged;
@@ -69,7 +69,7 @@ fn at_place(
 {
     let q = wire::read_u16(origins, 2 * p) as usize;
     if q == 0 {
-        picture::show(out, &bodies[kept_table::HEADS..], a, b, c, d, e, p);
+        picture::show(out, &bodies[table::HEADS..], a, b, c, d, e, p);
         return;
     }
     let end = q + wire::read_u16(journal, q + 1) as usize;

@@ -73,6 +73,12 @@ swap-sides false v x y r e = refl
 swap-sides true false x y r e = refl
 swap-sides true true x y r e = never (sym e)
 
+-- one thing put where a test holds
+pub none-swap : {A : Type 0} (x : A) (u v : Bool) (r : A) → pick v x (pick u x r) ≡ pick u x (pick v x r)
+none-swap x true true r = refl
+none-swap x true false r = refl
+none-swap x false v r = refl
+
 pub edits-commute : {K A : Type 0} (same : K → K → Bool) (k h : K) (f g : A → A) (r : K → A) → same k h ≡ false → same h k ≡ false
     → (j : K) → both (same k j) (same h j) ≡ false → edit same h g (edit same k f r) j ≡ edit same k f (edit same h g r) j
 edits-commute same k h f g r a b j e = rw (a, b) (swap-sides (same k j) (same h j) (f (r k)) (g (r h)) (r j) e)

@@ -1,40 +1,46 @@
--- As many windows are listed as the count says, in every table that a memory describes. Assumes nothing.
-use Prim.Native.Nat.{ℕ, zero, suc, _+_, _*_, _-_, _≤_, _<_}
+-- As many windows are listed as the count says, and sharing is fair, in every table that a memory describes. Assumes nothing.
+use Prim.Native.Nat.{ℕ, zero, suc, _+_, _-_, _≤_, _<_}
 use mathlib.Core.Path.{_≡_, refl, sym, ap, subst, _∙_}
-use mathlib.Core.Bool.{Bool, true, false}
+use mathlib.Core.Bool.{Bool, true, false, not}
 use mathlib.Core.List.{List, [], _∷_}
 use native.Mathlib.Omega.{arith}
-use lib.Dec.{eqb, leb}
+use lib.Dec.{eqb}
 use borrow.Author.Tests.{eqb-true, eqb-false, eq-eqb}
 use Rattle.wire.specs.Tests.{pick, both, either, has}
-use Rattle.wire.specs.Numbers.{numAt}
 use Rattle.order.specs.declared.WindowOrder.{WindowOrder}
+use Rattle.order.specs.declared.NotificationOrder.{NotificationOrder}
 use Rattle.order.specs.declared.Judged.{Judged}
 use Rattle.order.specs.declared.Judged.the-variants.{Window, Notification, Desktop, Refused}
 use Rattle.order.specs.Judge.{flagsOf, judgeOf}
 use Rattle.order.proofs.Accepted.{a-window}
-use Rattle.directory.specs.declared.Found.{Found}
-use Rattle.directory.specs.declared.Found.the-variants.{At, Nothing}
-use Rattle.directory.specs.Slots.{isUsed, isAt, firstFrom, countFrom, onFound}
-use Rattle.directory.specs.Plans.{freshWindow, freshNotification, iconNumber}
-use Rattle.directory.specs.Directory.{windows, notifications, most, Directory, directoryOf, recordNumber, numberOn, numberIn, changeRecord, changeDesktop, changeOn, directoryAfter}
-use Rattle.directory.proofs.Search.{found}
-use Rattle.directory.proofs.Soundness.{Sound, sound-has, used-has, at-is, at-free, slot-own, one-slot}
-use Rattle.directory.proofs.Planned.{deleted-old}
-use Rattle.table.specs.Table.{Table, directory, after}
-use Rattle.table.specs.Promises.{DirectoryAlone}
-use Rattle.table.proofs.Promises.{directory-alone}
-use Rattle.table.proofs.Joined.{decode-directory}
-use Rattle.table.proofs.Sounded.{table-has}
+use Rattle.protocol.specs.Flags.{desktopNone}
+use Rattle.places.specs.declared.Family.the-variants.{Windows, Notifications}
+use Rattle.places.specs.declared.Found.{Found}
+use Rattle.places.specs.declared.Found.the-variants.{At, Nothing}
+use Rattle.places.specs.Counts.{countBelow, firstFrom, onFound}
+use Rattle.places.proofs.Counting.{found, none-passes}
+use Rattle.places.proofs.Pointers.{eqb-sym}
+use Rattle.index.specs.Slots.{firstId, secondId, isUsed, isAt, slotOf}
+use Rattle.index.specs.Orders.{onJudged, isNew, isDelete}
+use Rattle.index.specs.Index.{Index, notThere, noRoom, noPicture, noPlace, recordNumber, numberIn, changeRecord, changeDesktop, indexAfter}
+use Rattle.index.specs.Memory.{indexOf}
+use Rattle.index.proofs.Soundness.{Within, at-is, at-free, used-has, slot-own, Sound, sound-has, one-slot}
+use Rattle.index.proofs.Ordered.{deleted-old, windowOrder, notificationOrder}
+use Rattle.table.specs.Table.{Table, after}
+use Rattle.table.specs.Memory.{decode}
+use Rattle.table.specs.Promises.{IndexAlone}
+use Rattle.table.proofs.Decoded.{index-alone}
+use Rattle.table.proofs.Rule.{table-has}
+use Rattle.store.specs.Store.{placesIn}
 use Rattle.journal.specs.State.{State, run, present}
 use Rattle.journal.specs.Journal.{logOf}
 use Rattle.journal.specs.View.{formed}
 use Rattle.journal.proofs.Logged.{markedIn, formed-logged, logged-view}
 use Rattle.model.specs.Wellformed.{OnlyMeets}
 use Rattle.model.proofs.Wellformed.{only-meets}
-use Rattle.protocol.specs.Flags.{desktopNone, flagDeleted, flagNew}
-use Rattle.side_by_side.specs.SideBySide.{Counts, DescribedCounts}
+use Rattle.side_by_side.specs.SideBySide.{Fair, Counts, DescribedCounts}
 use Rattle.side_by_side.proofs.Commute.{never}
+use Rattle.side_by_side.proofs.Fairness.{order-fair, memory-fair}
 
 -- ---- n numbers have the mark f
 
@@ -87,184 +93,222 @@ counted-less {f = f} {g = g} {n = n} {m = m} a t e gone (one {g = h} {k = k} b m
         one {n = m} {k = k - 1} b (omega (arith, e, more, counted-some a i c)) q
         (λ y. gone y ∙ other-gone a b y (f y) (h y) x (is y)) (inner i)
 
--- ---- the windows of a directory
+-- ---- the windows of an index
 
-abbrev pub Lists : Directory → Type 0
-Lists d = Counted (λ x. d .listed windows x 0) (d .many windows)
+abbrev pub Lists : Index → Type 0
+Lists d = Counted (λ x. d .listed Windows x 0) (d .many Windows)
 
 -- what an accepted order says of its window
-accepted-new : (listed full : Bool) (n : ℕ) → pick listed 9 (pick full 10 n) ≡ 0 → listed ≡ false
-accepted-new false full n e = refl
-accepted-new true full n e = absurd (omega (arith, e))
+not-nine : (t : Bool) (n : ℕ) → pick t 9 n ≡ 0 → t ≡ false
+not-nine false n e = refl
+not-nine true n e = absurd (omega (arith, e))
 
-accepted-old : (listed : Bool) (n : ℕ) → pick listed n 9 ≡ 0 → listed ≡ true
-accepted-old true n e = refl
-accepted-old false n e = absurd (omega (arith, e))
+listed-old : (t : Bool) → not t ≡ false → t ≡ true
+listed-old true e = refl
+listed-old false e = never (sym e)
+
+-- the window of an order, by either way of asking
+same-id : (x a : ℕ) (r l : Bool) → pick (both (eqb x a) true) r l ≡ pick (eqb a x) r l
+same-id x a r l = rw (eqb-sym x a) (go (eqb a x))
+  where
+    go : (t : Bool) → pick (both t true) r l ≡ pick t r l
+    go true = refl
+    go false = refl
 
 -- each order keeps it
-module _ (d : Directory) (l : Lists d) (a : ℕ) (flags : ℕ) (s : List ℕ) (icon : ℕ) where
-  deleted-lists : (fresh : Bool) → has flags flagDeleted ≡ true → d .listed windows a 0 ≡ true → Lists (changeRecord d windows a 0 fresh flags s icon)
-  unfolding changeRecord
-  deleted-lists fresh h e = rw h (counted-less a e refl (λ x. go x (eqb a x)) l)
-    where
-      go : (x : ℕ) (t : Bool) → pick (both t true) false (d .listed windows x 0) ≡ pick t false (d .listed windows x 0)
-      go x true = refl
-      go x false = refl
+module _ (d : Index) (l : Lists d) (s : List ℕ) where
+  module _ (o : WindowOrder) where
+    abbrev a : ℕ
+    a = o .window .id
 
-  new-lists : has flags flagDeleted ≡ false → d .listed windows a 0 ≡ false → Lists (changeRecord d windows a 0 true flags s icon)
-  unfolding changeRecord
-  new-lists h e = rw h (one a refl e (λ x. go x (eqb a x)) l)
-    where
-      go : (x : ℕ) (t : Bool) → pick (both t true) true (d .listed windows x 0) ≡ either t (d .listed windows x 0)
-      go x true = refl
-      go x false = refl
+    abbrev listed : Bool
+    listed = d .listed Windows a 0
 
-  old-lists : has flags flagDeleted ≡ false → d .listed windows a 0 ≡ true → Lists (changeRecord d windows a 0 false flags s icon)
-  unfolding changeRecord
-  old-lists h e = rw h (counted-as refl (λ x. go x (eqb a x) refl) l)
-    where
-      go : (x : ℕ) (t : Bool) → eqb a x ≡ t → pick (both t true) true (d .listed windows x 0) ≡ d .listed windows x 0
-      go x true f = sym (ap (λ (z : ℕ). d .listed windows z 0) (sym (eqb-true a x f)) ∙ e)
-      go x false f = refl
+    deleted-lists : isDelete (o .flags) ≡ true → listed ≡ true → Lists (changeRecord d s (windowOrder o))
+    unfolding changeRecord
+    deleted-lists h e = rw h (counted-less a e refl (λ x. same-id x a false (d .listed Windows x 0)) l)
 
-  icon-lists : (b : ℕ) (fresh : Bool) → Lists (changeRecord d notifications a b fresh flags s icon)
+    new-lists : isDelete (o .flags) ≡ false → isNew Windows (o .flags) ≡ true → listed ≡ false → Lists (changeRecord d s (windowOrder o))
+    unfolding changeRecord
+    new-lists h n e = rw (h, n) (one a refl e (λ x. same-id x a true (d .listed Windows x 0) ∙ go (eqb a x) (d .listed Windows x 0)) l)
+      where
+        go : (t l : Bool) → pick t true l ≡ either t l
+        go true l = refl
+        go false l = refl
+
+    old-lists : isDelete (o .flags) ≡ false → isNew Windows (o .flags) ≡ false → listed ≡ true → Lists (changeRecord d s (windowOrder o))
+    unfolding changeRecord
+    old-lists h n e = rw (h, n) (counted-as refl (λ x. same-id x a true (d .listed Windows x 0) ∙ go x (eqb a x) refl) l)
+      where
+        go : (x : ℕ) (t : Bool) → eqb a x ≡ t → pick t true (d .listed Windows x 0) ≡ d .listed Windows x 0
+        go x true f = sym (ap (λ (z : ℕ). d .listed Windows z 0) (sym (eqb-true a x f)) ∙ e)
+        go x false f = refl
+
+    old-if : judgeOf s ≡ Window o → isDelete (o .flags) ≡ true → isNew Windows (o .flags) ≡ false
+    old-if j h =
+        let w = a-window s o j in
+        let e : o .flags ≡ flagsOf s = ap (λ (x : WindowOrder). x .flags) (w .is) in
+        deleted-old Windows (o .flags) (rw e (w .whole .agrees)) h
+
+    there : recordNumber d s (windowOrder o) ≡ 0 → pick (isNew Windows (o .flags)) listed (not listed) ≡ false
+    unfolding recordNumber notThere
+    there z =
+        not-nine (pick (isNew Windows (o .flags)) listed (not listed))
+        (pick (noRoom d (windowOrder o)) 10 (pick (noPicture d s (windowOrder o)) 11 (pick (noPlace d s (windowOrder o)) 17 0))) z
+
+    window-lists : judgeOf s ≡ Window o → recordNumber d s (windowOrder o) ≡ 0 → Lists (changeRecord d s (windowOrder o))
+    window-lists j z = go (isNew Windows (o .flags)) refl (isDelete (o .flags)) refl (there z)
+      where
+        go : (f : Bool) → isNew Windows (o .flags) ≡ f → (t : Bool) → isDelete (o .flags) ≡ t → pick f listed (not listed) ≡ false
+            → Lists (changeRecord d s (windowOrder o))
+        go true f true h z = never (sym (old-if j h) ∙ f)
+        go true f false h z = new-lists h f z
+        go false f true h z = deleted-lists h (listed-old listed z)
+        go false f false h z = old-lists h f (listed-old listed z)
+
+  icon-lists : (o : NotificationOrder) → Lists (changeRecord d s (notificationOrder o))
   unfolding changeRecord
-  icon-lists b fresh = go (has flags flagDeleted) refl
+  icon-lists o = go (isDelete (o .flags)) refl
     where
-      none-new : (f : Bool) → pick (both f false) (d .many windows + 1) (d .many windows) ≡ d .many windows
+      none-new : (f : Bool) → pick (both f false) (d .many Windows + 1) (d .many Windows) ≡ d .many Windows
       none-new true = refl
       none-new false = refl
 
-      go : (t : Bool) → has flags flagDeleted ≡ t → Lists (changeRecord d notifications a b fresh flags s icon)
+      go : (t : Bool) → isDelete (o .flags) ≡ t → Lists (changeRecord d s (notificationOrder o))
       go true h = rw h l
-      go false h = rw h (counted-as (none-new fresh) (λ x. refl) l)
+      go false h = rw h (counted-as (none-new (isNew Notifications (o .flags))) (λ x. refl) l)
 
-  desktop-lists : Lists (changeDesktop d flags)
+  desktop-lists : (flags : ℕ) → Lists (changeDesktop d flags)
   unfolding changeDesktop
-  desktop-lists = go (has flags desktopNone) refl
+  desktop-lists flags = go (has flags desktopNone) refl
     where
       go : (t : Bool) → has flags desktopNone ≡ t → Lists (changeDesktop d flags)
       go true h = rw h (none refl (λ x. refl))
       go false h = rw h l
 
-module _ (d : Directory) (l : Lists d) (s : List ℕ) where
-  window-lists : (o : WindowOrder) → judgeOf s ≡ Window o → numberOn d s (Window o) ≡ 0 → Lists (changeOn d s (Window o))
-  unfolding recordNumber
-  window-lists o j z = go (freshWindow (o .flags)) refl (has (o .flags) flagDeleted) refl z
-    where
-      a : ℕ
-      a = o .window .id
-
-      n : ℕ
-      n = iconNumber (d .filled) (o .flags) s (o .icon)
-
-      old-if : has (o .flags) flagDeleted ≡ true → has (o .flags) flagNew ≡ false
-      old-if h =
-          let w = a-window s o j in
-          let e : o .flags ≡ flagsOf s = ap (λ (x : WindowOrder). x .flags) (w .is) in
-          deleted-old (o .flags) (rw e (w .whole .agrees)) h
-
-      go : (f : Bool) → freshWindow (o .flags) ≡ f → (t : Bool) → has (o .flags) flagDeleted ≡ t
-          → pick f (pick (d .listed windows a 0) 9 (pick (leb (most windows) (d .many windows)) 10 n)) (pick (d .listed windows a 0) n 9) ≡ 0
-          → Lists (changeRecord d windows a 0 f (o .flags) s (o .icon))
-      go true f true h z =
-          let g : has (o .flags) flagNew ≡ false = old-if h in
-          let y : false ≡ true = rw g at f in
-          never y
-      go true f false h z = new-lists d l a (o .flags) s (o .icon) h (accepted-new (d .listed windows a 0) (leb (most windows) (d .many windows)) n z)
-      go false f true h z = deleted-lists d l a (o .flags) s (o .icon) false h (accepted-old (d .listed windows a 0) n z)
-      go false f false h z = old-lists d l a (o .flags) s (o .icon) h (accepted-old (d .listed windows a 0) n z)
-
-  on-lists : (j : Judged) → judgeOf s ≡ j → numberOn d s j ≡ 0 → Lists (changeOn d s j)
+  on-lists : (j : Judged) → judgeOf s ≡ j → onJudged j (recordNumber d s) (λ flags. 0) (λ number. number) ≡ 0
+      → Lists (onJudged j (changeRecord d s) (changeDesktop d) (λ number. d))
   on-lists (Window o) e z = window-lists o e z
-  on-lists (Notification o) e z = icon-lists d l (o .window .id) (o .flags) s (o .icon) (o .notify .id) (freshNotification (o .flags))
-  on-lists (Desktop o) e z = desktop-lists d l 0 (o .flags) s 0
+  on-lists (Notification o) e z = icon-lists o
+  on-lists (Desktop o) e z = desktop-lists (o .flags)
   on-lists (Refused r) e z = l
 
-  pub order-lists : Lists (directoryAfter d s)
-  unfolding directoryAfter numberIn
-  order-lists = go (eqb (numberOn d s (judgeOf s)) 0) refl
+  pub order-lists : Lists (indexAfter d s)
+  unfolding indexAfter numberIn
+  order-lists = go (eqb (numberIn d s) 0) refl
     where
-      go : (t : Bool) → eqb (numberOn d s (judgeOf s)) 0 ≡ t → Lists (pick t (changeOn d s (judgeOf s)) d)
-      go true e = on-lists (judgeOf s) refl (eqb-true (numberOn d s (judgeOf s)) 0 e)
+      go : (t : Bool) → eqb (numberIn d s) 0 ≡ t → Lists (pick t (onJudged (judgeOf s) (changeRecord d s) (changeDesktop d) (λ number. d)) d)
+      go true e = on-lists (judgeOf s) refl (eqb-true (numberIn d s) 0 e)
       go false e = l
 
--- ---- the directory of a memory
+-- ---- the index of a memory
 
-found-or : (t : Bool) (i : ℕ) (r : Found) → onFound (pick t (At i) r) false (λ k. true) ≡ either t (onFound r false (λ k. true))
-found-or true i r = refl
-found-or false i r = refl
+-- one of the first n passes
+unfoldable met : ℕ → (ℕ → Bool) → Bool
+met zero test = false
+met (suc n) test = either (test n) (met n test)
 
-module _ (dir : List ℕ) (s : Sound dir) where
+met-none : (n : ℕ) (test : ℕ → Bool) → ((k : ℕ) → k < n → test k ≡ false) → met n test ≡ false
+unfolding met
+met-none zero test h = refl
+met-none (suc n) test h = rw (h n (omega arith)) (met-none n test (λ k l. h k (omega arith)))
+
+met-some : (n : ℕ) (test : ℕ → Bool) (k : ℕ) → k < n → test k ≡ true → met n test ≡ true
+unfolding met
+met-some zero test k l e = absurd (omega arith)
+met-some (suc n) test k l e = go (test n) refl (λ m. met-some n test k m e)
+  where
+    before : test n ≡ false → (u : Bool) → eqb k n ≡ u → k < n
+    before f true g = never (sym f ∙ ap test (sym (eqb-true k n g)) ∙ e)
+    before f false g = let ne = eqb-false k n g in omega (arith, ne)
+
+    go : (t : Bool) → test n ≡ t → (k < n → met n test ≡ true) → either t (met n test) ≡ true
+    go true f inner = refl
+    go false f inner = inner (before f (eqb k n) refl)
+
+first-met : (n i : ℕ) (test : ℕ → Bool) → onFound (firstFrom n i test) false (λ k. true) ≡ met n (λ k. test (i + k))
+first-met n i test = go (firstFrom n i test) refl
+  where
+    go : (w : Found) → firstFrom n i test ≡ w → onFound w false (λ k. true) ≡ met n (λ k. test (i + k))
+    go Nothing f = sym (met-none n (λ k. test (i + k)) (λ k l. none-passes n i test f (i + k) (omega arith) (omega arith)))
+    go (At j) f =
+        let h = found n i test j f in
+        let l = h .0 in
+        let u = h .1 in
+        let e : i + (j - i) ≡ j = omega arith in
+        sym (met-some n (λ k. test (i + k)) (j - i) (omega arith) (rw e (h .2)))
+
+module _ (x : List ℕ) (s : Sound x) where
   -- a window's second id is 0
-  at-id : (i : ℕ) → i < 32 → isUsed dir i ≡ true → (x : ℕ) → isAt dir x 0 i ≡ eqb (numAt 4 dir (9 * i + 1)) x
-  at-id i u e x =
-      let h = used-has dir i e in
-      let o = slot-own dir 0 32 0 i (s .slots windows i (record { low = omega arith; high = u })) h in
-      let z : numAt 4 dir (9 * i + 5) ≡ 0 = omega (arith, o .second) in
-      at-is dir i h x 0 ∙ rw z (alone (eqb (numAt 4 dir (9 * i + 1)) x))
+  at-id : (i : ℕ) → Within Windows i → isUsed x i ≡ true → (id : ℕ) → isAt x id 0 i ≡ eqb (firstId x i) id
+  at-id i w e id =
+      let h = used-has x i e in
+      let o = slot-own x 0 32 0 i (s .slots Windows i w) h in
+      let z : secondId x i ≡ 0 = omega (arith, o .second) in
+      at-is x i h id 0 ∙ rw z (alone (eqb (firstId x i) id))
     where
       alone : (t : Bool) → both t true ≡ t
       alone true = refl
       alone false = refl
 
-  -- it stands in one slot, so not among those behind it
-  not-behind : (n i : ℕ) → i + suc n ≤ 32 → isUsed dir i ≡ true
-      → onFound (firstFrom n (i + 1) (isAt dir (numAt 4 dir (9 * i + 1)) 0)) false (λ k. true) ≡ false
-  not-behind n i u e = go (firstFrom n (i + 1) (isAt dir (numAt 4 dir (9 * i + 1)) 0)) refl
+  -- it stands in one slot, so not among those before it
+  not-before : (i j : ℕ) → Within Windows i → Within Windows j → j < i → isUsed x i ≡ true → isAt x (firstId x i) 0 j ≡ false
+  not-before i j w v l e = go (isAt x (firstId x i) 0 j) refl
     where
-      id : ℕ
-      id = numAt 4 dir (9 * i + 1)
+      go : (t : Bool) → isAt x (firstId x i) 0 j ≡ t → isAt x (firstId x i) 0 j ≡ false
+      go false f = f
+      go true f =
+          let a = one-slot x s Windows (firstId x i) 0 i w (at-id i w e (firstId x i) ∙ eq-eqb (firstId x i) (firstId x i) refl) in
+          let b = one-slot x s Windows (firstId x i) 0 j v f in
+          let c : At i ≡ At j = sym a ∙ b in
+          let d : i ≡ j = cc in
+          absurd (omega (arith, d))
 
-      go : (w : Found) → firstFrom n (i + 1) (isAt dir id 0) ≡ w → onFound w false (λ k. true) ≡ false
-      go Nothing f = refl
-      go (At k) f =
-          let h = found n (i + 1) (isAt dir id 0) k f in
-          let a = one-slot dir s windows id 0 i (record { low = omega arith; high = omega arith }) (at-id i (omega arith) e id ∙ eq-eqb id id refl) in
-          let b = one-slot dir s windows id 0 k (record { low = omega arith; high = omega (arith, h .1) }) (h .2) in
-          let c : At i ≡ At k = sym a ∙ b in
-          let d : i ≡ k = cc in
-          absurd (omega (arith, d, h .0))
-
-  slots-counted : (n i : ℕ) → i + n ≤ 32 → Counted (λ x. onFound (firstFrom n i (isAt dir x 0)) false (λ k. true)) (countFrom n i (isUsed dir))
-  unfolding firstFrom countFrom
-  slots-counted zero i u = none refl (λ x. refl)
-  slots-counted (suc n) i u = go (isUsed dir i) refl (slots-counted n (i + 1) (omega arith))
+  slots-counted : (n i : ℕ) → i + n ≤ 32 → Counted (λ id. met n (λ k. isAt x id 0 (i + k))) (countBelow n (λ k. isUsed x (i + k)))
+  unfolding met countBelow
+  slots-counted zero i u = none refl (λ id. refl)
+  slots-counted (suc n) i u = go (isUsed x (i + n)) refl (slots-counted n i (omega arith))
     where
-      rest : ℕ → Found
-      rest x = firstFrom n (i + 1) (isAt dir x 0)
+      within : (k : ℕ) → k < suc n → Within Windows (i + k)
+      within k l = record { low = omega arith; high = omega arith }
 
-      go : (t : Bool) → isUsed dir i ≡ t → Counted (λ x. onFound (rest x) false (λ k. true)) (countFrom n (i + 1) (isUsed dir))
-          → Counted (λ x. onFound (pick (isAt dir x 0 i) (At i) (rest x)) false (λ k. true)) (pick t 1 0 + countFrom n (i + 1) (isUsed dir))
+      go : (t : Bool) → isUsed x (i + n) ≡ t → Counted (λ id. met n (λ k. isAt x id 0 (i + k))) (countBelow n (λ k. isUsed x (i + k)))
+          → Counted (λ id. either (isAt x id 0 (i + n)) (met n (λ k. isAt x id 0 (i + k)))) (countBelow n (λ k. isUsed x (i + k)) + pick t 1 0)
       go true e c =
-          one {n = 1 + countFrom n (i + 1) (isUsed dir)} {k = countFrom n (i + 1) (isUsed dir)} (numAt 4 dir (9 * i + 1)) (omega arith) (not-behind n i u e)
-          (λ x. found-or (isAt dir x 0 i) i (rest x) ∙ ap (λ (t : Bool). either t (onFound (rest x) false (λ k. true))) (at-id i (omega arith) e x)) c
+          one (firstId x (i + n)) refl
+          (met-none n (λ k. isAt x (firstId x (i + n)) 0 (i + k))
+          (λ k l. not-before (i + n) (i + k) (within n (omega arith)) (within k (omega arith)) (omega arith) e))
+          (λ id. ap (λ (t : Bool). either t (met n (λ k. isAt x id 0 (i + k)))) (at-id (i + n) (within n (omega arith)) e id)) c
       go false e c =
-          counted-as (omega arith) (λ x. found-or (isAt dir x 0 i) i (rest x) ∙ ap (λ (t : Bool). either t (onFound (rest x) false (λ k. true))) (at-free dir i e x 0)) c
+          counted-as (omega arith) (λ id. ap (λ (t : Bool). either t (met n (λ k. isAt x id 0 (i + k)))) (at-free x (i + n) e id 0)) c
 
-  pub memory-lists : Lists (directoryOf dir)
-  unfolding directoryOf
-  memory-lists = slots-counted 32 0 (omega arith)
+  pub memory-lists : Lists (indexOf x)
+  unfolding indexOf
+  memory-lists = counted-as refl (λ id. first-met 32 0 (isAt x id 0)) (slots-counted 32 0 (omega arith))
 
 -- ---- every table of a run
 
-pub run-lists : (t : Table) (os : List (List ℕ)) → Lists (directory t) → Lists (directory (run t os))
-unfolding run DirectoryAlone
-run-lists t [] l = l
-run-lists t (o ∷ os) l = run-lists (after t o) os (subst Lists (sym (directory-alone t o)) (order-lists (directory t) l o))
+pub record Proper (d : Index) : Type 0 where
+  pub lists : Lists d
+  pub fair : Fair (d .sharing)
 
-pub table-counts : (t : Table) → Lists (directory t) → Counts t
-unfolding directory
-table-counts t l id e = counted-some id e l
+pub run-proper : (t : Table) (os : List (List ℕ)) → Proper (t .index) → Proper (run t os .index)
+unfolding run IndexAlone
+run-proper t [] p = p
+run-proper t (o ∷ os) p =
+    run-proper (after t o) os
+    (subst Proper (sym (index-alone t o)) (record { lists = order-lists (t .index) (p .lists) o; fair = order-fair (t .index) (p .fair) o }))
+
+pub table-counts : (t : Table) → Proper (t .index) → Counts t
+table-counts t p = record { windows = λ id e. counted-some id e (p .lists); places = p .fair }
 
 pub described-counts : DescribedCounts
-unfolding DescribedCounts OnlyMeets
+unfolding DescribedCounts OnlyMeets decode
 described-counts m s v =
     let w = only-meets m s v in
     let g = formed-logged m (w .long) (w .rule) in
     let f : formed s ≡ formed (record { marked = markedIn m; log = logOf (m .journal) }) = sym v ∙ logged-view g in
     let e : s ≡ record { marked = markedIn m; log = logOf (m .journal) } = cc in
-    let d = table-has (m .dir) (m .bodies) (m .cells) (g .sound) .directory in
-    let l : Lists (directory (markedIn m)) =
-    subst Lists (sym (decode-directory (m .dir) (m .bodies) (m .cells))) (memory-lists (m .dir) (sound-has (m .dir) d)) in
-    subst (λ (s : State). Counts (present s)) (sym e) (table-counts (run (markedIn m) (logOf (m .journal))) (run-lists (markedIn m) (logOf (m .journal)) l))
+    let x = table-has (m .index) (m .bodies) (placesIn (m .store)) (g .sound) .index in
+    let p : Proper (markedIn m .index) = record { lists = memory-lists (m .index) (sound-has (m .index) x); fair = memory-fair (m .index) } in
+    subst (λ (s : State). Counts (present s)) (sym e) (table-counts (run (markedIn m) (logOf (m .journal))) (run-proper (markedIn m) (logOf (m .journal)) p))

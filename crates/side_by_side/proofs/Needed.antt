@@ -1,9 +1,8 @@
 -- The premises are needed, by computation. Assumes nothing.
 use Prim.Native.Nat.{ℕ}
-use mathlib.Core.Path.{_≡_, refl, sym, ap, _∙_}
+use mathlib.Core.Path.{_≡_, refl, sym, ap, subst, _∙_}
 use mathlib.Core.Bool.{true}
 use mathlib.Core.List.{[], _∷_}
-use mathlib.Core.Option.{Option, none, some}
 use native.Mathlib.Omega.{arith}
 use lib.ListN.{length, getD}
 use Rattle.wire.specs.Numbers.{numAt, numsAt}
@@ -11,28 +10,31 @@ use Rattle.wire.specs.Parts.{slice}
 use Rattle.order.specs.Rows.{firstOf, lenOf, okOf, cutOf, fieldOf, stepOf, walkOf}
 use Rattle.order.specs.Icons.{pictureFit}
 use Rattle.order.specs.Judge.{flagsOf, orderOf, fieldsFit, judgeOf}
-use Rattle.directory.specs.Directory.{windows, recordNumber, numberIn}
-use Rattle.directory.specs.Plans.{cellAt, iconNumber}
-use Rattle.body.specs.Bodies.{Body, setFlagged, emptyFields, emptyBody}
-use Rattle.table.specs.Table.{Table, emptied, directory, number, bodyAfter, changeRecord, after}
+use Rattle.places.specs.declared.Family.the-variants.{Windows}
+use Rattle.places.specs.Sharing.{Sharing, drop, dropAll}
+use Rattle.places.specs.Holder.{Holder}
+use Rattle.index.specs.Index as index
+use Rattle.body.specs.Bodies.{setFlagged, emptyFields, emptyBody}
+use Rattle.table.specs.Table.{Table, emptied, number, recordFields, fieldsAfter, shownAfter, changeRecord, after}
 use Rattle.journal.specs.State.{State, run, present, bytesIn}
 use Rattle.session.specs.Calls.{answer, next}
-use Rattle.side_by_side.specs.SideBySide.{edits, EitherWay, Claim}
-use Rattle.side_by_side.specs.Needed.{newWindow, deleteWindow, titleWindow, delivered, newWindows, crowded, single, uncounted, Numbers, AtThirtyOne, RoomForOne, OneWindow, LastStands, Uncounted, ThirtyNeeded, DifferentNeeded, CountsNeeded}
+use Rattle.side_by_side.specs.SideBySide.{edits, Fair, EitherWay, Claim}
+use Rattle.side_by_side.specs.Needed.{newWindow, deleteWindow, titleWindow, delivered, newWindows, crowded, single, uncounted, uneven, Numbers, AtThirtyOne, RoomForOne, OneWindow, LastStands, Uncounted, Uneven, ThirtyNeeded, DifferentNeeded, WindowsCountNeeded, PlacesCountNeeded}
+use Rattle.side_by_side.proofs.Fairness.{empty-fair}
 
 -- ---- what is computed
 
 -- the letter of window 7's title
-letter : Option Body → ℕ
-letter none = 0
-letter (some b) = getD (getD (b .fields) 3 []) 2 0
-
 abbrev letterIn : Table → ℕ
-letterIn t = letter (t .records windows 7 0)
+letterIn t = getD (getD (t .fields Windows 7 0) 3 []) 2 0
+
+-- no holder shares, of 64 places
+abbrev noneShare : Sharing Holder
+noneShare = index.emptyIndex 64 .sharing
 
 -- a state's windows, orders and their bytes
 record Sized (s : State) (n orders bytes : ℕ) : Type 0 where
-  many : present s .many windows ≡ n
+  many : present s .index .many Windows ≡ n
   orders-are : length (s .log) ≡ orders
   bytes-are : bytesIn (s .log) ≡ bytes
 
@@ -44,17 +46,23 @@ record Computed : Type 0 where
   second-letter : letterIn (present (delivered single (titleWindow 7 0x41 ∷ titleWindow 7 0x42 ∷ []))) ≡ 0x42
   first-letter : letterIn (present (delivered single (titleWindow 7 0x42 ∷ titleWindow 7 0x41 ∷ []))) ≡ 0x41
   not-counted : Uncounted
+  not-even : Uneven
   crowded-size : Sized crowded 31 31 341
+  crowded-share : present crowded .index .sharing ≡ noneShare
   single-size : Sized single 1 1 11
+  single-share : present single .index .sharing ≡ noneShare
   uncounted-size : Sized uncounted 0 0 0
+  uncounted-share : present uncounted .index .sharing ≡ noneShare
+  uneven-size : Sized uneven 2 0 0
   new-7 : edits 7 (judgeOf (newWindow 7)) ≡ true
   new-8 : edits 8 (judgeOf (newWindow 8)) ≡ true
   new-31 : edits 31 (judgeOf (newWindow 31)) ≡ true
   new-32 : edits 32 (judgeOf (newWindow 32)) ≡ true
   delete-7 : edits 7 (judgeOf (deleteWindow 7)) ≡ true
+  delete-8 : edits 8 (judgeOf (deleteWindow 8)) ≡ true
 
 computed : Computed
-unfolding AtThirtyOne RoomForOne OneWindow Uncounted letter delivered newWindows numAt numsAt slice firstOf lenOf okOf cutOf fieldOf stepOf walkOf pictureFit flagsOf orderOf fieldsFit judgeOf recordNumber numberIn cellAt iconNumber setFlagged emptyFields emptyBody emptied directory number bodyAfter changeRecord after run bytesIn answer next
+unfolding AtThirtyOne RoomForOne OneWindow Uncounted Uneven delivered newWindows numAt numsAt slice firstOf lenOf okOf cutOf fieldOf stepOf walkOf pictureFit flagsOf orderOf fieldsFit judgeOf drop index.recordNumber index.notThere index.noRoom index.noPicture index.noPlace index.numberIn index.pictured index.changeRecord index.emptyIndex setFlagged emptyFields emptyBody emptied number recordFields fieldsAfter shownAfter changeRecord after run bytesIn answer next
 computed =
     record {
       thirty-one = (refl, record { a-first = refl; then-b = refl; b-first = refl; then-a = refl });
@@ -64,14 +72,20 @@ computed =
       second-letter = refl;
       first-letter = refl;
       not-counted = (record { a-first = refl; then-b = refl; b-first = refl; then-a = refl }, refl, refl);
+      not-even = (record { a-first = refl; then-b = refl; b-first = refl; then-a = refl }, refl, refl);
       crowded-size = record { many = refl; orders-are = refl; bytes-are = refl };
+      crowded-share = refl;
       single-size = record { many = refl; orders-are = refl; bytes-are = refl };
+      single-share = refl;
       uncounted-size = record { many = refl; orders-are = refl; bytes-are = refl };
+      uncounted-share = refl;
+      uneven-size = record { many = refl; orders-are = refl; bytes-are = refl };
       new-7 = refl;
       new-8 = refl;
       new-31 = refl;
       new-32 = refl;
       delete-7 = refl;
+      delete-8 = refl;
     }
 
 -- ---- the examples
@@ -93,7 +107,14 @@ last-stands =
 pub uncounted-ends : Uncounted
 uncounted-ends = computed .not-counted
 
+pub uneven-ends : Uneven
+uneven-ends = computed .not-even
+
 -- ---- the claim with another premise fails on them
+
+-- what no holder shares is fair
+none-fair : {t : Sharing Holder} → t ≡ noneShare → Fair t
+none-fair e = subst Fair (sym e) (empty-fair 64)
 
 pub thirty-needed : ThirtyNeeded
 unfolding ThirtyNeeded Claim AtThirtyOne
@@ -103,7 +124,7 @@ thirty-needed claim =
     let o = z .orders-are in
     let n = z .bytes-are in
     let w : EitherWay crowded (newWindow 31) (newWindow 32) =
-    claim crowded (newWindow 31) (newWindow 32) 31 32 (λ id e. omega (arith, m))
+    claim crowded (newWindow 31) (newWindow 32) 31 32 (record { windows = λ id e. omega (arith, m); places = none-fair (computed .crowded-share) })
     (record {
       first = computed .new-31;
       second = computed .new-32;
@@ -123,7 +144,7 @@ different-needed claim =
     let o = z .orders-are in
     let n = z .bytes-are in
     let w : EitherWay single (deleteWindow 7) (newWindow 7) =
-    claim single (deleteWindow 7) (newWindow 7) 7 7 (λ id e. omega (arith, m))
+    claim single (deleteWindow 7) (newWindow 7) 7 7 (record { windows = λ id e. omega (arith, m); places = none-fair (computed .single-share) })
     (record {
       first = computed .delete-7;
       second = computed .new-7;
@@ -134,15 +155,15 @@ different-needed claim =
     }) in
     absurd (omega (arith, one-window .then-b, one-window .b-first, w .second))
 
-pub counts-needed : CountsNeeded
-unfolding CountsNeeded Uncounted delivered
-counts-needed claim =
+pub windows-count-needed : WindowsCountNeeded
+unfolding WindowsCountNeeded Claim Uncounted delivered
+windows-count-needed claim =
     let z = computed .uncounted-size in
     let m = z .many in
     let o = z .orders-are in
     let n = z .bytes-are in
     let w : EitherWay uncounted (deleteWindow 7) (newWindow 8) =
-    claim uncounted (deleteWindow 7) (newWindow 8) 7 8
+    claim uncounted (deleteWindow 7) (newWindow 8) 7 8 (none-fair (computed .uncounted-share))
     (record {
       first = computed .delete-7;
       second = computed .new-8;
@@ -151,5 +172,25 @@ counts-needed claim =
       orders = omega (arith, o);
       bytes = omega (arith, n);
     }) in
-    let k : _≡_ {A = ℕ} 1 0 = sym (uncounted-ends .1) ∙ ap (λ (t : Table). t .many windows) (w .table) ∙ uncounted-ends .2 in
+    let k : _≡_ {A = ℕ} 1 0 = sym (uncounted-ends .1) ∙ ap (λ (t : Table). t .index .many Windows) (w .table) ∙ uncounted-ends .2 in
+    absurd (omega (arith, k))
+
+pub places-count-needed : PlacesCountNeeded
+unfolding PlacesCountNeeded Claim Uneven delivered
+places-count-needed claim =
+    let z = computed .uneven-size in
+    let m = z .many in
+    let o = z .orders-are in
+    let n = z .bytes-are in
+    let w : EitherWay uneven (deleteWindow 7) (deleteWindow 8) =
+    claim uneven (deleteWindow 7) (deleteWindow 8) 7 8 (λ id e. omega (arith, m))
+    (record {
+      first = computed .delete-7;
+      second = computed .delete-8;
+      named = λ e. omega (arith, e);
+      few = omega (arith, m);
+      orders = omega (arith, o);
+      bytes = omega (arith, n);
+    }) in
+    let k : _≡_ {A = ℕ} 0 2 = sym (uneven-ends .1) ∙ ap (λ (t : Table). t .index .sharing .used) (w .table) ∙ uneven-ends .2 in
     absurd (omega (arith, k))

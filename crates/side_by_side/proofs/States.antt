@@ -9,8 +9,7 @@ use lib.Dec.{eqb, ltb}
 use lib.ListN.{length, length-append}
 use borrow.Author.Tests.{eqb-true, le-ltb}
 use Rattle.wire.specs.Tests.{pick, both, either}
-use Rattle.table.specs.Table.{Table, number, changeOn, after}
-use Rattle.order.specs.Judge.{judgeOf}
+use Rattle.table.specs.Table.{Table, number, after}
 use Rattle.journal.specs.Limits.{mostOrders, mostBytes}
 use Rattle.journal.specs.State.{State, run, present, bytesIn}
 use Rattle.journal.specs.View.{Memory, formed, viewOf}
@@ -19,7 +18,7 @@ use Rattle.session.specs.Calls.{deliver, nothing, Answer, refuse, grant, overFu
 use Rattle.session.specs.Outcome.{plain, Response, responseOf, answerWithin, CallOutcome}
 use Rattle.model.proofs.Demand3.{moved}
 use Rattle.side_by_side.specs.SideBySide.{EitherWay, Claim, SideBySide, SameTable, BothWays}
-use Rattle.side_by_side.proofs.Windows.{Swaps, windows-swap}
+use Rattle.side_by_side.proofs.Windows.{changeBy, Swaps, windows-swap}
 
 -- ---- a delivery that the history has room for
 
@@ -46,7 +45,7 @@ module _ (s : State) (o : List ℕ) where
   delivered-table r = rw (not-full r) (go (eqb (number (present s) o) 0) refl)
     where
       go : (t : Bool) → eqb (number (present s) o) 0 ≡ t
-          → present (pick (either (not t) false) s (with-order s o)) ≡ pick t (changeOn (present s) o (judgeOf o)) (present s)
+          → present (pick (either (not t) false) s (with-order s o)) ≡ pick t (changeBy (present s) o) (present s)
       go true e = joined-table ∙ rw e
       go false e = refl
 

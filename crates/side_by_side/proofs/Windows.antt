@@ -1,9 +1,10 @@
--- One window's order beside another's, on a table: what of `number` and `changeRecord` this rests on. Assumes nothing.
-use Prim.Native.Nat.{ℕ, _+_, _-_, _≤_}
+-- Window orders without icon and cell beside each other on a table. The only facts of `number` and `changeRecord` that are used
+-- stand here. Assumes nothing.
+use Prim.Native.Nat.{ℕ, _+_, _≤_}
 use mathlib.Core.Path.{_≡_, refl, sym, ap, _∙_}
 use mathlib.Core.Bool.{Bool, true, false, not}
-use mathlib.Core.List.{List}
-use mathlib.Core.Option.{Option, none, some}
+use mathlib.Core.List.{List, []}
+use mathlib.Core.Option.{Option, none}
 use native.Mathlib.Omega.{arith}
 use lib.Dec.{eqb, leb}
 use borrow.Author.Tests.{eqb-true, ne-eqb, not-true}
@@ -14,22 +15,29 @@ use Rattle.order.specs.declared.Judged.{Judged}
 use Rattle.order.specs.declared.Judged.the-variants.{Window, Notification, Desktop, Refused}
 use Rattle.order.specs.Judge.{flagsOf, judgeOf}
 use Rattle.order.proofs.Accepted.{a-window}
-use Rattle.directory.specs.Plans.{freshWindow, iconNumber}
-use Rattle.directory.specs.Directory.{Family, windows, notifications, most, sameRecord, recordNumber, numberOn, numberIn}
-use Rattle.directory.proofs.Planned.{deleted-old}
-use Rattle.body.specs.Bodies.{Body, emptyBody}
-use Rattle.table.specs.Table.{Table, there, directory, number, fieldRows, bodyAfter, bodyIn, changeRecord, changeOn, after}
+use Rattle.places.specs.declared.Family.{Family}
+use Rattle.places.specs.declared.Family.the-variants.{Windows, Notifications}
+use Rattle.places.specs.Sharing.{Sharing, isOne, dropAll}
+use Rattle.places.specs.Holder.{Holder, sameHolder, iconsOf}
+use Rattle.index.specs.Families.{capacity, sameRecord}
+use Rattle.index.specs.Orders.{onJudged, isNew, isDelete, bringsIcon, bringsCached}
+use Rattle.index.specs.Index as index
+use Rattle.index.proofs.After.{same-index}
+use Rattle.index.proofs.Ordered.{deleted-old, windowOrder}
+use Rattle.body.specs.Bodies.{windowFields, setFlagged, emptyFields}
+use Rattle.table.specs.Table.{Table, number, recordFields, fieldsAfter, shownAfter, changeRecord, changeDesktop, after}
 use Rattle.table.proofs.Joined.{same-table}
-use Rattle.protocol.specs.Flags.{flagIcon, flagCachedIcon, flagDeleted, flagNew}
-use Rattle.side_by_side.specs.SideBySide.{edits, Counts}
-use Rattle.side_by_side.proofs.Commute.{never, Apart, first-number, second-number, same-end, keyed-number, edit, edit-other, edits-commute, countBy, count-next, counts-commute}
+use Rattle.protocol.specs.Flags.{flagIcon, flagCachedIcon}
+use Rattle.side_by_side.specs.SideBySide.{edits, PlacesCount, Counts}
+use Rattle.side_by_side.proofs.Commute.{never, Apart, first-number, second-number, same-end, keyed-number, edit, edit-other, edits-commute, none-swap, countBy, count-next, counts-commute}
+use Rattle.side_by_side.proofs.Drops.{deletions-commute}
 
 -- ---- fact 1: the number of a window order without icon and cell depends on whether its window is listed and on the count alone
 
 pub record Plain (id : ℕ) (o : WindowOrder) : Type 0 where
   pub names : o .window .id ≡ id
-  pub noIcon : has (o .flags) flagIcon ≡ false
-  pub noCell : has (o .flags) flagCachedIcon ≡ false
+  pub noIcon : bringsIcon (o .flags) ≡ false
+  pub noCell : bringsCached (o .flags) ≡ false
 
 pub plain-has : (id : ℕ) (o : WindowOrder) → edits id (Window o) ≡ true → Plain id o
 plain-has id o e =
@@ -44,17 +52,23 @@ plain-has id o e =
     }
 
 abbrev pub verdict : Bool → Bool → Bool → ℕ
-verdict fresh listed full = pick fresh (pick listed 9 (pick full 10 0)) (pick listed 0 9)
+verdict fresh listed full = pick (pick fresh listed (not listed)) 9 (pick (both fresh full) 10 0)
 
 abbrev pub numberFor : Table → List ℕ → Judged → ℕ
-numberFor t s j = numberOn (directory t) s j
+numberFor t s j = onJudged j (index.recordNumber (t .index) s) (λ flags. 0) (λ number. number)
+
+abbrev pub listedIn : Table → ℕ → Bool
+listedIn t id = t .index .listed Windows id 0
+
+abbrev pub manyIn : Table → ℕ
+manyIn t = t .index .many Windows
 
 pub window-number : (t : Table) (s : List ℕ) (id : ℕ) (o : WindowOrder) → Plain id o
-    → numberFor t s (Window o) ≡ verdict (freshWindow (o .flags)) (there (t .records windows id 0)) (leb (most windows) (t .many windows))
-unfolding directory recordNumber iconNumber
+    → numberFor t s (Window o) ≡ verdict (isNew Windows (o .flags)) (listedIn t id) (leb (capacity Windows) (manyIn t))
+unfolding index.recordNumber index.notThere index.noRoom index.noPicture index.noPlace
 window-number t s id o p = rw (p .names, p .noIcon, p .noCell)
 
--- ---- facts 2 to 5: what a window order makes of the records, the count, the cells and the desktop
+-- ---- facts 2 to 7: what it makes of the index, the fields, what is shown, and the desktop
 
 pub record Key : Type 0 where
   pub family : Family
@@ -67,170 +81,212 @@ key f a b = record { family = f; a = a; b = b }
 abbrev pub sameKey : Key → Key → Bool
 sameKey k j = sameRecord (k .family) (k .a) (k .b) (j .family) (j .a) (j .b)
 
-abbrev pub recordsOf : Table → Key → Option Body
-recordsOf t k = t .records (k .family) (k .a) (k .b)
-
 -- no record is both windows'
-not-both : (p q : ℕ) → (p ≡ q → ⊥) → (g : Family) (x y : ℕ) → both (sameKey (key windows p 0) (key g x y)) (sameKey (key windows q 0) (key g x y)) ≡ false
-not-both p q n notifications x y = refl
-not-both p q n windows x y = go (eqb p x) refl (eqb q x) refl (eqb 0 y)
+not-both : (p q : ℕ) → (p ≡ q → ⊥) → (g : Family) (x y : ℕ) → both (sameKey (key Windows p 0) (key g x y)) (sameKey (key Windows q 0) (key g x y)) ≡ false
+not-both p q n Notifications x y = refl
+not-both p q n Windows x y = go (eqb x p) refl (eqb x q) refl (eqb y 0)
   where
-    go : (u : Bool) → eqb p x ≡ u → (v : Bool) → eqb q x ≡ v → (w : Bool) → both (both u w) (both v w) ≡ false
-    go true e true f w = absurd (n (eqb-true p x e ∙ sym (eqb-true q x f)))
+    go : (u : Bool) → eqb x p ≡ u → (v : Bool) → eqb x q ≡ v → (w : Bool) → both (both u w) (both v w) ≡ false
+    go true e true f w = absurd (n (sym (eqb-true x p e) ∙ eqb-true x q f))
     go true e false f true = refl
     go true e false f false = refl
     go false e v f w = refl
 
-not-same : (p q : ℕ) → (p ≡ q → ⊥) → sameKey (key windows p 0) (key windows q 0) ≡ false
-not-same p q n = rw (ne-eqb p q n)
+not-same : (p q : ℕ) → (p ≡ q → ⊥) → sameKey (key Windows p 0) (key Windows q 0) ≡ false
+not-same p q n = rw (ne-eqb q p (λ z. n (sym z)))
 
-module _ (fresh : Bool) (flags : ℕ) (s : List ℕ) (icon : ℕ) where
+module _ (s : List ℕ) (o : WindowOrder) where
+  abbrev pub fresh : Bool
+  fresh = isNew Windows (o .flags)
+
+  abbrev pub deleted : Bool
+  deleted = isDelete (o .flags)
+
   -- what becomes of the window's record: by the order and that record alone
-  abbrev pub newOf : Option Body → Option Body
-  newOf v = pick (has flags flagDeleted) none (some (bodyAfter windows flags s icon (pick fresh (emptyBody (fieldRows windows)) (bodyIn windows v))))
+  abbrev pub listedBy : Bool → Bool
+  listedBy v = not deleted
 
-  module _ (t : Table) (a : ℕ) where
+  abbrev pub fieldsBy : List (List ℕ) → List (List ℕ)
+  fieldsBy v = pick deleted [] (setFlagged windowFields (o .flags) s 11 (pick fresh (emptyFields windowFields) v))
+
+  abbrev pub atWindow : Key
+  atWindow = key Windows (o .window .id) 0
+
+  abbrev pub icons : List Holder
+  icons = iconsOf Windows (o .window .id) 0
+
+  module _ (t : Table) where
     abbrev pub changed : Table
-    changed = changeRecord t windows a 0 fresh flags s icon
+    changed = changeRecord t s (windowOrder o)
 
-    pub records-are : (g : Family) (x y : ℕ) → changed .records g x y ≡ edit sameKey (key windows a 0) newOf (recordsOf t) (key g x y)
-    unfolding changeRecord
-    records-are g x y = go (has flags flagDeleted) refl
+    abbrev listedAt : Key → Bool
+    listedAt k = t .index .listed (k .family) (k .a) (k .b)
+
+    abbrev fieldsAt : Key → List (List ℕ)
+    fieldsAt k = t .fields (k .family) (k .a) (k .b)
+
+    pub listed-are : (k : Key) → changed .index .listed (k .family) (k .a) (k .b) ≡ edit sameKey atWindow listedBy listedAt k
+    unfolding changeRecord index.changeRecord
+    listed-are k = go deleted refl
       where
-        go : (d : Bool) → has flags flagDeleted ≡ d
-            → changeRecord t windows a 0 fresh flags s icon .records g x y ≡ edit sameKey (key windows a 0) newOf (recordsOf t) (key g x y)
+        go : (d : Bool) → deleted ≡ d → changed .index .listed (k .family) (k .a) (k .b) ≡ edit sameKey atWindow listedBy listedAt k
         go true h = rw h
         go false h = rw h
 
-    pub many-are : changed .many windows ≡ countBy (has flags flagDeleted) fresh (t .many windows)
-    unfolding changeRecord
-    many-are = go (has flags flagDeleted) refl
+    pub many-are : changed .index .many Windows ≡ countBy deleted fresh (manyIn t)
+    unfolding changeRecord index.changeRecord
+    many-are = go deleted refl
       where
-        grow : (f : Bool) → pick (both f true) (t .many windows + 1) (t .many windows) ≡ pick f (t .many windows + 1) (t .many windows)
+        grow : (f : Bool) → pick (both f true) (manyIn t + 1) (manyIn t) ≡ pick f (manyIn t + 1) (manyIn t)
         grow true = refl
         grow false = refl
 
-        go : (d : Bool) → has flags flagDeleted ≡ d
-            → changeRecord t windows a 0 fresh flags s icon .many windows ≡ countBy (has flags flagDeleted) fresh (t .many windows)
+        go : (d : Bool) → deleted ≡ d → changed .index .many Windows ≡ countBy deleted fresh (manyIn t)
         go true h = rw h
         go false h = rw h (grow fresh)
 
-    pub icons-are : changed .many notifications ≡ t .many notifications
-    unfolding changeRecord
-    icons-are = go (has flags flagDeleted) refl
+    pub icons-are : changed .index .many Notifications ≡ t .index .many Notifications
+    unfolding changeRecord index.changeRecord
+    icons-are = go deleted refl
       where
-        grow : (f : Bool) → pick (both f false) (t .many notifications + 1) (t .many notifications) ≡ t .many notifications
+        grow : (f : Bool) → pick (both f false) (t .index .many Notifications + 1) (t .index .many Notifications) ≡ t .index .many Notifications
         grow true = refl
         grow false = refl
 
-        go : (d : Bool) → has flags flagDeleted ≡ d → changeRecord t windows a 0 fresh flags s icon .many notifications ≡ t .many notifications
+        go : (d : Bool) → deleted ≡ d → changed .index .many Notifications ≡ t .index .many Notifications
         go true h = rw h
         go false h = rw h (grow fresh)
 
-    pub cells-are : has flags flagIcon ≡ false → (c : ℕ) → changed .cells c ≡ t .cells c
-    unfolding changeRecord
-    cells-are e c = go (has flags flagDeleted) refl
-      where
-        go : (d : Bool) → has flags flagDeleted ≡ d → changeRecord t windows a 0 fresh flags s icon .cells c ≡ t .cells c
-        go true h = rw h
-        go false h = rw (h, e)
+    pub fields-are : (k : Key) → changed .fields (k .family) (k .a) (k .b) ≡ edit sameKey atWindow fieldsBy fieldsAt k
+    unfolding changeRecord fieldsAfter recordFields
+    fields-are k = refl
 
     pub desktop-is : changed .desktop ≡ t .desktop
     unfolding changeRecord
-    desktop-is = go (has flags flagDeleted) refl
-      where
-        go : (d : Bool) → has flags flagDeleted ≡ d → changeRecord t windows a 0 fresh flags s icon .desktop ≡ t .desktop
-        go true h = rw h
-        go false h = rw h
+    desktop-is = refl
+
+    module _ (noIcon : bringsIcon (o .flags) ≡ false) (noCell : bringsCached (o .flags) ≡ false) where
+      pub sharing-is : changed .index .sharing ≡ pick deleted (dropAll sameHolder icons (t .index .sharing)) (t .index .sharing)
+      unfolding changeRecord index.changeRecord index.pictured
+      sharing-is = go deleted refl
+        where
+          go : (d : Bool) → deleted ≡ d → changed .index .sharing ≡ pick deleted (dropAll sameHolder icons (t .index .sharing)) (t .index .sharing)
+          go true h = rw h
+          go false h = rw (h, noIcon, noCell)
+
+      pub shown-are : (h : Holder) → changed .shown h ≡ pick (both deleted (isOne sameHolder icons h)) none (t .shown h)
+      unfolding changeRecord shownAfter
+      shown-are h = rw (noIcon, noCell) (go deleted)
+        where
+          go : (d : Bool) → pick d (pick (isOne sameHolder icons h) none (t .shown h)) (t .shown h) ≡ pick (both d (isOne sameHolder icons h)) none (t .shown h)
+          go true = refl
+          go false = refl
 
 -- ---- so changes of two windows commute
 
-module _ (t : Table) (p q : ℕ) (n : p ≡ q → ⊥) (xa xb : Bool) (fa fb : ℕ) (sa sb : List ℕ) (ia ib : ℕ) where
+drops-swap : (t : Sharing Holder) (p q : ℕ) (da db : Bool) → (da ≡ true → db ≡ true
+    → dropAll sameHolder (iconsOf Windows q 0) (dropAll sameHolder (iconsOf Windows p 0) t)
+    ≡ dropAll sameHolder (iconsOf Windows p 0) (dropAll sameHolder (iconsOf Windows q 0) t))
+    → pick db (dropAll sameHolder (iconsOf Windows q 0) (pick da (dropAll sameHolder (iconsOf Windows p 0) t) t)) (pick da (dropAll sameHolder (iconsOf Windows p 0) t) t)
+    ≡ pick da (dropAll sameHolder (iconsOf Windows p 0) (pick db (dropAll sameHolder (iconsOf Windows q 0) t) t)) (pick db (dropAll sameHolder (iconsOf Windows q 0) t) t)
+drops-swap t p q true true e = e refl refl
+drops-swap t p q true false e = refl
+drops-swap t p q false true e = refl
+drops-swap t p q false false e = refl
+
+module _ (t : Table) (a b : List ℕ) (o r : WindowOrder) (n : o .window .id ≡ r .window .id → ⊥) where
   abbrev with-a : Table → Table
-  with-a u = changed xa fa sa ia u p
+  with-a u = changed a o u
 
   abbrev with-b : Table → Table
-  with-b u = changed xb fb sb ib u q
+  with-b u = changed b r u
 
-  abbrev atA : Key
-  atA = key windows p 0
+  -- what stands by keys, of which each order edits its own
+  keyed-swap : {A : Type 0} (at : Table → Key → A) (f g : A → A) → ((u : Table) (k : Key) → at (with-a u) k ≡ edit sameKey (atWindow a o) f (at u) k)
+      → ((u : Table) (k : Key) → at (with-b u) k ≡ edit sameKey (atWindow b r) g (at u) k) → (k : Key) → at (with-b (with-a t)) k ≡ at (with-a (with-b t)) k
+  keyed-swap {A = A} at f g ea eb k =
+      eb (with-a t) k
+      ∙ ap (λ (u : Key → A). edit sameKey (atWindow b r) g u k) (λ i j. ea t j i)
+      ∙ edits-commute sameKey (atWindow a o) (atWindow b r) f g (at t) (not-same (o .window .id) (r .window .id) n) (not-same (r .window .id) (o .window .id) (λ z. n (sym z))) k
+      (not-both (o .window .id) (r .window .id) n (k .family) (k .a) (k .b))
+      ∙ sym (ea (with-b t) k ∙ ap (λ (u : Key → A). edit sameKey (atWindow a o) f u k) (λ i j. eb t j i))
 
-  abbrev atB : Key
-  atB = key windows q 0
+  many-swap : (deleted a o ≡ true → 1 ≤ manyIn t) → (deleted b r ≡ true → 1 ≤ manyIn t)
+      → (g : Family) → with-b (with-a t) .index .many g ≡ with-a (with-b t) .index .many g
+  many-swap f g Windows =
+      many-are b r (with-a t)
+      ∙ ap (countBy (deleted b r) (fresh b r)) (many-are a o t)
+      ∙ counts-commute (manyIn t) (deleted a o) (fresh a o) (deleted b r) (fresh b r) f g
+      ∙ sym (many-are a o (with-b t) ∙ ap (countBy (deleted a o) (fresh a o)) (many-are b r t))
+  many-swap f g Notifications = icons-are b r (with-a t) ∙ icons-are a o t ∙ sym (icons-are a o (with-b t) ∙ icons-are b r t)
 
-  -- the same, as an equation of functions
-  records-a : (u : Table) → recordsOf (with-a u) ≡ edit sameKey atA (newOf xa fa sa ia) (recordsOf u)
-  records-a u = λ i k. records-are xa fa sa ia u p (k .family) (k .a) (k .b) i
+  module _ (x y : ℕ) (p : Plain x o) (q : Plain y r) where
+    sharing-swap : PlacesCount t → with-b (with-a t) .index .sharing ≡ with-a (with-b t) .index .sharing
+    sharing-swap f =
+        sharing-is b r (with-a t) (q .noIcon) (q .noCell)
+        ∙ ap (λ (u : Sharing Holder). pick (deleted b r) (dropAll sameHolder (icons b r) u) u) (sharing-is a o t (p .noIcon) (p .noCell))
+        ∙ drops-swap (t .index .sharing) (o .window .id) (r .window .id) (deleted a o) (deleted b r)
+        (λ da db. deletions-commute (t .index .sharing) f (o .window .id) (r .window .id) n)
+        ∙ sym (sharing-is a o (with-b t) (p .noIcon) (p .noCell)
+        ∙ ap (λ (u : Sharing Holder). pick (deleted a o) (dropAll sameHolder (icons a o) u) u) (sharing-is b r t (q .noIcon) (q .noCell)))
 
-  records-b : (u : Table) → recordsOf (with-b u) ≡ edit sameKey atB (newOf xb fb sb ib) (recordsOf u)
-  records-b u = λ i k. records-are xb fb sb ib u q (k .family) (k .a) (k .b) i
+    shown-swap : (h : Holder) → with-b (with-a t) .shown h ≡ with-a (with-b t) .shown h
+    shown-swap h =
+        shown-are b r (with-a t) (q .noIcon) (q .noCell) h
+        ∙ ap (pick (both (deleted b r) (isOne sameHolder (icons b r) h)) none) (shown-are a o t (p .noIcon) (p .noCell) h)
+        ∙ none-swap none (both (deleted a o) (isOne sameHolder (icons a o) h)) (both (deleted b r) (isOne sameHolder (icons b r) h)) (t .shown h)
+        ∙ sym (shown-are a o (with-b t) (p .noIcon) (p .noCell) h
+        ∙ ap (pick (both (deleted a o) (isOne sameHolder (icons a o) h)) none) (shown-are b r t (q .noIcon) (q .noCell) h))
 
-  records-swap : (g : Family) (x y : ℕ) → with-b (with-a t) .records g x y ≡ with-a (with-b t) .records g x y
-  records-swap g x y =
-      records-are xb fb sb ib (with-a t) q g x y
-      ∙ ap (λ (r : Key → Option Body). edit sameKey atB (newOf xb fb sb ib) r (key g x y)) (records-a t)
-      ∙ edits-commute sameKey atA atB (newOf xa fa sa ia) (newOf xb fb sb ib) (recordsOf t) (not-same p q n) (not-same q p (λ z. n (sym z))) (key g x y)
-      (not-both p q n g x y)
-      ∙ sym (records-are xa fa sa ia (with-b t) p g x y ∙ ap (λ (r : Key → Option Body). edit sameKey atA (newOf xa fa sa ia) r (key g x y)) (records-b t))
-
-  many-swap : (has fa flagDeleted ≡ true → 1 ≤ t .many windows) → (has fb flagDeleted ≡ true → 1 ≤ t .many windows)
-      → (g : Family) → with-b (with-a t) .many g ≡ with-a (with-b t) .many g
-  many-swap f g windows =
-      many-are xb fb sb ib (with-a t) q
-      ∙ ap (countBy (has fb flagDeleted) xb) (many-are xa fa sa ia t p)
-      ∙ counts-commute (t .many windows) (has fa flagDeleted) xa (has fb flagDeleted) xb f g
-      ∙ sym (many-are xa fa sa ia (with-b t) p ∙ ap (countBy (has fa flagDeleted) xa) (many-are xb fb sb ib t q))
-  many-swap f g notifications =
-      icons-are xb fb sb ib (with-a t) q ∙ icons-are xa fa sa ia t p ∙ sym (icons-are xa fa sa ia (with-b t) p ∙ icons-are xb fb sb ib t q)
-
-  pub changes-commute : has fa flagIcon ≡ false → has fb flagIcon ≡ false
-      → (has fa flagDeleted ≡ true → 1 ≤ t .many windows) → (has fb flagDeleted ≡ true → 1 ≤ t .many windows)
-      → with-b (with-a t) ≡ with-a (with-b t)
-  changes-commute ca cb f g =
-      same-table (with-b (with-a t)) (with-a (with-b t)) records-swap (many-swap f g)
-      (λ c. cells-are xb fb sb ib (with-a t) q cb c
-      ∙ cells-are xa fa sa ia t p ca c
-      ∙ sym (cells-are xa fa sa ia (with-b t) p ca c ∙ cells-are xb fb sb ib t q cb c))
-      (desktop-is xb fb sb ib (with-a t) q ∙ desktop-is xa fa sa ia t p ∙ sym (desktop-is xa fa sa ia (with-b t) p ∙ desktop-is xb fb sb ib t q))
+    pub changes-commute : PlacesCount t → (deleted a o ≡ true → 1 ≤ manyIn t) → (deleted b r ≡ true → 1 ≤ manyIn t) → with-b (with-a t) ≡ with-a (with-b t)
+    changes-commute fair f g =
+        same-table (with-b (with-a t)) (with-a (with-b t))
+        (same-index (with-b (with-a t) .index) (with-a (with-b t) .index)
+        (λ f x y. keyed-swap (λ (u : Table) (k : Key). u .index .listed (k .family) (k .a) (k .b)) (listedBy a o) (listedBy b r) (listed-are a o) (listed-are b r) (key f x y))
+        (many-swap f g) (sharing-swap fair))
+        (λ f x y. keyed-swap (λ (u : Table) (k : Key). u .fields (k .family) (k .a) (k .b)) (fieldsBy a o) (fieldsBy b r) (fields-are a o) (fields-are b r) (key f x y))
+        shown-swap
+        (desktop-is b r (with-a t) ∙ desktop-is a o t ∙ sym (desktop-is a o (with-b t) ∙ desktop-is b r t))
 
 -- ---- two orders beside each other on a table
 
 -- the change of an accepted order
+abbrev pub changeFor : Table → List ℕ → Judged → Table
+changeFor t s j = onJudged j (changeRecord t s) (changeDesktop t s) (λ n. t)
+
 abbrev pub changeBy : Table → List ℕ → Table
-changeBy t s = changeOn t s (judgeOf s)
+changeBy t s = changeFor t s (judgeOf s)
 
 -- what is deleted is listed before, so counted
 deleted-counts : (t : Table) (s : List ℕ) (id : ℕ) (o : WindowOrder) → judgeOf s ≡ Window o → Plain id o → Counts t → numberFor t s (Window o) ≡ 0
-    → has (o .flags) flagDeleted ≡ true → 1 ≤ t .many windows
+    → isDelete (o .flags) ≡ true → 1 ≤ manyIn t
 deleted-counts t s id o j p c z d =
     let w = a-window s o j in
     let e : o .flags ≡ flagsOf s = ap (λ (x : WindowOrder). x .flags) (w .is) in
-    let h : has (o .flags) flagNew ≡ false = deleted-old (o .flags) (rw e (w .whole .agrees)) d in
-    let v : verdict (freshWindow (o .flags)) (there (t .records windows id 0)) (leb (most windows) (t .many windows)) ≡ 0 = sym (window-number t s id o p) ∙ z in
-    go (there (t .records windows id 0)) refl (rw h at v)
+    let h : isNew Windows (o .flags) ≡ false = deleted-old Windows (o .flags) (rw e (w .whole .agrees)) d in
+    let v : verdict (isNew Windows (o .flags)) (listedIn t id) (leb (capacity Windows) (manyIn t)) ≡ 0 = sym (window-number t s id o p) ∙ z in
+    go (listedIn t id) refl (rw h at v)
   where
-    go : (u : Bool) → there (t .records windows id 0) ≡ u → _≡_ {A = ℕ} (pick u 0 9) 0 → 1 ≤ t .many windows
-    go true l e = c id l
+    go : (u : Bool) → listedIn t id ≡ u → _≡_ {A = ℕ} (pick (not u) 9 0) 0 → 1 ≤ manyIn t
+    go true l e = c .windows id l
     go false l e = absurd (omega (arith, e))
 
-module _ (t : Table) (a b : List ℕ) (x y : ℕ) (n : x ≡ y → ⊥) (few : t .many windows ≤ 30) (c : Counts t) where
+module _ (t : Table) (a b : List ℕ) (x y : ℕ) (n : x ≡ y → ⊥) (few : t .index .many Windows ≤ 30) (c : Counts t) where
   -- the number of a window order after another window's change
   beside-number : (s r : List ℕ) (i k : ℕ) (o p : WindowOrder) → (i ≡ k → ⊥) → Plain i o → Plain k p
-      → numberFor (changeOn t r (Window p)) s (Window o) ≡ numberFor t s (Window o)
+      → numberFor (changeFor t r (Window p)) s (Window o) ≡ numberFor t s (Window o)
   beside-number s r i k o p d f g =
-      let x = freshWindow (p .flags) in
-      let u = changed x (p .flags) r (p .icon) t (p .window .id) in
-      let e : u .records windows i 0 ≡ t .records windows i 0 =
-      records-are x (p .flags) r (p .icon) t (p .window .id) windows i 0
-      ∙ edit-other sameKey (key windows (p .window .id) 0) (newOf x (p .flags) r (p .icon)) (recordsOf t) (key windows i 0)
+      let u = changed r p t in
+      let e : listedIn u i ≡ listedIn t i =
+      listed-are r p t (key Windows i 0)
+      ∙ edit-other sameKey (atWindow r p) (listedBy r p) (λ (k : Key). t .index .listed (k .family) (k .a) (k .b)) (key Windows i 0)
       (not-same (p .window .id) i (λ z. d (sym z ∙ g .names))) in
-      keyed-number (λ (v : Table). there (v .records windows i 0)) (λ (v : Table). v .many windows) (most windows) (verdict (freshWindow (o .flags)))
-      (λ (v : Table). numberFor v s (Window o)) (λ v. window-number v s i o f) t u (ap there e)
-      (omega (arith, many-are x (p .flags) r (p .icon) t (p .window .id), count-next (has (p .flags) flagDeleted) x (t .many windows))) (omega (arith, few))
+      keyed-number (λ (v : Table). listedIn v i) manyIn (capacity Windows) (verdict (isNew Windows (o .flags))) (λ (v : Table). numberFor v s (Window o))
+      (λ v. window-number v s i o f) t u e (omega (arith, many-are r p t, count-next (deleted r p) (fresh r p) (manyIn t))) (omega (arith, few))
 
   -- whatever the two are judged to be
   number-on : (s r : List ℕ) (i k : ℕ) (j h : Judged) → (i ≡ k → ⊥) → edits i j ≡ true → edits k h ≡ true
-      → numberFor (changeOn t r h) s j ≡ numberFor t s j
+      → numberFor (changeFor t r h) s j ≡ numberFor t s j
   number-on s r i k (Window o) (Window p) d e f = beside-number s r i k o p d (plain-has i o e) (plain-has k p f)
   number-on s r i k (Window o) (Refused p) d e f = refl
   number-on s r i k (Window o) (Notification p) d e f = never f
@@ -240,12 +296,11 @@ module _ (t : Table) (a b : List ℕ) (x y : ℕ) (n : x ≡ y → ⊥) (few : t
   number-on s r i k (Desktop o) h d e f = never e
 
   changes-on : (j h : Judged) → judgeOf a ≡ j → judgeOf b ≡ h → edits x j ≡ true → edits y h ≡ true → numberFor t a j ≡ 0 → numberFor t b h ≡ 0
-      → changeOn (changeOn t a j) b h ≡ changeOn (changeOn t b h) a j
+      → changeFor (changeFor t a j) b h ≡ changeFor (changeFor t b h) a j
   changes-on (Window o) (Window p) v w e f za zb =
       let g = plain-has x o e in
       let k = plain-has y p f in
-      changes-commute t (o .window .id) (p .window .id) (λ z. n (sym (g .names) ∙ z ∙ k .names)) (freshWindow (o .flags)) (freshWindow (p .flags))
-      (o .flags) (p .flags) a b (o .icon) (p .icon) (g .noIcon) (k .noIcon) (deleted-counts t a x o v g c za) (deleted-counts t b y p w k c zb)
+      changes-commute t a b o p (λ z. n (sym (g .names) ∙ z ∙ k .names)) x y g k (c .places) (deleted-counts t a x o v g c za) (deleted-counts t b y p w k c zb)
   changes-on (Window o) (Refused p) v w e f za zb = refl
   changes-on (Window o) (Notification p) v w e f za zb = never f
   changes-on (Window o) (Desktop p) v w e f za zb = never f
@@ -254,7 +309,7 @@ module _ (t : Table) (a b : List ℕ) (x y : ℕ) (n : x ≡ y → ⊥) (few : t
   changes-on (Desktop o) h v w e f za zb = never e
 
   pub orders-apart : edits x (judgeOf a) ≡ true → edits y (judgeOf b) ≡ true → Apart number changeBy t a b
-  unfolding number numberIn
+  unfolding number index.numberIn
   orders-apart e f =
       record {
         first = λ z. number-on a b x y (judgeOf a) (judgeOf b) n e f;
@@ -279,6 +334,6 @@ apart-swaps t a b p =
       end = same-end number changeBy t a b p;
     }
 
-pub windows-swap : (t : Table) (a b : List ℕ) (x y : ℕ) → (x ≡ y → ⊥) → t .many windows ≤ 30 → Counts t → edits x (judgeOf a) ≡ true → edits y (judgeOf b) ≡ true
+pub windows-swap : (t : Table) (a b : List ℕ) (x y : ℕ) → (x ≡ y → ⊥) → t .index .many Windows ≤ 30 → Counts t → edits x (judgeOf a) ≡ true → edits y (judgeOf b) ≡ true
     → Swaps t a b
 windows-swap t a b x y n few c e f = apart-swaps t a b (orders-apart t a b x y n few c e f)

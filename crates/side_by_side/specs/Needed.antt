@@ -1,14 +1,19 @@
 -- Change request 13: what its premises are needed for, on states reached by deliveries from an emptied one. Assumes nothing.
 use Prim.Native.Nat.{ℕ}
 use mathlib.Core.Path.{_≡_}
+use mathlib.Core.Bool.{Bool}
 use mathlib.Core.List.{List, [], _∷_, _++_}
+use lib.Dec.{eqb}
 use lib.ListN.{replicate}
-use Rattle.directory.specs.Directory.{windows}
-use Rattle.table.specs.Table.{emptied}
+use Rattle.wire.specs.Tests.{pick, both, either}
+use Rattle.places.specs.declared.Family.the-variants as family
+use Rattle.places.specs.Sharing.{Sharing}
+use Rattle.places.specs.Holder.{Holder, icon, sameHolder}
+use Rattle.table.specs.Table.{Table}
 use Rattle.journal.specs.State.{State, present}
 use Rattle.session.specs.Calls.{deliver, answer, next}
 use Rattle.model.specs.Wellformed.{emptiedState}
-use Rattle.side_by_side.specs.SideBySide.{Beside, Different, EitherWay, Claim}
+use Rattle.side_by_side.specs.SideBySide.{WindowsCount, PlacesCount, Counts, Different, Claim}
 
 -- ---- orders for a window below 256
 
@@ -37,25 +42,58 @@ unfoldable pub newWindows : List ℕ → List (List ℕ)
 newWindows [] = []
 newWindows (k ∷ ks) = newWindow k ∷ newWindows ks
 
--- windows 0 to 30, new, delivered to an emptied state
+-- an emptied state with 64 places
+abbrev pub empty : State
+empty = emptiedState 64
+
+-- windows 0 to 30, new, delivered to it
 abbrev pub crowded : State
-crowded = delivered emptiedState (newWindows crowd)
+crowded = delivered empty (newWindows crowd)
 
 -- window 7 alone
 abbrev pub single : State
-single = delivered emptiedState (newWindow 7 ∷ [])
+single = delivered empty (newWindow 7 ∷ [])
 
 -- window 7 with 127 orders standing
 abbrev pub brimming : State
 brimming = delivered single (replicate 126 (titleWindow 7 0x41))
 
--- window 7 listed and a count of 0: no memory and no book has such a table
-abbrev pub uncounted : State
-uncounted =
+-- a table at the mark with another count of windows and another sharing: no memory and no book has such a one
+abbrev pub remade : ℕ → Sharing Holder → Table → State
+remade n sharing t =
     record {
-      marked = record { records = present single .records; many = λ f. 0; cells = emptied .cells; desktop = emptied .desktop };
+      marked =
+          record {
+            index = record { listed = t .index .listed; many = λ f. n; sharing = sharing };
+            fields = t .fields;
+            shown = t .shown;
+            desktop = t .desktop;
+          };
       log = [];
     }
+
+-- window 7 listed and a count of 0
+abbrev pub uncounted : State
+uncounted = remade 0 (present single .index .sharing) (present single)
+
+-- windows 7 and 8, whose small icons share a place: window 7 counts 1 at it, window 8 counts 2
+abbrev pub small : ℕ → Holder
+small k = icon family.Windows k 0 0
+
+abbrev pub isSmall : Holder → Bool
+isSmall h = either (sameHolder h (small 7)) (sameHolder h (small 8))
+
+abbrev pub unevenSharing : Sharing Holder
+unevenSharing =
+    record {
+      shares = λ g k. both (isSmall g) (isSmall k);
+      users = λ h. pick (sameHolder h (small 7)) 1 (pick (sameHolder h (small 8)) 2 0);
+      used = 2;
+      places = 64;
+    }
+
+abbrev pub uneven : State
+uneven = remade 2 unevenSharing (present (delivered single (newWindow 8 ∷ [])))
 
 -- ---- the numbers
 
@@ -68,7 +106,7 @@ pub record Numbers (s : State) (a b : List ℕ) (p q q' p' : ℕ) : Type 0 where
 
 -- at 31 listed windows two new ones: whichever comes second gets 10
 unfoldable pub AtThirtyOne : Type 0
-AtThirtyOne = (present crowded .many windows ≡ 31) × Numbers crowded (newWindow 31) (newWindow 32) 0 10 0 10
+AtThirtyOne = (present crowded .index .many family.Windows ≡ 31) × Numbers crowded (newWindow 31) (newWindow 32) 0 10 0 10
 
 -- with room for one order: whichever comes second gets 12
 unfoldable pub RoomForOne : Type 0
@@ -89,17 +127,27 @@ LastStands =
 unfoldable pub Uncounted : Type 0
 Uncounted =
     Numbers uncounted (deleteWindow 7) (newWindow 8) 0 0 0 0
-    × (present (delivered uncounted (deleteWindow 7 ∷ newWindow 8 ∷ [])) .many windows ≡ 1)
-    × (present (delivered uncounted (newWindow 8 ∷ deleteWindow 7 ∷ [])) .many windows ≡ 0)
+    × (present (delivered uncounted (deleteWindow 7 ∷ newWindow 8 ∷ [])) .index .many family.Windows ≡ 1)
+    × (present (delivered uncounted (newWindow 8 ∷ deleteWindow 7 ∷ [])) .index .many family.Windows ≡ 0)
+
+-- both are accepted either way, but who goes first decides how many places are pointed at
+unfoldable pub Uneven : Type 0
+Uneven =
+    Numbers uneven (deleteWindow 7) (deleteWindow 8) 0 0 0 0
+    × (present (delivered uneven (deleteWindow 7 ∷ deleteWindow 8 ∷ [])) .index .sharing .used ≡ 0)
+    × (present (delivered uneven (deleteWindow 8 ∷ deleteWindow 7 ∷ [])) .index .sharing .used ≡ 2)
 
 -- ---- so the claim fails with 31 for 30, and for orders that name one window
 
 unfoldable pub ThirtyNeeded : Type 0
-ThirtyNeeded = Claim 31 Different → ⊥
+ThirtyNeeded = Claim Counts 31 Different → ⊥
 
 unfoldable pub DifferentNeeded : Type 0
-DifferentNeeded = Claim 30 (λ x y. x ≡ y) → ⊥
+DifferentNeeded = Claim Counts 30 (λ x y. x ≡ y) → ⊥
 
--- and without `Counts`, on states that nothing describes
-unfoldable pub CountsNeeded : Type 0
-CountsNeeded = ((s : State) (a b : List ℕ) (x y : ℕ) → Beside 30 Different s a b x y → EitherWay s a b) → ⊥
+-- and with one half of `Counts` alone, on states that nothing describes
+unfoldable pub WindowsCountNeeded : Type 0
+WindowsCountNeeded = Claim PlacesCount 30 Different → ⊥
+
+unfoldable pub PlacesCountNeeded : Type 0
+PlacesCountNeeded = Claim WindowsCount 30 Different → ⊥

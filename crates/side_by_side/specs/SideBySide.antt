@@ -12,8 +12,9 @@ use Rattle.order.specs.declared.Judged.{Judged}
 use Rattle.order.specs.declared.Judged.the-variants.{Window, Notification, Desktop, Refused}
 use Rattle.order.specs.Flags.{isWindow}
 use Rattle.order.specs.Judge.{flagsOf, judgeOf}
-use Rattle.directory.specs.Directory.{windows}
-use Rattle.table.specs.Table.{Table, there}
+use Rattle.places.specs.declared.Family.the-variants as family
+use Rattle.places.specs.Sharing.{Sharing}
+use Rattle.table.specs.Table.{Table}
 use Rattle.journal.specs.Limits.{mostOrders, mostBytes}
 use Rattle.journal.specs.State.{State, present, bytesIn}
 use Rattle.journal.specs.View.{Memory, formed, viewOf}
@@ -45,16 +46,30 @@ FlagsSay = (s : List ℕ) → WindowFlags s → edits (windowNamed s) (judgeOf s
 
 -- ---- on states
 
--- a table whose listed windows are counted: every state that memory describes has one (`DescribedCounts`)
-abbrev pub Counts : Table → Type 0
-Counts t = (id : ℕ) → there (t .records windows id 0) ≡ true → 1 ≤ t .many windows
+-- a table whose listed windows are counted
+abbrev pub WindowsCount : Table → Type 0
+WindowsCount t = (id : ℕ) → t .index .listed family.Windows id 0 ≡ true → 1 ≤ t .index .many family.Windows
+
+-- sharing is mutual, and those who share share with the same holders and count the same users
+pub record Fair {H : Type 0} (t : Sharing H) : Type 0 where
+  pub turned : (g k : H) → t .shares g k ≡ t .shares k g
+  pub alike : (g k j : H) → t .shares g k ≡ true → t .shares g j ≡ t .shares k j
+  pub even : (g k : H) → t .shares g k ≡ true → t .users g ≡ t .users k
+
+abbrev pub PlacesCount : Table → Type 0
+PlacesCount t = Fair (t .index .sharing)
+
+-- both: every state that memory describes has such a table (`DescribedCounts`)
+pub record Counts (t : Table) : Type 0 where
+  pub windows : WindowsCount t
+  pub places : PlacesCount t
 
 -- two such orders for windows x and y, so many windows listed before the first, and the history has room for both
 pub record Beside (most : ℕ) (Asked : ℕ → ℕ → Type 0) (s : State) (a b : List ℕ) (x y : ℕ) : Type 0 where
   pub first : edits x (judgeOf a) ≡ true
   pub second : edits y (judgeOf b) ≡ true
   pub named : Asked x y
-  pub few : present s .many windows ≤ most
+  pub few : present s .index .many family.Windows ≤ most
   pub orders : length (s .log) + 2 ≤ mostOrders
   pub bytes : bytesIn (s .log) + length a + length b ≤ mostBytes
 
@@ -64,15 +79,15 @@ pub record EitherWay (s : State) (a b : List ℕ) : Type 0 where
   pub second : answer (deliver b) (next (deliver a) s) .number ≡ answer (deliver b) s .number
   pub table : present (next (deliver b) (next (deliver a) s)) ≡ present (next (deliver a) (next (deliver b) s))
 
-unfoldable pub Claim : ℕ → (ℕ → ℕ → Type 0) → Type 0
-Claim most Asked = (s : State) (a b : List ℕ) (x y : ℕ) → Counts (present s) → Beside most Asked s a b x y → EitherWay s a b
+unfoldable pub Claim : (Table → Type 0) → ℕ → (ℕ → ℕ → Type 0) → Type 0
+Claim Held most Asked = (s : State) (a b : List ℕ) (x y : ℕ) → Held (present s) → Beside most Asked s a b x y → EitherWay s a b
 
 abbrev pub Different : ℕ → ℕ → Type 0
 Different x y = x ≡ y → ⊥
 
 -- at most 30 windows, and different ones are named
 unfoldable pub SideBySide : Type 0
-SideBySide = Claim 30 Different
+SideBySide = Claim Counts 30 Different
 
 unfoldable pub DescribedCounts : Type 0
 DescribedCounts = (m : Memory) (s : State) → viewOf m ≡ formed s → Counts (present s)

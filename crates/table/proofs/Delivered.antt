@@ -1,222 +1,244 @@
 -- A delivery and an emptying, whole: the number, the table then described, and the rule kept. Assumes nothing.
 use mathlib.Core.Path.{_≡_, refl, sym, ap, _∙_}
-use mathlib.Core.Bool.{true}
-use mathlib.Core.List.{List, _++_}
-use mathlib.Core.Option.{none, some}
-use Prim.Native.Nat.{ℕ, _+_, _*_, _≤_}
+use mathlib.Core.Bool.{Bool, true, false}
+use mathlib.Core.List.{List, [], _∷_, _++_}
+use Prim.Native.Nat.{ℕ, _+_, _*_, _≤_, _<_}
 use native.Mathlib.Omega.{arith}
-use lib.Dec.{eqb}
+use lib.Dec.{ltb}
 use lib.ListN.{length, take, drop}
-use borrow.Author.Tests.{ne-eqb}
-use Rattle.wire.specs.Tests.{pick, has}
+use borrow.Author.Tests.{ltb-true, ltb-false}
+use Rattle.wire.specs.Tests.{pick}
 use Rattle.wire.specs.Parts.{splice}
 use Rattle.wire.proofs.Numbers.{Bytes}
-use Rattle.order.specs.Judge.{judgeOf}
-use Rattle.directory.specs.declared.Change.{Change}
-use Rattle.directory.specs.declared.Plan.{Plan}
-use Rattle.directory.specs.declared.Plan.the-variants.{ChangeWindow, ChangeNotification, ChangeDesktop, Refuse}
-use Rattle.directory.specs.Slots.{onFound}
-use Rattle.directory.specs.Plans.{planOf, numberOf}
-use Rattle.directory.specs.Directory.{Directory, Family, windows, notifications, numberIn}
-use Rattle.directory.specs.Marks.{markedOf, markedBy, clearedOf, emptiedOf}
-use Rattle.directory.proofs.Soundness.{sound-has}
-use Rattle.directory.proofs.Planned.{Planned, planned, window-second}
-use Rattle.directory.proofs.Numbered.{judged-number, refused-number, planned-desktop}
-use Rattle.directory.proofs.Listed.{emptied-find, emptied-many, emptied-filled}
-use Rattle.body.specs.Bodies.{windowFields, notificationFields, desktopFields, slotOf, bodyOf}
-use Rattle.body.specs.Stores.{preparedOf, EndsWell}
+use Rattle.places.specs.declared.Family.{Family}
+use Rattle.places.specs.declared.Found.{Found}
+use Rattle.places.specs.Counts.{onFound}
+use Rattle.places.specs.Memory.{placesOf, shownOf, shown}
+use Rattle.places.proofs.Meaning.{found-free}
+use Rattle.index.specs.declared.RecordOrder.{RecordOrder}
+use Rattle.index.specs.declared.Plan.{Plan}
+use Rattle.index.specs.declared.Plan.the-variants.{ChangeRecord, ChangeDesktop, Refuse}
+use Rattle.index.specs.Orders.{isDelete, bringsIcon, cellAt}
+use Rattle.index.specs.Memory.{indexOf}
+use Rattle.index.specs.Plans.{pointerFor, changeOf, planOf, planNumber}
+use Rattle.index.specs.Changes.{emptiedOf, appliedOf, FitsPlan}
+use Rattle.index.specs.Sound.{soundIndex}
+use Rattle.index.proofs.Soundness.{within-slots, free-is, never, sound-has}
+use Rattle.index.proofs.Listed.{none-find}
+use Rattle.index.proofs.Kept.{places-emptied, pointer-emptied, slots-emptied, emptied-sound}
+use Rattle.index.proofs.Numbered.{Planned}
+use Rattle.index.proofs.After.{plan-sound, plan-fits, emptied-index}
+use Rattle.body.specs.Bodies.{desktopFields, slotOf, fieldsOf, bodyOf}
+use Rattle.body.specs.Stores.{preparedOf}
 use Rattle.body.proofs.Placed.{placed}
 use Rattle.body.proofs.Fresh.{prepared-body, prepared-ok, length-prepared, desktop-room}
 use Rattle.body.proofs.Slots.{length-slot, slot-lent, slot-splice, length-bodies, slots-back}
-use Rattle.cache.specs.Cells.{cellOf, pictureOf}
-use Rattle.table.specs.Table.{emptied, number, fieldRows, fieldsAt, changeOn, after}
-use Rattle.table.specs.Memory.{decode, soundTable}
-use Rattle.table.specs.Changes.{markOf, bodiesAfter, cellsAfter, desktopSlot, bodiesBy, cellsBy, Able}
-use Rattle.table.specs.Outcome.{PastKept, Emptied, Delivered}
-use Rattle.table.proofs.Able.{able, desktop-able, pointed-cell, planned-icon}
-use Rattle.table.proofs.Bodied.{markFor, slot-length, desktop-length}
-use Rattle.table.proofs.Past.{same-past, marked-past, cleared-past, emptied-past, slot-past, bodies-past, cells-past}
-use Rattle.table.proofs.Joined.{decode-directory, record-decoded, desktop-decoded}
-use Rattle.table.proofs.Sounded.{Sound, table-has, table-is, record-sounded, desktop-sounded, emptied-sounded}
-use Rattle.protocol.specs.Flags.{desktopNone}
+use Rattle.store.specs.Store.{placesIn}
+use Rattle.picture.specs.Kept.{IconThere}
+use Rattle.picture.specs.Pictures.{pictureAt}
+use Rattle.table.specs.Table.{Table, emptied, fieldRows, changeRecord, after}
+use Rattle.table.specs.Memory.{headsOf, fixedBy, fieldsIn, decode, soundTable}
+use Rattle.table.specs.Changes.{putsPicture, slotsBy, headsBy, bodiesBy, storeBy, picturesBy, Follows}
+use Rattle.table.specs.Outcome.{StoreKept, Emptied, Delivered}
+use Rattle.table.proofs.OfKinds.{OfRecord, Planning, changes-record, changes-desktop, changes-none, planning}
+use Rattle.table.proofs.Able.{ordered-icon, record-able, plan-follows}
+use Rattle.table.proofs.Decoded.{decoded-number, places-kept}
+use Rattle.table.proofs.Past.{same-store, index-past, emptied-past}
+use Rattle.table.proofs.Heads.{slot-past}
+use Rattle.table.proofs.Changed.{bodies-are, store-kept, pictures-are, as-many-places, desk-is}
+use Rattle.table.proofs.Joined.{same-table, joined, fields-after, desktop-kept, desktop-fields, desktop-is}
+use Rattle.table.proofs.Rule.{TableSound, table-has, table-is}
+use Rattle.table.proofs.Sounded.{record-sounded, desktop-sounded}
 
--- judging asks the directory alone
-pub decoded-number : (dir bodies cells s : List ℕ) → numberOf (planOf dir s) ≡ number (decode dir bodies cells) s
-unfolding number
-decoded-number dir bodies cells s = judged-number dir s ∙ ap (λ (d : Directory). numberIn d s) (sym (decode-directory dir bodies cells))
+module _ (x b s : List ℕ) (store : List (List ℕ)) (bytes : Bytes s) (sound : soundTable x b (placesIn store) ≡ true) where
+  good : TableSound x b (placesIn store)
+  good = table-has x b (placesIn store) sound
 
-module _ (dir bodies cells s : List ℕ) (bytes : Bytes s) (sound : soundTable dir bodies cells ≡ true) where
-  good : Sound dir bodies cells
-  good = table-has dir bodies cells sound
+  abbrev t : Table
+  t = decode x b store
 
-  long-dir : 444 ≤ length dir
-  long-dir = sound-has dir (good .directory) .long
+  decoded-index : t .index ≡ indexOf x
+  unfolding decode
+  decoded-index = refl
 
-  -- no record's change reaches past the needed lengths
-  record-past : (f : Family) (c : Change) → Planned f dir s c → Able (fieldRows f) (fieldsAt f) s c
-      → PastKept dir bodies cells (markedOf dir s c) (bodiesAfter (fieldRows f) (fieldsAt f) (markFor f (c .flags)) s c bodies) (cellsAfter s c cells)
-  record-past f c p a =
-      let room : 916 * c .slot + 916 ≤ length bodies = omega (arith, a .slot, good .big) in
-      record {
-        dir = marked-past dir s c long-dir (a .slot) (p .icon);
-        bodies =
-            bodies-past (fieldRows f) (fieldsAt f) (markFor f (c .flags)) s c bodies (good .big) (a .slot)
-            (slot-length f s c (slotOf bodies (c .slot)) (length-slot bodies (c .slot) room) a (pointed-cell f dir s c p));
-        cells = cells-past s c cells (good .wide) (a .icon);
-      }
+  none-fields : (g : Family) (m n : ℕ) → fieldsIn x b g m n ≡ t .fields g m n
+  unfolding decode
+  none-fields g m n = refl
 
-  -- the table after the change, the rule kept, and the bytes past the needed lengths
+  none-desktop : bodyOf desktopFields (slotOf b 48) ≡ t .desktop
+  unfolding decode
+  none-desktop = refl
+
+  -- what the change of a plan leaves
   record Changed (p : Plan) : Type 0 where
-    pub table : decode (markedBy dir s p) (bodiesBy s p bodies) (cellsBy s p cells)
-        ≡ pick (eqb (numberOf p) 0) (changeOn (decode dir bodies cells) s (judgeOf s)) (decode dir bodies cells)
-    pub sounded : Sound (markedBy dir s p) (bodiesBy s p bodies) (cellsBy s p cells)
-    pub past : PastKept dir bodies cells (markedBy dir s p) (bodiesBy s p bodies) (cellsBy s p cells)
+    pub pictures : pictureAt (headsOf (bodiesBy s p b)) (storeBy s p store) ≡ picturesBy s p (pictureAt (headsOf b) store)
+    pub fields : (g : Family) (m n : ℕ) → fieldsIn (appliedOf x p) (bodiesBy s p b) g m n ≡ after t s .fields g m n
+    pub desktop : bodyOf desktopFields (slotOf (bodiesBy s p b) 48) ≡ after t s .desktop
+    pub sounded : soundIndex (appliedOf x p) ≡ true → placesOf (appliedOf x p) ≡ placesOf x → TableSound (appliedOf x p) (bodiesBy s p b) (placesIn store)
+    pub past : drop 45780 (bodiesBy s p b) ≡ drop 45780 b
+    pub kept : StoreKept (placesOf x) store (storeBy s p store)
+    pub same : (planNumber p ≡ 0 → ⊥) → (appliedOf x p ≡ x) × (bodiesBy s p b ≡ b) × (storeBy s p store ≡ store)
 
-  changed : (p : Plan) → planOf dir s ≡ p → Changed p
-  unfolding markedBy bodiesBy cellsBy
-  changed (ChangeWindow c) e =
-      let p = planned dir s bytes windows c e in
-      let a = able windows dir s bytes c p in
-      let cell = pointed-cell windows dir s c p in
-      let icon = planned-icon windows dir s bytes c p in
-      let b : c .notify .id ≡ 0 = window-second dir s c p in
+  record-changed : (o : RecordOrder) (i place : ℕ) → OfRecord s o → Planned x s o i place → after t s ≡ changeRecord t s o → FitsPlan (ChangeRecord (changeOf s o i place))
+      → Changed (ChangeRecord (changeOf s o i place))
+  unfolding appliedOf
+  record-changed o i place k p h fits =
+      let c = changeOf s o i place in
+      let a = record-able x s o i place k p in
+      let big = good .big in
+      let ok = sound-has x (good .index) in
       record {
-        table =
-            rw (p .judged)
-            (record-decoded windows dir bodies cells s c p (good .directory) a cell icon (good .big) (good .wide) ∙ rw (p .fresh, b));
-        sounded = record-sounded windows dir bodies cells s c p a cell icon good;
-        past = record-past windows c p a;
+        pictures = pictures-are s c b big a icon store (placesOf x) low (good .lends);
+        fields = λ g m n. fields-after x b s store o i place ok k p fits a icon big g m n ∙ ap (λ (u : Table). u .fields g m n) (sym h);
+        desktop = desktop-kept x b s store o i place ok k p fits a icon big ∙ ap (λ (u : Table). u .desktop) (sym h);
+        sounded = record-sounded x b s (placesIn store) good o i place k p fits a icon;
+        past = bodies-are s c b big a icon .past;
+        kept = store-kept s c b big a icon store (placesOf x) low (good .lends);
+        same = λ z. absurd (z refl);
       }
-  changed (ChangeNotification c) e =
-      let p = planned dir s bytes notifications c e in
-      let a = able notifications dir s bytes c p in
-      let cell = pointed-cell notifications dir s c p in
-      let icon = planned-icon notifications dir s bytes c p in
-      record {
-        table =
-            rw (p .judged) (record-decoded notifications dir bodies cells s c p (good .directory) a cell icon (good .big) (good .wide) ∙ rw (p .fresh));
-        sounded = record-sounded notifications dir bodies cells s c p a cell icon good;
-        past = record-past notifications c p a;
-      }
-  changed (ChangeDesktop flags) e =
-      let w = desktop-able dir s flags e in
-      record {
-        table = rw (planned-desktop dir s flags e) (desktop-decoded dir bodies cells s flags (good .directory) (good .big) (w .0) (w .1));
-        sounded = desktop-sounded dir bodies cells s flags good (w .0) (w .1);
-        past = record {
-          dir = cleared-past dir long-dir (has flags desktopNone);
-          bodies =
-              slot-past bodies 48 (desktopSlot flags s (slotOf bodies 48)) (good .big) (omega arith)
-              (desktop-length flags s (slotOf bodies 48) (length-slot bodies 48 (good .big)) (w .0) (w .1));
-          cells = refl;
-        };
-      }
-  changed (Refuse n) e = record { table = rw (ne-eqb n 0 (refused-number dir s n e)); sounded = good; past = same-past dir bodies cells }
+    where
+      brings : (d : Bool) → pick d false (bringsIcon (o .flags)) ≡ true → bringsIcon (o .flags) ≡ true
+      brings true e = never e
+      brings false e = e
 
-  -- a refused order changes nothing
-  kept : (p : Plan) → (numberOf p ≡ 0 → ⊥) → (markedBy dir s p ≡ dir) × (bodiesBy s p bodies ≡ bodies) × (cellsBy s p cells ≡ cells)
-  unfolding markedBy bodiesBy cellsBy
-  kept (ChangeWindow c) h = absurd (h refl)
-  kept (ChangeNotification c) h = absurd (h refl)
-  kept (ChangeDesktop flags) h = absurd (h refl)
-  kept (Refuse n) h = (refl, refl, refl)
+      icon : putsPicture (changeOf s o i place) ≡ true → IconThere s (o .icon)
+      icon e = ordered-icon s o (k .ordered) (brings (isDelete (o .flags)) e)
 
-  pub delivered : (p : Plan) → planOf dir s ≡ p
-      → Delivered dir bodies cells s (numberOf p) (markedBy dir s p) (bodiesBy s p bodies) (cellsBy s p cells)
-  unfolding after
-  delivered p e =
-      let n : numberOf p ≡ number (decode dir bodies cells) s = ap numberOf (sym e) ∙ decoded-number dir bodies cells s in
-      let c = changed p e in
+      low : putsPicture (changeOf s o i place) ≡ true → place < placesOf x
+      low e = found-free x (cellAt s (o .icon) ∷ pointerFor i (o .flags) ∷ []) place (p .icon (brings (isDelete (o .flags)) e) .1) .low
+
+  changed : (p : Plan) → Planning x s p → FitsPlan p → Changed p
+  unfolding appliedOf storeBy picturesBy slotsBy headsBy
+  changed (ChangeRecord c) (changes-record o i place k p h) fits = record-changed o i place k p (h t decoded-index) fits
+  changed (ChangeDesktop m) (changes-desktop flags k) fits =
+      let big = good .big in
+      let ok = sound-has x (good .index) in
+      let d = desk-is s flags b big (k .within) (k .fields) in
       record {
-        says = n;
-        table =
-            c .table
-            ∙ ap (λ (m : ℕ). pick (eqb m 0) (changeOn (decode dir bodies cells) s (judgeOf s)) (decode dir bodies cells)) n;
-        sound = table-is (markedBy dir s p) (bodiesBy s p bodies) (cellsBy s p cells) (c .sounded);
-        kept = kept p;
-        past = c .past;
+        pictures = ap (λ (y : List ℕ). pictureAt y store) (d .heads);
+        fields = λ g m n. desktop-fields x b s store flags ok k big g m n ∙ ap (λ (u : Table). u .fields g m n) (sym (k .changed t));
+        desktop = desktop-is x b s store flags ok k big ∙ ap (λ (u : Table). u .desktop) (sym (k .changed t));
+        sounded = desktop-sounded x b s (placesIn store) good flags k;
+        past = d .past;
+        kept = same-store (placesOf x) store;
+        same = λ z. absurd (z refl);
       }
+  changed (Refuse m) (changes-none n h) fits =
+      record {
+        pictures = refl;
+        fields = λ g m n. none-fields g m n ∙ ap (λ (u : Table). u .fields g m n) (sym (h t decoded-index));
+        desktop = none-desktop ∙ ap (λ (u : Table). u .desktop) (sym (h t decoded-index));
+        sounded = λ ok q. good;
+        past = refl;
+        kept = same-store (placesOf x) store;
+        same = λ z. (refl, refl, refl);
+      }
+
+  pub delivered : Delivered x b store s (planNumber (planOf x s)) (appliedOf x (planOf x s)) (bodiesBy s (planOf x s) b) (storeBy s (planOf x s) store)
+  delivered =
+      let ok = good .index in
+      let p = planOf x s in
+      let c = changed p (planning x s ok bytes) (plan-fits x s ok bytes) in
+      let n = places-kept x s ok bytes in
+      record {
+        says = decoded-number x b store s bytes ok;
+        table = joined x b s store ok bytes (bodiesBy s p b) (storeBy s p store) (c .pictures) (c .fields) (c .desktop);
+        sound =
+            ap (soundTable (appliedOf x p) (bodiesBy s p b)) (as-many-places (c .kept))
+            ∙ table-is (appliedOf x p) (bodiesBy s p b) (placesIn store) (c .sounded (plan-sound x s ok bytes) n);
+        places = n;
+        kept = c .same;
+        past = record { index = index-past x s ok bytes; bodies = c .past };
+        store = c .kept;
+      }
+
+  -- for the function: what its calls ask, and what they leave
+  module _ {p : Plan} (judged : p ≡ planOf x s) where
+    pub index-long : 589 ≤ length x
+    index-long = sound-has x (good .index) .long
+
+    pub plan-ready : (45780 ≤ length b) × Follows s p
+    plan-ready = (good .big, rw judged (plan-follows x s bytes (good .index)))
+
+    pub delivered-done : {r : ℕ} {y u v : List ℕ} {q : List (List ℕ)} → u ≡ slotsBy s p b → v ≡ headsBy s p u → q ≡ storeBy s p store → y ≡ appliedOf x p → r ≡ planNumber p
+        → Delivered x b store s r y v q
+    delivered-done eu ev eq ey er = rw (er, ey, ev, eu, eq, judged) delivered
 
 -- ---- emptying
 
-module _ (dir bodies cells : List ℕ) (long : 444 ≤ length dir) (big : 44884 ≤ length bodies) (wide : 50880 ≤ length cells) where
+fixed-few : (lent : ℕ) → 12 ≤ lent → (12 ≤ fixedBy lent) × (fixedBy lent ≤ 64) × (fixedBy lent ≤ lent)
+fixed-few lent l = go (ltb 64 lent) refl
+  where
+    go : (t : Bool) → ltb 64 lent ≡ t → (12 ≤ pick t 64 lent) × (pick t 64 lent ≤ 64) × (pick t 64 lent ≤ lent)
+    go true t = let m = ltb-true 64 lent t in (omega arith, omega arith, omega arith)
+    go false t = let m = ltb-false 64 lent t in (l, m, omega arith)
+
+module _ (x b : List ℕ) (lent : ℕ) (long : 589 ≤ length x) (big : 45780 ≤ length b) (many : 12 ≤ lent) where
+  abbrev n : ℕ
+  n = fixedBy lent
+
   abbrev bare : List ℕ
-  bare = preparedOf true (slotOf bodies 48)
+  bare = preparedOf true (slotOf b 48)
 
-  size : length bare ≡ 916
-  size = length-prepared true (slotOf bodies 48) (omega (arith, length-slot bodies 48 big)) ∙ length-slot bodies 48 big
+  few : (12 ≤ n) × (n ≤ 64) × (n ≤ lent)
+  few = fixed-few lent many
 
-  at-desk : slotOf (splice bodies 43968 bare) 48 ≡ bare
-  at-desk = slot-splice bodies 48 bare size big 48
+  small : n < 256
+  small = let f = few .1 in omega arith
 
-  pub emptied-is : Emptied dir bodies (emptiedOf dir) (splice bodies 43968 bare) cells
-  unfolding decode emptied
-  emptied-is =
-      let n = length-slot bodies 48 big in
-      let b : bodyOf desktopFields (slotOf (splice bodies 43968 bare) 48) ≡ emptied .desktop =
-      ap (bodyOf desktopFields) at-desk ∙ prepared-body desktopFields (slotOf bodies 48) (omega arith) (omega (arith, desktop-room)) in
+  desk-room : 916 * 48 + 916 ≤ length b
+  desk-room = omega arith
+
+  slot-long : length (slotOf b 48) ≡ 916
+  slot-long = length-slot b 48 desk-room
+
+  bare-long : length bare ≡ 916
+  bare-long = let l = slot-long in length-prepared true (slotOf b 48) (omega arith) ∙ l
+
+  at-desk : slotOf (splice b 43968 bare) 48 ≡ bare
+  at-desk = slot-splice b 48 bare bare-long desk-room 48
+
+  emptied-table : (p : List (List ℕ)) → decode (emptiedOf x n) (splice b 43968 bare) p ≡ emptied n
+  unfolding decode emptied shown shownOf
+  emptied-table p =
+      let e = slot-long in
+      let r = desktop-room in
+      same-table (decode (emptiedOf x n) (splice b 43968 bare) p) (emptied n)
+      (emptied-index x n long small)
+      (λ f m k. ap (λ (w : Found). onFound w [] (λ j. fieldsOf (fieldRows f) 2 (slotOf (splice b 43968 bare) j))) (none-find (emptiedOf x n) (slots-emptied x n long small) f m k))
+      (λ h. rw (pointer-emptied x n long small))
+      (ap (bodyOf desktopFields) at-desk ∙ prepared-body desktopFields (slotOf b 48) (omega arith) (omega arith))
+
+  emptied-sounded : TableSound (emptiedOf x n) (splice b 43968 bare) lent
+  emptied-sounded =
+      let f = few in
+      let e = slot-long in
+      let r = desktop-room in
+      let l = length-bodies b 48 bare bare-long desk-room in
+      let q = places-emptied x n long small in
       record {
-        table = λ i. record {
-          records = λ f x y. onFound (emptied-find dir long f x y i) none (λ j. some (bodyOf (fieldRows f) (slotOf (splice bodies 43968 bare) j)));
-          many = λ f. emptied-many dir long f i;
-          cells = λ c. pick (emptied-filled dir long c i) (some (pictureOf (cellOf cells c))) none;
-          desktop = b i;
-        };
-        sound =
-            table-is (emptiedOf dir) (splice bodies 43968 bare) cells
-            (emptied-sounded dir (splice bodies 43968 bare) cells long (omega (arith, length-bodies bodies 48 bare size big, big)) wide
-            (rw at-desk (prepared-ok desktopFields (slotOf bodies 48) (omega arith) (omega (arith, desktop-room)) 1 1 (placed 22 24))));
-        past = record { dir = emptied-past dir long; bodies = slot-past bodies 48 bare big (omega arith) size; cells = refl };
+        big = omega arith;
+        index = emptied-sound x n long small (f .0) (f .1);
+        lends = omega (arith, f .2);
+        records = λ g i w u. never (sym (free-is (emptiedOf x n) i (slots-emptied x n long small i (within-slots g i w))) ∙ u);
+        desktop = rw at-desk (prepared-ok desktopFields (slotOf b 48) (omega arith) (omega arith) 1 1 (placed 22 24));
+        heads = λ h ne. absurd (ne (ap (λ (r : ℕ → ℕ). r h) (pointer-emptied x n long small)));
+      }
+
+  emptied-is : Emptied x b lent (emptiedOf x n) (splice b 43968 bare)
+  emptied-is =
+      record {
+        table = emptied-table;
+        sound = table-is (emptiedOf x n) (splice b 43968 bare) lent emptied-sounded;
+        past = record { index = emptied-past x n long; bodies = slot-past b 48 bare big (omega arith) bare-long };
       }
 
   -- as the function leaves it, with the desktop's slot lent and come back
-  pub emptied-done : {d x : List ℕ} → d ≡ emptiedOf dir → x ≡ preparedOf true (take 916 (drop 43968 bodies)) → length x ≡ length (take 916 (drop 43968 bodies))
-      → Emptied dir bodies d (take 43968 bodies ++ (x ++ drop 916 (drop 43968 bodies))) cells
-  emptied-done {d} {x} e f l =
-      let q : take 916 (drop 43968 bodies) ≡ slotOf bodies 48 = slot-lent bodies 43968 916 48 refl refl in
-      let z : x ≡ bare = f ∙ ap (preparedOf true) q in
-      let n : length x ≡ 916 = ap length z ∙ size in
-      let w : take 43968 bodies ++ (x ++ drop 916 (drop 43968 bodies)) ≡ splice bodies 43968 bare =
-      slots-back bodies 48 x n big 43968 916 refl refl ∙ ap (splice bodies 43968) z in
-      rw (e, w) emptied-is
-
--- ---- for the function, by its ways out
-
-module _ (dir bodies cells s : List ℕ) (bytes : Bytes s) (sound : soundTable dir bodies cells ≡ true) {r : Plan} (judged : r ≡ planOf dir s) where
-  abbrev Long : Type 0
-  Long = (444 ≤ length dir) × (44884 ≤ length bodies) × (50880 ≤ length cells)
-
-  long-enough : Long
-  long-enough = let g = table-has dir bodies cells sound in (sound-has dir (g .directory) .long, g .big, g .wide)
-
-  pub window-ready : (c : Change) → r ≡ ChangeWindow c → Long × Able windowFields 11 s c
-  window-ready c e = (long-enough, able windows dir s bytes c (planned dir s bytes windows c (sym judged ∙ e)))
-
-  pub notification-ready : (c : Change) → r ≡ ChangeNotification c → Long × Able notificationFields 15 s c
-  notification-ready c e = (long-enough, able notifications dir s bytes c (planned dir s bytes notifications c (sym judged ∙ e)))
-
-  pub desktop-ready : (flags : ℕ) → r ≡ ChangeDesktop flags
-      → ((444 ≤ length dir) × (44884 ≤ length bodies) × (7 ≤ length s)) × EndsWell desktopFields flags s 7
-  desktop-ready flags e =
-      let w = desktop-able dir s flags (sym judged ∙ e) in
-      ((long-enough .0, long-enough .1, w .0), w .1)
-
-  module _ {d b : List ℕ} where
-    pub window-delivered : {k : List ℕ} (c : Change) → r ≡ ChangeWindow c → d ≡ markedOf dir s c → b ≡ bodiesAfter windowFields 11 (markOf (c .flags)) s c bodies
-        → k ≡ cellsAfter s c cells → Delivered dir bodies cells s 0 d b k
-    unfolding markedBy bodiesBy cellsBy
-    window-delivered c e x y z = rw (x, y, z) (delivered dir bodies cells s bytes sound (ChangeWindow c) (sym judged ∙ e))
-
-    pub notification-delivered : {k : List ℕ} (c : Change) → r ≡ ChangeNotification c → d ≡ markedOf dir s c → b ≡ bodiesAfter notificationFields 15 0 s c bodies
-        → k ≡ cellsAfter s c cells → Delivered dir bodies cells s 0 d b k
-    unfolding markedBy bodiesBy cellsBy
-    notification-delivered c e x y z = rw (x, y, z) (delivered dir bodies cells s bytes sound (ChangeNotification c) (sym judged ∙ e))
-
-    pub desktop-delivered : (flags : ℕ) → r ≡ ChangeDesktop flags → d ≡ pick (has flags desktopNone) (clearedOf dir) dir
-        → b ≡ splice bodies 43968 (desktopSlot flags s (slotOf bodies 48)) → Delivered dir bodies cells s 0 d b cells
-    unfolding markedBy bodiesBy cellsBy
-    desktop-delivered flags e x y = rw (x, y) (delivered dir bodies cells s bytes sound (ChangeDesktop flags) (sym judged ∙ e))
-
-  pub refused-delivered : (n : ℕ) → r ≡ Refuse n → Delivered dir bodies cells s n dir bodies cells
-  unfolding markedBy bodiesBy cellsBy
-  refused-delivered n e = delivered dir bodies cells s bytes sound (Refuse n) (sym judged ∙ e)
+  pub emptied-done : {m : ℕ} {y z : List ℕ} → m ≡ fixedBy lent → y ≡ emptiedOf x m → z ≡ preparedOf true (take 916 (drop 43968 b)) → length z ≡ length (take 916 (drop 43968 b))
+      → Emptied x b lent y (take 43968 b ++ (z ++ drop 916 (drop 43968 b)))
+  emptied-done {m} {y} {z} em ey ez l =
+      let q : take 916 (drop 43968 b) ≡ slotOf b 48 = slot-lent b 43968 916 48 refl refl in
+      let k : z ≡ bare = ez ∙ ap (preparedOf true) q in
+      let w : take 43968 b ++ (z ++ drop 916 (drop 43968 b)) ≡ splice b 43968 bare =
+      slots-back b 48 z (ap length k ∙ bare-long) desk-room 43968 916 refl refl ∙ ap (splice b 43968) k in
+      rw (ey, em, w) emptied-is

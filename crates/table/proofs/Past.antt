@@ -1,123 +1,136 @@
--- No change of a table's memory reaches past the needed lengths. Assumes nothing.
+-- No change of a table's memory reaches past the needed lengths, and none of its store past the places that were fixed. Assumes
+-- nothing.
 use mathlib.Core.Path.{_≡_, refl, _∙_}
 use mathlib.Core.Bool.{Bool, true, false}
-use mathlib.Core.List.{List}
-use Prim.Native.Nat.{ℕ, _+_, _*_, _-_, _≤_, _<_}
+use mathlib.Core.List.{List, [], _∷_}
+use Prim.Native.Nat.{ℕ, _+_, _*_, _≤_, _<_}
 use native.Mathlib.Omega.{arith}
-use lib.ListN.{length, drop, replicate, length-replicate}
+use lib.ListN.{length, drop, replicate, set, length-replicate}
 use Rattle.wire.specs.Tests.{pick, has}
 use Rattle.wire.specs.Numbers.{bytesOf}
 use Rattle.wire.specs.Parts.{splice}
-use Rattle.wire.proofs.Numbers.{length-bytes}
-use Rattle.wire.proofs.Parts.{length-slice, length-splice, drop-splice}
-use Rattle.order.specs.declared.Row.{Row}
-use Rattle.directory.specs.declared.Change.{Change}
-use Rattle.directory.specs.Plans.{cellAt}
-use Rattle.directory.specs.Marks.{listedOf, freedOf, filledOf, markedOf, clearedOf, emptiedOf}
-use Rattle.body.specs.Bodies.{slotOf}
-use Rattle.cache.specs.Cells.{carriedPicture, fillOf}
-use Rattle.table.specs.Changes.{slotAfter, bodiesAfter, cellsAfter, IconFits}
-use Rattle.table.specs.Outcome.{PastKept}
-use Rattle.protocol.specs.Flags.{flagDeleted, flagIcon}
+use Rattle.wire.proofs.Numbers.{Bytes, length-bytes}
+use Rattle.wire.proofs.Parts.{length-splice, drop-splice, set-splice}
+use Rattle.protocol.specs.Flags.{desktopNone}
+use Rattle.places.specs.Memory.{pointerAt}
+use Rattle.places.specs.Changes.{pointTo, pointAll, shareOf, releaseOf, releaseAllOf, releaseRecordsOf}
+use Rattle.places.proofs.Bytes.{Holders, holders-first, holders-later, length-point, length-records}
+use Rattle.index.specs.declared.Change.{Change}
+use Rattle.index.specs.declared.Plan.{Plan}
+use Rattle.index.specs.declared.Plan.the-variants.{ChangeRecord, ChangeDesktop, Refuse}
+use Rattle.index.specs.Orders.{bringsIcon, bringsCached}
+use Rattle.index.specs.Plans.{planOf}
+use Rattle.index.specs.Changes.{listedOf, freedOf, iconsAt, removedOf, picturedOf, changedOf, clearedOf, emptiedOf, appliedOf, Fits, FitsPlan}
+use Rattle.index.specs.Sound.{soundIndex}
+use Rattle.index.proofs.Memory.{releases-slotted}
+use Rattle.index.proofs.Soundness.{sound-has}
+use Rattle.index.proofs.Shared.{icons-holders}
+use Rattle.index.proofs.After.{plan-fits}
+use Rattle.table.specs.Outcome.{StoreKept, PastKept}
+use Rattle.table.proofs.Pointed.{two-holders}
 
-pub same-past : (dir bodies cells : List ℕ) → PastKept dir bodies cells dir bodies cells
-same-past dir bodies cells = record { dir = refl; bodies = refl; cells = refl }
+pub same-past : (x b : List ℕ) → PastKept x b x b
+same-past x b = record { index = refl; bodies = refl }
 
 -- of one change after another
-pub past-past : {d b c d' b' c' d'' b'' c'' : List ℕ} → PastKept d b c d' b' c' → PastKept d' b' c' d'' b'' c'' → PastKept d b c d'' b'' c''
-past-past p q = record { dir = q .dir ∙ p .dir; bodies = q .bodies ∙ p .bodies; cells = q .cells ∙ p .cells }
+pub past-past : {x b x' b' x'' b'' : List ℕ} → PastKept x b x' b' → PastKept x' b' x'' b'' → PastKept x b x'' b''
+past-past h k = record { index = k .index ∙ h .index; bodies = k .bodies ∙ h .bodies }
 
--- ---- the directory
+pub same-store : (n : ℕ) (p : List (List ℕ)) → StoreKept n p p
+same-store n p = record { lengths = refl; past = refl; others = λ q h. refl }
 
-listed-past : (dir : List ℕ) (i a b : ℕ) → 444 ≤ length dir → i < 48 → (length (listedOf dir i a b) ≡ length dir) × (drop 444 (listedOf dir i a b) ≡ drop 444 dir)
+pub store-store : {n : ℕ} {p p' p'' : List (List ℕ)} → StoreKept n p p' → StoreKept n p' p'' → StoreKept n p p''
+store-store h k = record { lengths = k .lengths ∙ h .lengths; past = k .past ∙ h .past; others = λ q l. k .others q l ∙ h .others q l }
+
+-- ---- the index
+
+point-past : (x : List ℕ) (h v : ℕ) → h < 156 → 589 ≤ length x → drop 589 (pointTo x h v) ≡ drop 589 x
+unfolding pointTo
+point-past x h v below long =
+    let e : set x (h + 1) v ≡ splice x (h + 1) (v ∷ []) = set-splice x (h + 1) v (omega arith) in
+    rw e (drop-splice x (h + 1) (v ∷ []) (omega arith) 589 (omega arith))
+
+points-past : (hs x : List ℕ) (v : ℕ) → Holders hs → 589 ≤ length x → drop 589 (pointAll x hs v) ≡ drop 589 x
+points-past [] x v all long = refl
+points-past (h ∷ hs) x v all long =
+    let l = length-point x h v in
+    points-past hs (pointTo x h v) v (holders-later h hs all) (omega arith) ∙ point-past x h v (holders-first h hs all) long
+
+listed-past : (x : List ℕ) (i a b : ℕ) → 589 ≤ length x → i < 48 → (length (listedOf x i a b) ≡ length x) × (drop 589 (listedOf x i a b) ≡ drop 589 x)
 unfolding listedOf
-listed-past dir i a b long below =
+listed-past x i a b long below =
+    let at = 157 + 9 * i in
     let l1 = length-bytes 1 1 in
     let l4 = length-bytes 4 a in
     let l5 = length-bytes 4 b in
-    let x = splice dir (9 * i) (bytesOf 1 1) in
-    let y = splice x (9 * i + 1) (bytesOf 4 a) in
-    let lx : length x ≡ length dir = length-splice dir (9 * i) (bytesOf 1 1) (omega arith) in
-    let ly : length y ≡ length x = length-splice x (9 * i + 1) (bytesOf 4 a) (omega arith) in
-    let size : length (splice y (9 * i + 5) (bytesOf 4 b)) ≡ length dir = length-splice y (9 * i + 5) (bytesOf 4 b) (omega arith) ∙ ly ∙ lx in
-    let past : drop 444 (splice y (9 * i + 5) (bytesOf 4 b)) ≡ drop 444 dir =
-    drop-splice y (9 * i + 5) (bytesOf 4 b) (omega arith) 444 (omega arith)
-    ∙ drop-splice x (9 * i + 1) (bytesOf 4 a) (omega arith) 444 (omega arith)
-    ∙ drop-splice dir (9 * i) (bytesOf 1 1) (omega arith) 444 (omega arith) in
+    let y = splice x at (bytesOf 1 1) in
+    let z = splice y (at + 1) (bytesOf 4 a) in
+    let ly : length y ≡ length x = length-splice x at (bytesOf 1 1) (omega arith) in
+    let lz : length z ≡ length y = length-splice y (at + 1) (bytesOf 4 a) (omega arith) in
+    let size : length (splice z (at + 5) (bytesOf 4 b)) ≡ length x = length-splice z (at + 5) (bytesOf 4 b) (omega arith) ∙ lz ∙ ly in
+    let past : drop 589 (splice z (at + 5) (bytesOf 4 b)) ≡ drop 589 x =
+    drop-splice z (at + 5) (bytesOf 4 b) (omega arith) 589 (omega arith)
+    ∙ drop-splice y (at + 1) (bytesOf 4 a) (omega arith) 589 (omega arith)
+    ∙ drop-splice x at (bytesOf 1 1) (omega arith) 589 (omega arith) in
     (size, past)
 
-freed-past : (dir : List ℕ) (i : ℕ) → 444 ≤ length dir → i < 48 → drop 444 (freedOf dir i) ≡ drop 444 dir
-unfolding freedOf
-freed-past dir i long below =
+removed-past : (x : List ℕ) (i : ℕ) → 589 ≤ length x → i < 48 → drop 589 (removedOf x i) ≡ drop 589 x
+unfolding removedOf freedOf releaseOf
+removed-past x i long below =
+    let z = releaseAllOf x (iconsAt i) in
+    let e = releases-slotted (iconsAt i) x (icons-holders i below) long .long in
     let l = length-bytes 1 0 in
-    drop-splice dir (9 * i) (bytesOf 1 0) (omega arith) 444 (omega arith)
+    drop-splice z (157 + 9 * i) (bytesOf 1 0) (omega arith) 589 (omega arith) ∙ points-past (iconsAt i) x 0 (icons-holders i below) long
 
-filled-past : (dir s : List ℕ) (flags icon : ℕ) → 444 ≤ length dir → (has flags flagIcon ≡ true → cellAt s icon < 12)
-    → drop 444 (filledOf dir s flags icon) ≡ drop 444 dir
-unfolding filledOf
-filled-past dir s flags icon long cell = go (has flags flagIcon) cell
+pictured-past : (x : List ℕ) (c : Change) → Fits c → 589 ≤ length x → drop 589 (picturedOf x c) ≡ drop 589 x
+unfolding picturedOf shareOf
+pictured-past x c fits long = go (bringsIcon (c .flags)) (bringsCached (c .flags)) refl
   where
-    go : (t : Bool) → (t ≡ true → cellAt s icon < 12) → drop 444 (pick t (splice dir (432 + cellAt s icon) (bytesOf 1 1)) dir) ≡ drop 444 dir
-    go true h =
-        let l = length-bytes 1 1 in
-        let k = h refl in
-        drop-splice dir (432 + cellAt s icon) (bytesOf 1 1) (omega arith) 444 (omega arith)
-    go false h = refl
-
-pub marked-past : (dir s : List ℕ) (c : Change) → 444 ≤ length dir → c .slot < 48 → (has (c .flags) flagIcon ≡ true → cellAt s (c .icon) < 12)
-    → drop 444 (markedOf dir s c) ≡ drop 444 dir
-unfolding markedOf
-marked-past dir s c long below cell = go (has (c .flags) flagDeleted) (c .fresh)
-  where
-    go : (u t : Bool)
-        → drop 444 (pick u (freedOf dir (c .slot)) (filledOf (pick t (listedOf dir (c .slot) (c .window .id) (c .notify .id)) dir) s (c .flags) (c .icon))) ≡ drop 444 dir
-    go true t = freed-past dir (c .slot) long below
-    go false true =
-        let l = listed-past dir (c .slot) (c .window .id) (c .notify .id) long below in
-        filled-past (listedOf dir (c .slot) (c .window .id) (c .notify .id)) s (c .flags) (c .icon) (omega (arith, l .0)) cell ∙ l .1
-    go false false = filled-past dir s (c .flags) (c .icon) long cell
-
-pub cleared-past : (dir : List ℕ) → 444 ≤ length dir → (t : Bool) → drop 444 (pick t (clearedOf dir) dir) ≡ drop 444 dir
-unfolding clearedOf
-cleared-past dir long true = let e = length-replicate {A = ℕ} 432 0 in drop-splice dir 0 (replicate 432 0) (omega arith) 444 (omega arith)
-cleared-past dir long false = refl
-
-pub emptied-past : (dir : List ℕ) → 444 ≤ length dir → drop 444 (emptiedOf dir) ≡ drop 444 dir
-unfolding emptiedOf
-emptied-past dir long = let e = length-replicate {A = ℕ} 444 0 in drop-splice dir 0 (replicate 444 0) (omega arith) 444 (omega arith)
-
--- ---- the bodies
-
-pub slot-past : (bodies : List ℕ) (i : ℕ) (x : List ℕ) → 44884 ≤ length bodies → i < 49 → length x ≡ 916
-    → drop 44884 (splice bodies (916 * i) x) ≡ drop 44884 bodies
-slot-past bodies i x big below size = drop-splice bodies (916 * i) x (omega arith) 44884 (omega arith)
-
-pub bodies-past : (rows : List Row) (at mark : ℕ) (s : List ℕ) (c : Change) (bodies : List ℕ) → 44884 ≤ length bodies → c .slot < 48
-    → length (slotAfter rows at mark s c (slotOf bodies (c .slot))) ≡ 916 → drop 44884 (bodiesAfter rows at mark s c bodies) ≡ drop 44884 bodies
-unfolding bodiesAfter
-bodies-past rows at mark s c bodies big below size = go (has (c .flags) flagDeleted)
-  where
-    go : (t : Bool)
-        → drop 44884 (pick t bodies (splice bodies (916 * c .slot) (slotAfter rows at mark s c (slotOf bodies (c .slot))))) ≡ drop 44884 bodies
-    go true = refl
-    go false = slot-past bodies (c .slot) (slotAfter rows at mark s c (slotOf bodies (c .slot))) big (omega arith) size
-
--- ---- the cells
-
-fill-past : (cells : List ℕ) (k : ℕ) (s : List ℕ) (icon : ℕ) → 50880 ≤ length cells → k < 12 → icon + 12 ≤ length s → length s ≤ icon + 4238
-    → drop 50880 (fillOf cells k s icon) ≡ drop 50880 cells
-unfolding fillOf
-fill-past cells k s icon wide below low high =
-    let n : length (carriedPicture s icon) ≡ length s - (icon + 3) = unfold carriedPicture in length-slice s (icon + 3) (length s - (icon + 3)) (omega arith) in
-    drop-splice cells (4240 * k + 3) (carriedPicture s icon) (omega arith) 50880 (omega arith)
-
-pub cells-past : (s : List ℕ) (c : Change) (cells : List ℕ) → 50880 ≤ length cells → IconFits s (c .flags) (c .icon)
-    → drop 50880 (cellsAfter s c cells) ≡ drop 50880 cells
-unfolding cellsAfter
-cells-past s c cells wide f = go (has (c .flags) flagDeleted) (has (c .flags) flagIcon) refl
-  where
-    go : (d t : Bool) → has (c .flags) flagIcon ≡ t
-        → drop 50880 (pick d cells (pick t (fillOf cells (cellAt s (c .icon)) s (c .icon)) cells)) ≡ drop 50880 cells
-    go true t e = refl
-    go false true e = fill-past cells (cellAt s (c .icon)) s (c .icon) wide (f .cell e) (f .low e) (f .high e)
+    go : (t u : Bool) → bringsIcon (c .flags) ≡ t
+        → drop 589 (pick t (pointAll x (c .cell ∷ c .pointer ∷ []) (c .place + 1)) (pick u (pointTo x (c .pointer) (pointerAt x (c .cell))) x)) ≡ drop 589 x
+    go true u e = points-past (c .cell ∷ c .pointer ∷ []) x (c .place + 1) (two-holders (c .cell) (c .pointer) (fits .icon e) (fits .pointer)) long
+    go false true e = point-past x (c .pointer) (pointerAt x (c .cell)) (fits .pointer) long
     go false false e = refl
+
+changed-past : (x : List ℕ) (c : Change) → Fits c → 589 ≤ length x → drop 589 (changedOf x c) ≡ drop 589 x
+unfolding changedOf
+changed-past x c fits long = go (c .deleted) (c .fresh)
+  where
+    go : (d t : Bool) → drop 589 (pick d (removedOf x (c .slot)) (picturedOf (pick t (listedOf x (c .slot) (c .window .id) (c .notify .id)) x) c)) ≡ drop 589 x
+    go true t = removed-past x (c .slot) long (fits .slot)
+    go false true =
+        let l = listed-past x (c .slot) (c .window .id) (c .notify .id) long (fits .slot) in
+        pictured-past (listedOf x (c .slot) (c .window .id) (c .notify .id)) c fits (omega (arith, l .0)) ∙ l .1
+    go false false = pictured-past x c fits long
+
+cleared-past : (x : List ℕ) → 589 ≤ length x → drop 589 (clearedOf x) ≡ drop 589 x
+unfolding clearedOf releaseRecordsOf
+cleared-past x long =
+    let l = length-records x (omega arith) in
+    let e = length-replicate {A = ℕ} 432 0 in
+    let f = length-replicate {A = ℕ} 144 0 in
+    drop-splice (releaseRecordsOf x) 157 (replicate 432 0) (omega arith) 589 (omega arith) ∙ drop-splice x 13 (replicate 144 0) (omega arith) 589 (omega arith)
+
+pub emptied-past : (x : List ℕ) (n : ℕ) → 589 ≤ length x → drop 589 (emptiedOf x n) ≡ drop 589 x
+unfolding emptiedOf
+emptied-past x n long =
+    let e = length-replicate {A = ℕ} 589 0 in
+    let l = length-bytes 1 n in
+    let m = length-splice x 0 (replicate 589 0) (omega arith) in
+    drop-splice (splice x 0 (replicate 589 0)) 0 (bytesOf 1 n) (omega arith) 589 (omega arith) ∙ drop-splice x 0 (replicate 589 0) (omega arith) 589 (omega arith)
+
+pub index-past : (x s : List ℕ) → soundIndex x ≡ true → Bytes s → drop 589 (appliedOf x (planOf x s)) ≡ drop 589 x
+unfolding appliedOf
+index-past x s ok bytes = go (planOf x s) (plan-fits x s ok bytes)
+  where
+    long : 589 ≤ length x
+    long = sound-has x ok .long
+
+    cleared : (t : Bool) → drop 589 (pick t (clearedOf x) x) ≡ drop 589 x
+    cleared true = cleared-past x long
+    cleared false = refl
+
+    go : (p : Plan) → FitsPlan p → drop 589 (appliedOf x p) ≡ drop 589 x
+    go (ChangeRecord c) fits = changed-past x c fits long
+    go (ChangeDesktop flags) fits = cleared (has flags desktopNone)
+    go (Refuse n) fits = refl

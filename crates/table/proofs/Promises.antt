@@ -1,168 +1,137 @@
 -- The promises of an accepted order, from the definition of `after`. Assumes nothing.
-use mathlib.Core.Path.{_≡_, refl, ap, _∙_}
+use mathlib.Core.Path.{_≡_, refl, sym, ap, _∙_}
 use mathlib.Core.Bool.{Bool, true, false}
-use mathlib.Core.List.{List}
+use mathlib.Core.List.{List, [], _∷_}
 use mathlib.Core.Option.{Option, none, some}
-use Prim.Native.Nat.{ℕ, _+_, _-_}
+use Prim.Native.Nat.{ℕ}
+use native.Mathlib.Omega.{arith}
 use lib.Dec.{eqb}
 use borrow.Author.Tests.{eq-eqb}
-use Rattle.wire.specs.Tests.{pick, both, either, has}
+use Rattle.wire.specs.Tests.{pick, both, either}
 use Rattle.order.specs.declared.Judged.{Judged}
 use Rattle.order.specs.declared.Judged.the-variants.{Window, Notification, Desktop, Refused}
 use Rattle.order.specs.Judge.{judgeOf}
-use Rattle.directory.specs.Plans.{cellAt}
-use Rattle.directory.specs.Directory.{Family, windows, notifications, sameFamily, sameRecord, numberIn, directoryAfter}
-use Rattle.directory.specs.Directory as D
-use Rattle.directory.proofs.Soundness.{family-same}
-use Rattle.body.specs.Bodies.{Body}
+use Rattle.places.specs.declared.Family.{Family}
+use Rattle.places.specs.Sharing.{isOne}
+use Rattle.places.specs.Holder.{Holder, cell, icon, sameFamily, sameHolder}
+use Rattle.index.specs.declared.RecordOrder.{RecordOrder}
+use Rattle.index.specs.Families.{sameRecord}
+use Rattle.index.specs.Orders.{onJudged, bringsIcon, bringsCached, cellAt, whichOf, pointerOf, holdersOf}
+use Rattle.index.specs.Index as index
+use Rattle.index.specs.Promises.{touched}
+use Rattle.index.proofs.Soundness.{never, family-same}
+use Rattle.index.proofs.Ordered.{windowOrder, notificationOrder}
+use Rattle.index.proofs.Promises.{records-keep}
+use Rattle.body.specs.Bodies.{setFlagged}
 use Rattle.body.proofs.Each.{sets-flagged}
 use Rattle.cache.specs.Cells.{carriedPicture}
-use Rattle.table.specs.Table.{Table, emptied, there, directory, number, fieldRows, fieldsAt, bodyAfter, bodyBefore, changeRecord, changeDesktop, desktopAfter, changeOn, after}
-use Rattle.table.specs.Promises.{orderFor, secondOf, freshFor, Updates, Updated, UpdatesKeep, DirectoryAlone}
-use Rattle.protocol.specs.Flags.{desktopNone, flagDeleted, flagIcon}
+use Rattle.table.specs.Table.{Table, fieldRows, fieldsAt, fieldsBefore, recordFields, fieldsAfter, shownAfter, changeRecord, changeDesktop, after}
+use Rattle.table.specs.Promises.{recordOrder, Updates, Updated, UpdatesKeep}
+use Rattle.table.proofs.Pointed.{own-record}
 
--- ---- an update
+module _ (t : Table) (s : List ℕ) (o : RecordOrder) (u : Updates t s o) where
+  changed-on : (j : Judged) → recordOrder j ≡ some o → onJudged j (changeRecord t s) (changeDesktop t s) (λ n. t) ≡ changeRecord t s o
+  changed-on (Window w) e = let k : windowOrder w ≡ o = cc in ap (changeRecord t s) k
+  changed-on (Notification w) e = let k : notificationOrder w ≡ o = cc in ap (changeRecord t s) k
+  changed-on (Desktop w) e = let z : _≡_ {A = ℕ} 0 1 = cc in absurd (omega arith)
+  changed-on (Refused r) e = let z : _≡_ {A = ℕ} 0 1 = cc in absurd (omega arith)
 
-module _ (t : Table) (s : List ℕ) (f : Family) (a b flags icon : ℕ) (u : Updates t s f a b flags icon) where
-  abbrev changed : Table
-  changed = changeRecord t f a (secondOf f b) (freshFor f flags) flags s icon
-
-  changed-on : (g : Family) → changeOn t s (orderFor g a b flags icon) ≡ changeRecord t g a (secondOf g b) (freshFor g flags) flags s icon
-  changed-on windows = refl
-  changed-on notifications = refl
-
-  after-is : after t s ≡ changed
+  after-is : after t s ≡ changeRecord t s o
   unfolding after
-  after-is = rw (u .accepted, u .judged) (changed-on f)
+  after-is = rw (u .accepted) (changed-on (judgeOf s) (u .judged))
 
-  self : sameRecord f a (secondOf f b) f a (secondOf f b) ≡ true
-  self = rw (family-same f, eq-eqb a a refl, eq-eqb (secondOf f b) (secondOf f b) refl)
+  abbrev family : Family
+  family = o .family
 
-  abbrev body : Body
-  body = bodyAfter f flags s icon (bodyBefore t f a (secondOf f b) (freshFor f flags))
+  abbrev a : ℕ
+  a = o .window .id
 
-  record-is : changed .records f a (secondOf f b) ≡ some body
-  unfolding changeRecord
-  record-is = rw (u .stays, self)
+  abbrev b : ℕ
+  b = o .notify .id
 
-  others-are : (g : Family) (x y : ℕ) → sameRecord f a (secondOf f b) g x y ≡ false → changed .records g x y ≡ t .records g x y
-  unfolding changeRecord
-  others-are g x y e = rw (u .stays, e)
+  listed-is : changeRecord t s o .index .listed family a b ≡ true
+  unfolding changeRecord index.changeRecord
+  listed-is = rw (u .stays, own-record family a b)
 
-  desktop-is : changed .desktop ≡ t .desktop
-  unfolding changeRecord
-  desktop-is = rw (u .stays)
+  fields-are : changeRecord t s o .fields family a b ≡ recordFields t s o
+  unfolding changeRecord fieldsAfter
+  fields-are = rw (own-record family a b)
 
-  filled-is : has flags flagIcon ≡ true → changed .cells (cellAt s icon) ≡ some (carriedPicture s icon)
-  unfolding changeRecord
-  filled-is h = rw (u .stays, h, eq-eqb (cellAt s icon) (cellAt s icon) refl)
+  others-are : (g : Family) (x y : ℕ) → sameRecord family a b g x y ≡ false
+      → (changeRecord t s o .fields g x y ≡ t .fields g x y) × (changeRecord t s o .index .listed g x y ≡ t .index .listed g x y)
+  unfolding changeRecord fieldsAfter
+  others-are g x y e = (rw e, records-keep .listed (t .index) s o g x y e)
 
-  cells-are : (c : ℕ) → both (has flags flagIcon) (eqb (cellAt s icon) c) ≡ false → changed .cells c ≡ t .cells c
-  unfolding changeRecord
-  cells-are c e = rw (u .stays, e)
+  abbrev shown : Holder → Option (List ℕ)
+  shown = changeRecord t s o .shown
 
-  updated : Updated t s f a b flags icon
-  unfolding bodyAfter
+  brought-is : bringsIcon (o .flags) ≡ true → (h : Holder) → isOne sameHolder (holdersOf s o) h ≡ true → shown h ≡ some (carriedPicture s (o .icon))
+  unfolding changeRecord shownAfter
+  brought-is e h i = rw (u .stays, e) (go (isOne sameHolder (holdersOf s o) h) i)
+    where
+      go : (b : Bool) → b ≡ true → pick b (some (carriedPicture s (o .icon))) (t .shown h) ≡ some (carriedPicture s (o .icon))
+      go true e = refl
+      go false e = never e
+
+  own-pointer : sameHolder (pointerOf o) (pointerOf o) ≡ true
+  own-pointer = rw (family-same family, eq-eqb a a refl, eq-eqb b b refl, eq-eqb (whichOf (o .flags)) (whichOf (o .flags)) refl)
+
+  cached-is : bringsIcon (o .flags) ≡ false → bringsCached (o .flags) ≡ true → shown (pointerOf o) ≡ t .shown (cell (cellAt s (o .icon)))
+  unfolding changeRecord shownAfter
+  cached-is e f = rw (u .stays, e, f) (ap (λ (b : Bool). pick b (t .shown (cell (cellAt s (o .icon)))) (t .shown (pointerOf o))) own-pointer)
+
+  -- what is not touched
+  pictures-are : (h : Holder) → isOne sameHolder (touched s o) h ≡ false → shown h ≡ t .shown h
+  unfolding changeRecord shownAfter touched
+  pictures-are h = rw (u .stays) (go (bringsIcon (o .flags)) (bringsCached (o .flags)))
+    where
+      one : (b : Bool) (x y : Option (List ℕ)) → b ≡ false → pick b x y ≡ y
+      one true x y e = never (sym e)
+      one false x y e = refl
+
+      left : (b : Bool) → either b false ≡ false → b ≡ false
+      left true e = e
+      left false e = refl
+
+      go : (i c : Bool) → isOne sameHolder (pick i (holdersOf s o) (pick c (pointerOf o ∷ []) [])) h ≡ false
+          → pick i (pick (isOne sameHolder (holdersOf s o) h) (some (carriedPicture s (o .icon))) (t .shown h))
+          (pick c (pick (sameHolder h (pointerOf o)) (t .shown (cell (cellAt s (o .icon)))) (t .shown h)) (t .shown h)) ≡ t .shown h
+      go true c e = one (isOne sameHolder (holdersOf s o) h) (some (carriedPicture s (o .icon))) (t .shown h) e
+      go false true e = one (sameHolder h (pointerOf o)) (t .shown (cell (cellAt s (o .icon)))) (t .shown h) (left (sameHolder h (pointerOf o)) e)
+      go false false e = refl
+
+  -- an icon of another record is none of the order's
+  other-icon : (g : Family) (x y w : ℕ) → sameRecord family a b g x y ≡ false → isOne sameHolder (touched s o) (icon g x y w) ≡ false
+  unfolding touched
+  other-icon g x y w e = rw (u .stays) (go (bringsIcon (o .flags)) (bringsCached (o .flags)) (pointer (sameFamily g family) (eqb x a) (eqb y b) (eqb w (whichOf (o .flags))) e))
+    where
+      pointer : (f i j k : Bool) → both f (both i j) ≡ false → both f (both i (both j k)) ≡ false
+      pointer true true true k e = never (sym e)
+      pointer true true false k e = refl
+      pointer true false j k e = refl
+      pointer false i j k e = refl
+
+      go : (i c : Bool) → sameHolder (icon g x y w) (pointerOf o) ≡ false → isOne sameHolder (pick i (holdersOf s o) (pick c (pointerOf o ∷ []) [])) (icon g x y w) ≡ false
+      go true c n = rw n
+      go false true n = rw n
+      go false false n = refl
+
+  updated : Updated t s o
+  unfolding recordFields changeRecord
   updated =
+      let f : after t s .fields family a b ≡ setFlagged (fieldRows family) (o .flags) s (fieldsAt family) (fieldsBefore t o) =
+      ap (λ (v : Table). v .fields family a b) after-is ∙ fields-are ∙ rw (u .stays) in
       record {
-        new = body;
-        is = ap (λ (t : Table). t .records f a (secondOf f b)) after-is ∙ record-is;
-        fields = sets-flagged (fieldRows f) flags s (fieldsAt f) (bodyBefore t f a (secondOf f b) (freshFor f flags) .fields);
-        others = λ g x y e. ap (λ (t : Table). t .records g x y) after-is ∙ others-are g x y e;
-        desktop = ap (λ (t : Table). t .desktop) after-is ∙ desktop-is;
-        filled = λ h. ap (λ (t : Table). t .cells (cellAt s icon)) after-is ∙ filled-is h;
-        cells = λ c e. ap (λ (t : Table). t .cells c) after-is ∙ cells-are c e;
+        listed = ap (λ (v : Table). v .index .listed family a b) after-is ∙ listed-is;
+        fields = rw f (sets-flagged (fieldRows family) (o .flags) s (fieldsAt family) (fieldsBefore t o));
+        others = λ g x y e. (ap (λ (v : Table). v .fields g x y) after-is ∙ others-are g x y e .0, ap (λ (v : Table). v .index .listed g x y) after-is ∙ others-are g x y e .1);
+        desktop = ap (λ (v : Table). v .desktop) after-is;
+        brought = λ e h i. ap (λ (v : Table). v .shown h) after-is ∙ brought-is e h i;
+        cached = λ e f. ap (λ (v : Table). v .shown (pointerOf o)) after-is ∙ cached-is e f;
+        pictures = λ h e. ap (λ (v : Table). v .shown h) after-is ∙ pictures-are h e;
+        icons = λ g x y w e. ap (λ (v : Table). v .shown (icon g x y w)) after-is ∙ pictures-are (icon g x y w) (other-icon g x y w e);
       }
 
 pub updates-keep : UpdatesKeep
 unfolding UpdatesKeep
-updates-keep t s f a b flags icon u = updated t s f a b flags icon u
-
--- ---- the directory after an order
-
-there-none : {A : Type 0} (t : Bool) (x : Option A) → there (pick t none x) ≡ pick t false (there x)
-there-none true x = refl
-there-none false x = refl
-
-there-some : {A : Type 0} (t : Bool) (y : A) (x : Option A) → there (pick t (some y) x) ≡ pick t true (there x)
-there-some true y x = refl
-there-some false y x = refl
-
-there-either : {A : Type 0} (t : Bool) (y : A) (x : Option A) → there (pick t (some y) x) ≡ either t (there x)
-there-either true y x = refl
-there-either false y x = refl
-
--- the table without a record, and with it
-abbrev gone : Table → Family → ℕ → ℕ → Table
-gone t f a b =
-    record {
-      records = λ g x y. pick (sameRecord f a b g x y) none (t .records g x y);
-      many = λ g. pick (sameFamily f g) (t .many g - 1) (t .many g);
-      cells = t .cells;
-      desktop = t .desktop;
-    }
-
-abbrev set-record : Table → Family → ℕ → ℕ → Bool → ℕ → List ℕ → ℕ → Table
-set-record t f a b fresh flags s icon =
-    record {
-      records = λ g x y. pick (sameRecord f a b g x y) (some (bodyAfter f flags s icon (bodyBefore t f a b fresh))) (t .records g x y);
-      many = λ g. pick (both fresh (sameFamily f g)) (t .many g + 1) (t .many g);
-      cells = λ c. pick (both (has flags flagIcon) (eqb (cellAt s icon) c)) (some (carriedPicture s icon)) (t .cells c);
-      desktop = t .desktop;
-    }
-
-record-directory : (t : Table) (f : Family) (a b : ℕ) (fresh : Bool) (flags : ℕ) (s : List ℕ) (icon : ℕ)
-    → directory (changeRecord t f a b fresh flags s icon) ≡ D.changeRecord (directory t) f a b fresh flags s icon
-unfolding directory changeRecord D.changeRecord
-record-directory t f a b fresh flags s icon = go (has flags flagDeleted)
-  where
-    go : (d : Bool) → directory (pick d (gone t f a b) (set-record t f a b fresh flags s icon))
-        ≡ pick d
-        (record {
-          listed = λ g x y. pick (sameRecord f a b g x y) false (there (t .records g x y));
-          many = λ g. pick (sameFamily f g) (t .many g - 1) (t .many g);
-          filled = λ c. there (t .cells c);
-        })
-        (record {
-          listed = λ g x y. pick (sameRecord f a b g x y) true (there (t .records g x y));
-          many = λ g. pick (both fresh (sameFamily f g)) (t .many g + 1) (t .many g);
-          filled = λ c. either (both (has flags flagIcon) (eqb (cellAt s icon) c)) (there (t .cells c));
-        })
-    go true = λ i. record {
-      listed = λ g x y. there-none (sameRecord f a b g x y) (t .records g x y) i;
-      many = λ g. pick (sameFamily f g) (t .many g - 1) (t .many g);
-      filled = λ c. there (t .cells c);
-    }
-    go false = λ i. record {
-      listed =
-          λ g x y. there-some (sameRecord f a b g x y) (bodyAfter f flags s icon (bodyBefore t f a b fresh)) (t .records g x y) i;
-      many = λ g. pick (both fresh (sameFamily f g)) (t .many g + 1) (t .many g);
-      filled = λ c. there-either (both (has flags flagIcon) (eqb (cellAt s icon) c)) (carriedPicture s icon) (t .cells c) i;
-    }
-
-desktop-directory : (t : Table) (flags : ℕ) (s : List ℕ) → directory (changeDesktop t flags s) ≡ D.changeDesktop (directory t) flags
-unfolding directory changeDesktop D.changeDesktop emptied
-desktop-directory t flags s = go (has flags desktopNone)
-  where
-    go : (d : Bool)
-        → directory
-        (pick d (record { records = emptied .records; many = emptied .many; cells = t .cells; desktop = emptied .desktop })
-        (record { records = t .records; many = t .many; cells = t .cells; desktop = desktopAfter flags s (t .desktop) }))
-        ≡ pick d (record { listed = λ f a b. false; many = λ f. 0; filled = λ c. there (t .cells c) }) (directory t)
-    go true = refl
-    go false = refl
-
-on-directory : (t : Table) (s : List ℕ) (j : Judged) → directory (changeOn t s j) ≡ D.changeOn (directory t) s j
-on-directory t s (Window o) = record-directory t windows (o .window .id) 0 (freshFor windows (o .flags)) (o .flags) s (o .icon)
-on-directory t s (Notification o) =
-    record-directory t notifications (o .window .id) (o .notify .id) (freshFor notifications (o .flags)) (o .flags) s (o .icon)
-on-directory t s (Desktop o) = desktop-directory t (o .flags) s
-on-directory t s (Refused r) = refl
-
-pub directory-alone : DirectoryAlone
-unfolding DirectoryAlone after directoryAfter number
-directory-alone t s = go (eqb (numberIn (directory t) s) 0)
-  where
-    go : (d : Bool) → directory (pick d (changeOn t s (judgeOf s)) t) ≡ pick d (D.changeOn (directory t) s (judgeOf s)) (directory t)
-    go true = on-directory t s (judgeOf s)
-    go false = refl
+updates-keep t s o u = updated t s o u

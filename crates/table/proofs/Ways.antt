@@ -1,108 +1,77 @@
 -- What each function over a table's memory does, by its tests: one law for each way out. Assumes nothing.
-use mathlib.Core.Path.{_≡_, ap, _∙_}
+use mathlib.Core.Path.{_≡_, refl, sym, ap, _∙_}
 use mathlib.Core.Bool.{Bool, true, false}
-use mathlib.Core.List.{List, _++_}
-use Prim.Native.Nat.{ℕ, _+_, _*_, _%_, _≤_, _<_}
+use mathlib.Core.List.{List, [], _∷_, _++_}
+use mathlib.Core.Logic.{inl, inr}
+use Prim.Native.Nat.{ℕ, _+_, _*_, _-_, _≤_, _<_}
 use native.Mathlib.Omega.{arith}
+use lib.Dec.{eqb}
 use lib.Bits.{bitAnd}
-use lib.ListN.{length, take, drop}
-use borrow.Author.Tests.{ne-eqb, eq-eqb, lt-ltb, le-ltb}
-use Rattle.wire.specs.Tests.{has}
-use Rattle.wire.specs.Numbers.{bytesOf}
+use lib.ListN.{length, getD, take, drop, length-take, length-drop}
+use lib.Seq.{take-all}
+use borrow.Author.Tests.{eqb-true, eqb-false, eq-eqb, ne-eqb, lt-ltb, le-ltb}
+use denote.Enum.Declared.{tagOf}
+use types.Run.{OneOf}
+use Rattle.wire.specs.Tests.{pick, has}
 use Rattle.wire.specs.Parts.{splice}
+use Rattle.wire.proofs.Numbers.{num1-is}
+use Rattle.wire.proofs.Parts.{part-back}
 use Rattle.order.specs.declared.Row.{Row}
-use Rattle.directory.specs.declared.Change.{Change}
-use Rattle.directory.specs.Slots.{isUsed, filledAt}
-use Rattle.directory.specs.Plans.{cellAt}
-use Rattle.directory.specs.Sound.{slotsOk, soundDirectory}
+use Rattle.order.specs.Icons.{partsOf}
+use Rattle.protocol.specs.Flags.{flagIcon}
+use Rattle.places.specs.declared.Family.the-variants.{Windows, Notifications}
+use Rattle.places.specs.Counts.{eachBelow}
+use Rattle.places.specs.Memory.{placesOf}
+use Rattle.places.proofs.Counting.{each-has, each-is}
+use Rattle.places.proofs.Bytes.{inside}
+use Rattle.places.proofs.Validity.{valid-has}
+use Rattle.index.specs.declared.Change.{Change}
+use Rattle.index.specs.declared.Plan.{Plan}
+use Rattle.index.specs.declared.Plan.the-variants.{ChangeRecord, ChangeDesktop, Refuse}
+use Rattle.index.specs.Slots.{usedAt, isUsed}
+use Rattle.index.specs.Sound.{eachFrom, soundIndex}
+use Rattle.index.proofs.Plan.{the-type}
+use Rattle.index.proofs.Soundness.{sound-has}
 use Rattle.body.specs.Bodies.{windowFields, notificationFields, desktopFields, slotOf, bodyOk}
-use Rattle.body.specs.Stores.{storeOf, preparedOf, pointedOf, hookedOf, syncedOf, roomAll}
-use Rattle.body.proofs.Fresh.{window-room, notification-room, desktop-room}
+use Rattle.body.specs.Stores.{storeOf, preparedOf, hookedOf, syncedOf, roomAll, EndsWell}
 use Rattle.body.proofs.Slots.{length-slot, slot-lent, slots-back}
-use Rattle.cache.specs.Cells.{cellOf, cellOk, fillOf}
-use Rattle.table.specs.Changes.{markOf, slotAfter, bodiesAfter, cellsAfter, desktopSlot, IconFits}
-use Rattle.table.specs.Memory.{recordOk, windowOk, notificationOk, filledOk, soundTable}
-use Rattle.protocol.specs.Flags.{flagBigIcon, flagDeleted, flagIcon}
+use Rattle.store.specs.Store.{placeLength}
+use Rattle.picture.specs.Pictures.{headOk, headsAfter, storeAfter}
+use Rattle.table.specs.Memory.{headsOf, fixedBy, recordOk, holderOk, soundTable}
+use Rattle.table.specs.Changes.{slotAfter, slotsAfter, headsPut, desktopSlot, slotsBy, headsBy, storeBy, Able, Follows}
+use Rattle.table.proofs.Bodied.{family-room}
 
-pub lacks : (flags mask : ℕ) → bitAnd flags mask ≡ 0 → has flags mask ≡ false
+lacks : (flags mask : ℕ) → bitAnd flags mask ≡ 0 → has flags mask ≡ false
 lacks flags mask h = rw (eq-eqb (bitAnd flags mask) 0 h)
 
-pub holds : (flags mask : ℕ) → (bitAnd flags mask ≡ 0 → ⊥) → has flags mask ≡ true
+holds : (flags mask : ℕ) → (bitAnd flags mask ≡ 0 → ⊥) → has flags mask ≡ true
 holds flags mask h = rw (ne-eqb (bitAnd flags mask) 0 h)
+
+stays : (t : Bool) (x y : List ℕ) → t ≡ false → y ≡ pick t x y
+stays t x y e = rw e
 
 -- ---- a slot
 
--- a mark is one byte
-mark-byte : (flags mark v : ℕ) (slot : List ℕ) → pointedOf flags mark (v % 256) slot ≡ pointedOf flags mark v slot
-unfolding pointedOf bytesOf
-mark-byte flags mark v slot = let e : v % 256 % 256 ≡ v % 256 = omega arith in rw e
+pub slot-stored : (rows : List Row) (flags : ℕ) (s : List ℕ) (at : ℕ) (fresh : Bool) (slot : List ℕ) {x y : List ℕ} → x ≡ preparedOf fresh slot
+    → y ≡ storeOf rows 2 flags s at x → y ≡ storeOf rows 2 flags s at (preparedOf fresh slot)
+slot-stored rows flags s at fresh slot e f = f ∙ ap (storeOf rows 2 flags s at) e
 
-pub slot-changed : (rows : List Row) (at mark : ℕ) (s : List ℕ) (c : Change) (slot : List ℕ) {v : ℕ} {x y z : List ℕ}
-    → v ≡ (cellAt s (c .icon) + 1) % 256 → x ≡ preparedOf (c .fresh) slot → y ≡ pointedOf (c .flags) mark v x → z ≡ storeOf rows 2 (c .flags) s at y
-    → z ≡ slotAfter rows at mark s c slot
-unfolding slotAfter
-slot-changed rows at mark s c slot {v} {x} e f g h = rw (← f, ← mark-byte (c .flags) mark (cellAt s (c .icon) + 1) x, ← e, ← g) h
+module _ (s : List ℕ) (c : Change) (slot : List ℕ) where
+  pub window-asks : c .family ≡ Windows → Able s c → (11 ≤ length s) × (2 + roomAll windowFields ≤ 916) × EndsWell windowFields (c .flags) s 11
+  window-asks e a = let w : 11 ≤ length s = rw e at (a .within) in (w, family-room Windows, rw e at (a .fields))
 
--- a slot that was lent and came back changed
-pub slot-back : (bodies : List ℕ) (k base n : ℕ) (change : List ℕ → List ℕ) {x : List ℕ} → 916 * k + 916 ≤ length bodies → base ≡ 916 * k → n ≡ 916
-    → length x ≡ length (take n (drop base bodies)) → x ≡ change (take n (drop base bodies))
-    → take base bodies ++ (x ++ drop n (drop base bodies)) ≡ splice bodies (916 * k) (change (slotOf bodies k))
-slot-back bodies k base n change {x} room at all size e =
-    let l = slot-lent bodies base n k at all in
-    slots-back bodies k x (size ∙ ap length l ∙ length-slot bodies k room) room base n at all ∙ ap (splice bodies (916 * k)) (e ∙ ap change l)
+  pub notification-asks : c .family ≡ Notifications → Able s c → (15 ≤ length s) × (2 + roomAll notificationFields ≤ 916) × EndsWell notificationFields (c .flags) s 15
+  notification-asks e a = let w : 15 ≤ length s = rw e at (a .within) in (w, family-room Notifications, rw e at (a .fields))
 
--- ---- the bodies
+  pub window-slot : {x : List ℕ} → c .family ≡ Windows → x ≡ storeOf windowFields 2 (c .flags) s 11 (preparedOf (c .fresh) slot) → x ≡ slotAfter s c slot
+  unfolding slotAfter
+  window-slot e f = rw e f
 
-module _ (rows : List Row) (at mark : ℕ) (s : List ℕ) (c : Change) (bodies : List ℕ) where
-  pub body-kept : (bitAnd (c .flags) flagDeleted ≡ 0 → ⊥) → bodies ≡ bodiesAfter rows at mark s c bodies
-  unfolding bodiesAfter
-  body-kept h = rw (holds (c .flags) flagDeleted h)
+  pub notification-slot : {x : List ℕ} → c .family ≡ Notifications → x ≡ storeOf notificationFields 2 (c .flags) s 15 (preparedOf (c .fresh) slot) → x ≡ slotAfter s c slot
+  unfolding slotAfter
+  notification-slot e f = rw e f
 
-  pub body-changed : {x : List ℕ} → bitAnd (c .flags) flagDeleted ≡ 0 → x ≡ splice bodies (916 * c .slot) (slotAfter rows at mark s c (slotOf bodies (c .slot)))
-      → x ≡ bodiesAfter rows at mark s c bodies
-  unfolding bodiesAfter
-  body-changed h e = rw (lacks (c .flags) flagDeleted h) e
-
-pub big : (flags : ℕ) → (bitAnd flags flagBigIcon ≡ 0 → ⊥) → (1 ≡ markOf flags) × (1 < 2)
-big flags h = (rw (holds flags flagBigIcon h), omega arith)
-
-pub small : (flags : ℕ) → bitAnd flags flagBigIcon ≡ 0 → (0 ≡ markOf flags) × (0 < 2)
-small flags h = (rw (lacks flags flagBigIcon h), omega arith)
-
-pub marked : (s : List ℕ) (c : Change) (bodies : List ℕ) {mark : ℕ} {x : List ℕ} → mark ≡ markOf (c .flags) → x ≡ bodiesAfter windowFields 11 mark s c bodies
-    → x ≡ bodiesAfter windowFields 11 (markOf (c .flags)) s c bodies
-marked s c bodies e f = rw (← e) f
-
-pub window-fits : 2 + roomAll windowFields ≤ 916
-window-fits = omega (arith, window-room)
-
-pub notification-fits : 2 + roomAll notificationFields ≤ 916
-notification-fits = omega (arith, notification-room)
-
-pub desktop-fits : 2 + roomAll desktopFields ≤ 916
-desktop-fits = omega (arith, desktop-room)
-
--- ---- the cells
-
-module _ (s : List ℕ) (c : Change) (cells : List ℕ) where
-  pub cells-deleted : (bitAnd (c .flags) flagDeleted ≡ 0 → ⊥) → cells ≡ cellsAfter s c cells
-  unfolding cellsAfter
-  cells-deleted h = rw (holds (c .flags) flagDeleted h)
-
-  module _ (h : bitAnd (c .flags) flagDeleted ≡ 0) where
-    pub cells-kept : bitAnd (c .flags) flagIcon ≡ 0 → cells ≡ cellsAfter s c cells
-    unfolding cellsAfter
-    cells-kept g = rw (lacks (c .flags) flagDeleted h, lacks (c .flags) flagIcon g)
-
-    pub cell-filled : {k : ℕ} {x : List ℕ} → (bitAnd (c .flags) flagIcon ≡ 0 → ⊥) → k ≡ cellAt s (c .icon) → x ≡ fillOf cells k s (c .icon) → x ≡ cellsAfter s c cells
-    unfolding cellsAfter
-    cell-filled g e f = rw (lacks (c .flags) flagDeleted h, holds (c .flags) flagIcon g, ← e) f
-
-pub icon-fits : (s : List ℕ) (flags icon : ℕ) {k : ℕ} → (bitAnd flags flagIcon ≡ 0 → ⊥) → k ≡ cellAt s icon → IconFits s flags icon
-    → (k < 12) × (icon + 12 ≤ length s) × (length s ≤ icon + 4238)
-icon-fits s flags icon h e f = let t = holds flags flagIcon h in (rw e (f .cell t), f .low t, f .high t)
-
--- ---- the desktop
+-- ---- the desktop's slot
 
 module _ (flags : ℕ) (s slot : List ℕ) where
   pub desktop-none : {x : List ℕ} → (bitAnd flags 0x00000001 ≡ 0 → ⊥) → x ≡ preparedOf true slot → x ≡ desktopSlot flags s slot
@@ -114,58 +83,191 @@ module _ (flags : ℕ) (s slot : List ℕ) where
   unfolding desktopSlot
   desktop-changed h e f g = rw (lacks flags 0x00000001 h, ← e, ← f) g
 
+-- ---- the slots of the bodies
+
+-- a slot that was lent and came back changed
+slot-back : (b : List ℕ) (k base n : ℕ) (change : List ℕ → List ℕ) {x : List ℕ} → 916 * k + 916 ≤ length b → base ≡ 916 * k → n ≡ 916
+    → length x ≡ length (take n (drop base b)) → x ≡ change (take n (drop base b))
+    → take base b ++ (x ++ drop n (drop base b)) ≡ splice b (916 * k) (change (slotOf b k))
+slot-back b k base n change {x} room at all size e =
+    let l = slot-lent b base n k at all in
+    slots-back b k x (size ∙ ap length l ∙ length-slot b k room) room base n at all ∙ ap (splice b (916 * k)) (e ∙ ap change l)
+
+module _ (s b : List ℕ) (p : Plan) where
+  pub plan-able : {c : Change} → p ≡ ChangeRecord c → Follows s p → Able s c
+  unfolding Follows
+  plan-able e f = rw e at f
+
+  pub plan-desktop : {flags : ℕ} → p ≡ ChangeDesktop flags → Follows s p → (7 ≤ length s) × EndsWell desktopFields flags s 7
+  unfolding Follows
+  plan-desktop e f = rw e at f
+
+  pub slots-deleted : {c : Change} → p ≡ ChangeRecord c → c .deleted ≡ true → b ≡ slotsBy s p b
+  unfolding slotsBy slotsAfter
+  slots-deleted e t = rw (e, t)
+
+  pub slots-changed : (c : Change) {x : List ℕ} → p ≡ ChangeRecord c → c .deleted ≡ false → 45780 ≤ length b → Able s c
+      → length x ≡ length (take (916 * c .slot + 916 - 916 * c .slot) (drop (916 * c .slot) b)) → x ≡ slotAfter s c (take (916 * c .slot + 916 - 916 * c .slot) (drop (916 * c .slot) b))
+      → take (916 * c .slot) b ++ (x ++ drop (916 * c .slot + 916 - 916 * c .slot) (drop (916 * c .slot) b)) ≡ slotsBy s p b
+  unfolding slotsBy slotsAfter
+  slots-changed c e t big a size h =
+      let l = a .slot in
+      rw e
+      (slot-back b (c .slot) (916 * c .slot) (916 * c .slot + 916 - 916 * c .slot) (slotAfter s c) (omega arith) refl (omega arith) size h
+      ∙ stays (c .deleted) b (splice b (916 * c .slot) (slotAfter s c (slotOf b (c .slot)))) t)
+
+  pub slots-desktop : (flags : ℕ) {x : List ℕ} → p ≡ ChangeDesktop flags → 45780 ≤ length b
+      → length x ≡ length (take 916 (drop 43968 b)) → x ≡ desktopSlot flags s (take 916 (drop 43968 b)) → take 43968 b ++ (x ++ drop 916 (drop 43968 b)) ≡ slotsBy s p b
+  unfolding slotsBy
+  slots-desktop flags e big size h = rw e (slot-back b 48 43968 916 (desktopSlot flags s) (omega arith) refl refl size h)
+
+  pub slots-refused : {n : ℕ} → p ≡ Refuse n → b ≡ slotsBy s p b
+  unfolding slotsBy
+  slots-refused e = rw e
+
+  -- ---- the picture of an order
+
+  module _ (store : List (List ℕ)) where
+    abbrev Put : List ℕ → List (List ℕ) → Type 0
+    Put y store' = (y ≡ headsBy s p b) × (store' ≡ storeBy s p store)
+
+    pub put-deleted : {c : Change} → p ≡ ChangeRecord c → c .deleted ≡ true → Put b store
+    unfolding headsBy headsPut storeBy
+    put-deleted e t = (rw (e, t), rw (e, t))
+
+    pub put-none : {c : Change} → p ≡ ChangeRecord c → c .deleted ≡ false → bitAnd (c .flags) flagIcon ≡ 0 → Put b store
+    unfolding headsBy headsPut storeBy
+    put-none {c} e t h = let n = lacks (c .flags) flagIcon h in (rw (e, t, n), rw (e, t, n))
+
+    pub put-there : (c : Change) {x : List ℕ} {q : List (List ℕ)} → p ≡ ChangeRecord c → c .deleted ≡ false → (bitAnd (c .flags) flagIcon ≡ 0 → ⊥)
+        → length x ≡ length (take (length b - 44884) (drop 44884 b)) → x ≡ headsAfter (take (length b - 44884) (drop 44884 b)) (c .place) s (c .icon)
+        → q ≡ storeAfter store (c .place) s (c .icon) → Put (take 44884 b ++ (x ++ drop (length b - 44884) (drop 44884 b))) q
+    unfolding headsBy headsPut storeBy headsOf
+    put-there c {x} e t h size f g =
+        let n = holds (c .flags) flagIcon h in
+        let w : take (length b - 44884) (drop 44884 b) ≡ drop 44884 b = take-all (length b - 44884) (drop 44884 b) (simp length-drop (omega arith)) in
+        let l : length x ≡ length b - 44884 = size ∙ ap length w ∙ length-drop 44884 b in
+        let k : x ≡ headsAfter (drop 44884 b) (c .place) s (c .icon) = f ∙ ap (λ (y : List ℕ). headsAfter y (c .place) s (c .icon)) w in
+        (rw (e, t, n) (part-back b x 44884 (length b - 44884) l ∙ ap (splice b 44884) k), rw (e, t, n) g)
+
+-- a plan of another kind, by its tag
+pub put-other : (s b : List ℕ) (p : Plan) (store : List (List ℕ)) → OneOf (1 ∷ 2 ∷ []) (tagOf the-type p) → (b ≡ headsBy s p b) × (store ≡ storeBy s p store)
+unfolding headsBy storeBy
+put-other s b (ChangeRecord c) store (inl e) = absurd (omega (arith, e))
+put-other s b (ChangeRecord c) store (inr e) = absurd (omega (arith, e))
+put-other s b (ChangeDesktop flags) store k = (refl, refl)
+put-other s b (Refuse n) store k = (refl, refl)
+
+pub icon-asks : (s : List ℕ) (c : Change) → Able s c → (bitAnd (c .flags) flagIcon ≡ 0 → ⊥)
+    → (c .icon ≤ length s) × (partsOf s (c .icon) .end ≡ length s) × (partsOf s (c .icon) .end - partsOf s (c .icon) .mask ≤ placeLength)
+icon-asks s c a h = let t = holds (c .flags) flagIcon h in (a .icon .low t, a .icon .end t, a .icon .bytes t)
+
 -- ---- soundness
 
-pub body-lent : (rows : List Row) (m n : ℕ) (bodies : List ℕ) (i base k : ℕ) {r : Bool} → base ≡ 916 * i → k ≡ 916 → r ≡ bodyOk rows m n (take k (drop base bodies))
-    → r ≡ bodyOk rows m n (slotOf bodies i)
-body-lent rows m n bodies i base k at all e = e ∙ ap (bodyOk rows m n) (slot-lent bodies base k i at all)
+pub body-lent : (rows : List Row) (m : ℕ) (b : List ℕ) (i base k : ℕ) {r : Bool} → base ≡ 916 * i → k ≡ 916 → r ≡ bodyOk rows m m (take k (drop base b))
+    → r ≡ bodyOk rows m m (slotOf b i)
+body-lent rows m b i base k at all e = e ∙ ap (bodyOk rows m m) (slot-lent b base k i at all)
 
-module _ (rows : List Row) (n : ℕ) (dir bodies : List ℕ) (i : ℕ) {u : Bool} (e : u ≡ isUsed dir i) where
-  pub record-free : u ≡ false → true ≡ recordOk rows n dir bodies i
-  record-free t = rw (← e, t)
+module _ (rows : List Row) (x b : List ℕ) (i : ℕ) {n : ℕ} (e : n ≡ getD x (157 + 9 * i) 0) where
+  used-is : (t : Bool) → eqb n 1 ≡ t → isUsed x i ≡ t
+  unfolding isUsed usedAt
+  used-is t h = ap (λ (k : ℕ). eqb k 1) (sym (num1-is x (157 + 9 * i)) ∙ sym e) ∙ h
 
-  pub record-held : {r : Bool} → u ≡ true → r ≡ bodyOk rows 12 n (slotOf bodies i) → r ≡ recordOk rows n dir bodies i
-  record-held t f = rw (← e, t) f
+  pub record-free : (n ≡ 1 → ⊥) → true ≡ recordOk rows x b i
+  unfolding recordOk
+  record-free h = rw (used-is false (ne-eqb n 1 h))
 
-module _ (dir cells : List ℕ) (c : ℕ) {u : Bool} (e : u ≡ filledAt dir c) where
-  pub cell-free : u ≡ false → true ≡ filledOk dir cells c
-  unfolding filledOk
-  cell-free t = rw (← e, t)
+  pub record-held : {r : Bool} → n ≡ 1 → r ≡ bodyOk rows 0 0 (slotOf b i) → r ≡ recordOk rows x b i
+  unfolding recordOk
+  record-held h f = rw (used-is true (eq-eqb n 1 h)) f
 
-  pub cell-held : {r : Bool} → u ≡ true → r ≡ cellOk (cellOf cells c) → r ≡ filledOk dir cells c
-  unfolding filledOk
-  cell-held t f = rw (← e, t) f
+module _ (x b : List ℕ) (h : ℕ) (below : h < 156) where
+  pub holder-none : getD x (h + 1) 0 ≡ 0 → true ≡ holderOk x b h
+  unfolding holderOk
+  holder-none e = rw (inside x h below, e)
 
-module _ (dir bodies cells : List ℕ) where
-  pub sound-bodies : length bodies < 44884 → false ≡ soundTable dir bodies cells
+  -- a pointer is at most the number of places
+  pub pointer-small : soundIndex x ≡ true → getD x (h + 1) 0 ≤ 64
+  pointer-small ok =
+      let v = valid-has x (sound-has x ok .holders) in
+      let w = v .within h in
+      let m = v .many in
+      let e = inside x h below in
+      omega arith
+
+  pub holder-head : {r : Bool} → 44884 ≤ length b → (getD x (h + 1) 0 ≡ 0 → ⊥) → r ≡ headOk (take (length b - 44884) (drop 44884 b)) (getD x (h + 1) 0 - 1) → r ≡ holderOk x b h
+  unfolding holderOk headsOf
+  holder-head long ne f =
+      let w : take (length b - 44884) (drop 44884 b) ≡ drop 44884 b = take-all (length b - 44884) (drop 44884 b) (simp length-drop (omega arith)) in
+      rw (inside x h below, ne-eqb (getD x (h + 1) 0) 0 ne) (f ∙ ap (λ (y : List ℕ). headOk y (getD x (h + 1) 0 - 1)) w)
+
+  -- the heads lie behind the slots
+  pub head-room : soundIndex x ≡ true → 45780 ≤ length b → (getD x (h + 1) 0 ≡ 0 → ⊥)
+      → 14 * (getD x (h + 1) 0 - 1) + 14 ≤ length (take (length b - 44884) (drop 44884 b))
+  head-room ok big ne = let s = pointer-small ok in simp (length-take, length-drop) (omega (arith, ne))
+
+-- every number below h passed
+module _ (test : ℕ → Bool) where
+  pub each-none : eachBelow 0 test ≡ true
+  each-none = each-is 0 test (λ j l. absurd (omega arith))
+
+  pub each-next : (h : ℕ) {r : Bool} → eachBelow h test ≡ true → r ≡ test h → r ≡ true → eachBelow (h + 1) test ≡ true
+  each-next h e f t = each-is (h + 1) test (λ j l. go j l (eqb j h) refl)
+    where
+      go : (j : ℕ) → j < h + 1 → (u : Bool) → eqb j h ≡ u → test j ≡ true
+      go j l true u = rw (eqb-true j h u) (sym f ∙ t)
+      go j l false u = let ne = eqb-false j h u in each-has h test e j (omega (arith, ne))
+
+  pub each-fails : (n h : ℕ) {r : Bool} → h < n → r ≡ test h → r ≡ false → false ≡ eachBelow n test
+  each-fails n h {r} l f t = go (eachBelow n test) refl
+    where
+      go : (u : Bool) → eachBelow n test ≡ u → false ≡ u
+      go true u = sym t ∙ f ∙ each-has n test u h l
+      go false u = refl
+
+  pub each-all : (n h : ℕ) → h ≤ n → n ≤ h → eachBelow h test ≡ true → true ≡ eachBelow n test
+  each-all n h l m e = let q : h ≡ n = omega arith in sym (rw q at e)
+
+-- ---- the whole rule
+
+module _ (x b : List ℕ) (lent : ℕ) where
+  pub sound-bodies : length b < 45780 → false ≡ soundTable x b lent
   unfolding soundTable
-  sound-bodies h = rw (lt-ltb (length bodies) 44884 h)
+  sound-bodies h = rw (lt-ltb (length b) 45780 h)
 
-  module _ (h : 44884 ≤ length bodies) where
-    pub sound-cells : length cells < 50880 → false ≡ soundTable dir bodies cells
+  module _ (h : 45780 ≤ length b) {t : Bool} (e : t ≡ soundIndex x) where
+    pub sound-index : t ≡ false → false ≡ soundTable x b lent
     unfolding soundTable
-    sound-cells g = rw (le-ltb (length bodies) 44884 h, lt-ltb (length cells) 50880 g)
+    sound-index d = rw (le-ltb (length b) 45780 h, ← e, d)
 
-    module _ (g : 50880 ≤ length cells) {t : Bool} (e : t ≡ soundDirectory dir) where
-      pub sound-directory : t ≡ false → false ≡ soundTable dir bodies cells
-      unfolding soundTable
-      sound-directory d = rw (le-ltb (length bodies) 44884 h, le-ltb (length cells) 50880 g, ← e, d)
+    module _ (d : t ≡ true) where
+      pub sound-lent : lent < getD x 0 0 → false ≡ soundTable x b lent
+      unfolding soundTable placesOf
+      sound-lent l = rw (le-ltb (length b) 45780 h, ← e, d, lt-ltb lent (getD x 0 0) l)
 
-      module _ (d : t ≡ true) {w : Bool} (f : w ≡ slotsOk 32 0 (recordOk windowFields 12 dir bodies)) where
-        pub sound-windows : w ≡ false → false ≡ soundTable dir bodies cells
-        unfolding soundTable windowOk
-        sound-windows x = rw (le-ltb (length bodies) 44884 h, le-ltb (length cells) 50880 g, ← e, d, ← f, x)
+      module _ (l : getD x 0 0 ≤ lent) {w : Bool} (f : w ≡ eachFrom 32 0 (recordOk windowFields x b)) where
+        pub sound-windows : w ≡ false → false ≡ soundTable x b lent
+        unfolding soundTable placesOf
+        sound-windows y = rw (le-ltb (length b) 45780 h, ← e, d, le-ltb lent (getD x 0 0) l, ← f, y)
 
-        module _ (x : w ≡ true) {n : Bool} (k : n ≡ slotsOk 16 32 (recordOk notificationFields 0 dir bodies)) where
-          pub sound-notifications : n ≡ false → false ≡ soundTable dir bodies cells
-          unfolding soundTable windowOk notificationOk
-          sound-notifications y = rw (le-ltb (length bodies) 44884 h, le-ltb (length cells) 50880 g, ← e, d, ← f, x, ← k, y)
+        module _ (y : w ≡ true) {n : Bool} (k : n ≡ eachFrom 16 32 (recordOk notificationFields x b)) where
+          pub sound-notifications : n ≡ false → false ≡ soundTable x b lent
+          unfolding soundTable placesOf
+          sound-notifications z = rw (le-ltb (length b) 45780 h, ← e, d, le-ltb lent (getD x 0 0) l, ← f, y, ← k, z)
 
-          module _ (y : n ≡ true) {b : Bool} (l : b ≡ bodyOk desktopFields 1 1 (slotOf bodies 48)) where
-            pub sound-desktop : b ≡ false → false ≡ soundTable dir bodies cells
-            unfolding soundTable windowOk notificationOk
-            sound-desktop z = rw (le-ltb (length bodies) 44884 h, le-ltb (length cells) 50880 g, ← e, d, ← f, x, ← k, y, ← l, z)
+          module _ (z : n ≡ true) {q : Bool} (m : q ≡ bodyOk desktopFields 1 1 (slotOf b 48)) where
+            pub sound-desktop : q ≡ false → false ≡ soundTable x b lent
+            unfolding soundTable placesOf
+            sound-desktop u = rw (le-ltb (length b) 45780 h, ← e, d, le-ltb lent (getD x 0 0) l, ← f, y, ← k, z, ← m, u)
 
-            pub sound-filled : {r : Bool} → b ≡ true → r ≡ slotsOk 12 0 (filledOk dir cells) → r ≡ soundTable dir bodies cells
-            unfolding soundTable windowOk notificationOk
-            sound-filled z r = rw (le-ltb (length bodies) 44884 h, le-ltb (length cells) 50880 g, ← e, d, ← f, x, ← k, y, ← l, z) r
+            pub sound-holders : {r : Bool} → q ≡ true → r ≡ eachBelow 156 (holderOk x b) → r ≡ soundTable x b lent
+            unfolding soundTable placesOf
+            sound-holders u r = rw (le-ltb (length b) 45780 h, ← e, d, le-ltb lent (getD x 0 0) l, ← f, y, ← k, z, ← m, u) r
+
+-- ---- emptying
+
+pub fixed-most : (lent : ℕ) → 64 < lent → 64 ≡ fixedBy lent
+fixed-most lent h = rw (lt-ltb 64 lent h)
+
+pub fixed-lent : (lent : ℕ) → lent ≤ 64 → lent ≡ fixedBy lent
+fixed-lent lent h = rw (le-ltb 64 lent h)

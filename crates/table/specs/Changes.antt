@@ -1,39 +1,41 @@
--- What the change of a plan does to the memory of the bodies and of the icon cache. Assumes nothing.
-use Prim.Native.Nat.{ℕ, _+_, _*_, _≤_, _<_}
+-- What the change of a plan does to the memory of the bodies and to the store. Assumes nothing.
+use Prim.Native.Nat.{ℕ, _*_, _-_, _≤_, _<_}
 use mathlib.Core.Path.{_≡_}
-use mathlib.Core.Bool.{Bool, true}
+use mathlib.Core.Bool.{Bool, true, false}
 use mathlib.Core.List.{List}
 use lib.ListN.{length}
-use Rattle.wire.specs.Tests.{pick, has}
+use Rattle.wire.specs.Tests.{pick, both, has}
 use Rattle.wire.specs.Parts.{splice}
-use Rattle.order.specs.declared.Row.{Row}
-use Rattle.directory.specs.declared.Change.{Change}
-use Rattle.directory.specs.declared.Plan.{Plan}
-use Rattle.directory.specs.declared.Plan.the-variants.{ChangeWindow, ChangeNotification, ChangeDesktop, Refuse}
-use Rattle.directory.specs.Plans.{cellAt}
-use Rattle.body.specs.Bodies.{windowFields, notificationFields, desktopFields, slotOf}
-use Rattle.body.specs.Stores.{storeOf, preparedOf, pointedOf, hookedOf, syncedOf, EndsWell}
-use Rattle.cache.specs.Cells.{fillOf}
-use Rattle.protocol.specs.Flags.{desktopNone, flagBigIcon, flagDeleted, flagIcon}
-
--- the mark that an icon of a window sets
-abbrev pub markOf : ℕ → ℕ
-markOf flags = pick (has flags flagBigIcon) 1 0
+use Rattle.order.specs.Icons.{partsOf}
+use Rattle.protocol.specs.Flags.{desktopNone}
+use Rattle.places.specs.Sizes.{slotCount, mostPlaces}
+use Rattle.places.specs.Memory.{withPicture}
+use Rattle.index.specs.declared.Change.{Change}
+use Rattle.index.specs.declared.Plan.{Plan}
+use Rattle.index.specs.declared.Plan.the-variants.{ChangeRecord, ChangeDesktop, Refuse}
+use Rattle.index.specs.Orders.{bringsIcon}
+use Rattle.body.specs.Bodies.{desktopFields, slotOf}
+use Rattle.body.specs.Stores.{storeOf, preparedOf, hookedOf, syncedOf, EndsWell}
+use Rattle.cache.specs.Cells.{carriedPicture}
+use Rattle.store.specs.Store.{placeLength}
+use Rattle.picture.specs.Pictures.{headsAfter, storeAfter}
+use Rattle.table.specs.Table.{fieldRows, fieldsAt}
+use Rattle.table.specs.Memory.{headsStart, headsOf}
 
 -- a slot after the order of a change
-unfoldable pub slotAfter : List Row → ℕ → ℕ → List ℕ → Change → List ℕ → List ℕ
-slotAfter rows at mark s c slot =
-    storeOf rows 2 (c .flags) s at (pointedOf (c .flags) mark (cellAt s (c .icon) + 1) (preparedOf (c .fresh) slot))
+unfoldable pub slotAfter : List ℕ → Change → List ℕ → List ℕ
+slotAfter s c slot = storeOf (fieldRows (c .family)) 2 (c .flags) s (fieldsAt (c .family)) (preparedOf (c .fresh) slot)
 
-unfoldable pub bodiesAfter : List Row → ℕ → ℕ → List ℕ → Change → List ℕ → List ℕ
-bodiesAfter rows at mark s c bodies =
-    pick (has (c .flags) flagDeleted) bodies
-    (splice bodies (916 * c .slot) (slotAfter rows at mark s c (slotOf bodies (c .slot))))
+-- a change that puts a picture at its place
+abbrev pub putsPicture : Change → Bool
+putsPicture c = pick (c .deleted) false (bringsIcon (c .flags))
 
-unfoldable pub cellsAfter : List ℕ → Change → List ℕ → List ℕ
-cellsAfter s c cells =
-    pick (has (c .flags) flagDeleted) cells
-    (pick (has (c .flags) flagIcon) (fillOf cells (cellAt s (c .icon)) s (c .icon)) cells)
+-- the slots after a change; then the heads
+unfoldable pub slotsAfter : List ℕ → Change → List ℕ → List ℕ
+slotsAfter s c bodies = pick (c .deleted) bodies (splice bodies (916 * c .slot) (slotAfter s c (slotOf bodies (c .slot))))
+
+unfoldable pub headsPut : List ℕ → Change → List ℕ → List ℕ
+headsPut s c bodies = pick (putsPicture c) (splice bodies headsStart (headsAfter (headsOf bodies) (c .place) s (c .icon))) bodies
 
 -- the desktop's slot after an order
 unfoldable pub desktopSlot : ℕ → List ℕ → List ℕ → List ℕ
@@ -41,29 +43,47 @@ desktopSlot flags s slot =
     pick (has flags desktopNone) (preparedOf true slot)
     (storeOf desktopFields 2 flags s 7 (syncedOf flags (hookedOf flags slot)))
 
-unfoldable pub bodiesBy : List ℕ → Plan → List ℕ → List ℕ
-bodiesBy s (ChangeWindow c) bodies = bodiesAfter windowFields 11 (markOf (c .flags)) s c bodies
-bodiesBy s (ChangeNotification c) bodies = bodiesAfter notificationFields 15 0 s c bodies
-bodiesBy s (ChangeDesktop flags) bodies = splice bodies 43968 (desktopSlot flags s (slotOf bodies 48))
-bodiesBy s (Refuse n) bodies = bodies
+unfoldable pub slotsBy : List ℕ → Plan → List ℕ → List ℕ
+slotsBy s (ChangeRecord c) bodies = slotsAfter s c bodies
+slotsBy s (ChangeDesktop flags) bodies = splice bodies 43968 (desktopSlot flags s (slotOf bodies 48))
+slotsBy s (Refuse n) bodies = bodies
 
-unfoldable pub cellsBy : List ℕ → Plan → List ℕ → List ℕ
-cellsBy s (ChangeWindow c) cells = cellsAfter s c cells
-cellsBy s (ChangeNotification c) cells = cellsAfter s c cells
-cellsBy s (ChangeDesktop flags) cells = cells
-cellsBy s (Refuse n) cells = cells
+unfoldable pub headsBy : List ℕ → Plan → List ℕ → List ℕ
+headsBy s (ChangeRecord c) bodies = headsPut s c bodies
+headsBy s (ChangeDesktop flags) bodies = bodies
+headsBy s (Refuse n) bodies = bodies
+
+abbrev pub bodiesBy : List ℕ → Plan → List ℕ → List ℕ
+bodiesBy s p bodies = headsBy s p (slotsBy s p bodies)
+
+unfoldable pub storeBy : List ℕ → Plan → List (List ℕ) → List (List ℕ)
+storeBy s (ChangeRecord c) store = pick (putsPicture c) (storeAfter store (c .place) s (c .icon)) store
+storeBy s (ChangeDesktop flags) store = store
+storeBy s (Refuse n) store = store
+
+-- the pictures at the places after a plan
+unfoldable pub picturesBy : List ℕ → Plan → (ℕ → List ℕ) → ℕ → List ℕ
+picturesBy s (ChangeRecord c) pictures = pick (putsPicture c) (withPicture pictures (c .place) (carriedPicture s (c .icon))) pictures
+picturesBy s (ChangeDesktop flags) pictures = pictures
+picturesBy s (Refuse n) pictures = pictures
 
 -- ---- what the changes ask
 
--- an icon's cell and bytes, where one is carried
+-- an icon's bytes, where one is carried, reach to the order's end and fit a place
 pub record IconFits (s : List ℕ) (flags icon : ℕ) : Type 0 where
-  pub cell : has flags flagIcon ≡ true → cellAt s icon < 12
-  pub low : has flags flagIcon ≡ true → icon + 12 ≤ length s
-  pub high : has flags flagIcon ≡ true → length s ≤ icon + 4238
+  pub low : bringsIcon flags ≡ true → icon ≤ length s
+  pub end : bringsIcon flags ≡ true → partsOf s icon .end ≡ length s
+  pub bytes : bringsIcon flags ≡ true → partsOf s icon .end - partsOf s icon .mask ≤ placeLength
 
-pub record Able (rows : List Row) (at : ℕ) (s : List ℕ) (c : Change) : Type 0 where
-  pub slot : c .slot < 48
-  pub begins : 1 ≤ at
-  pub within : at ≤ length s
-  pub fields : EndsWell rows (c .flags) s at
+pub record Able (s : List ℕ) (c : Change) : Type 0 where
+  pub slot : c .slot < slotCount
+  pub place : c .place < mostPlaces
+  pub within : fieldsAt (c .family) ≤ length s
+  pub fields : EndsWell (fieldRows (c .family)) (c .flags) s (fieldsAt (c .family))
   pub icon : IconFits s (c .flags) (c .icon)
+
+-- what the changes of a plan ask
+unfoldable pub Follows : List ℕ → Plan → Type 0
+Follows s (ChangeRecord c) = Able s c
+Follows s (ChangeDesktop flags) = (7 ≤ length s) × EndsWell desktopFields flags s 7
+Follows s (Refuse n) = Unit {0}

@@ -3,4 +3,3 @@ pub mod Memory
 pub mod Changes
 pub mod Outcome
 pub mod Promises
-pub mod Follow

@@ -1,58 +1,80 @@
--- The table that a memory describes: its directory, the bodies of 48 records and of the desktop state (slot 48), and the
--- icon cache; and the rule that it describes one. Assumes nothing.
-use Prim.Native.Nat.{ℕ, _+_, _*_}
+-- The table that a memory describes: its index, the bodies of 48 records and of the desktop state (slot 48) with the heads of the
+-- pictures behind them, and the store of pictures; and the rule that it describes one. Assumes nothing.
+use Prim.Native.Nat.{ℕ, _-_}
 use mathlib.Core.Bool.{Bool, true, false, not}
-use mathlib.Core.List.{List}
-use mathlib.Core.Option.{Option, none, some}
-use lib.Dec.{ltb}
-use lib.ListN.{length}
-use Rattle.wire.specs.Tests.{pick, both, either}
+use mathlib.Core.List.{List, []}
+use mathlib.Core.Option.{Option}
+use lib.Dec.{eqb, ltb}
+use lib.ListN.{length, drop}
+use Rattle.wire.specs.Tests.{pick}
 use Rattle.order.specs.declared.Row.{Row}
-use Rattle.directory.specs.Slots.{isUsed, isAt, firstFrom, onFound, filledAt}
-use Rattle.directory.specs.Directory.{Family, windows, notifications, start, most, manyIn}
-use Rattle.directory.specs.Sound.{slotsOk, soundDirectory}
-use Rattle.body.specs.Bodies.{Body, windowFields, notificationFields, desktopFields, slotOf, bodyOf, bodyOk}
-use Rattle.cache.specs.Cells.{cellOf, pictureOf, cellOk}
+use Rattle.places.specs.declared.Family.{Family}
+use Rattle.places.specs.declared.Family.the-variants.{Windows, Notifications}
+use Rattle.places.specs.Sizes.{holderCount, mostPlaces}
+use Rattle.places.specs.Counts.{eachBelow, onFound}
+use Rattle.places.specs.Memory.{placesOf, pointerAt, shown}
+use Rattle.places.specs.Holder.{Holder, numberOf}
+use Rattle.index.specs.Families.{start, capacity}
+use Rattle.index.specs.Slots as slots
+use Rattle.index.specs.Sound.{eachFrom, soundIndex}
+use Rattle.index.specs.Memory.{indexOf}
+use Rattle.body.specs.Bodies.{desktopFields, slotOf, fieldsOf, bodyOf, bodyOk}
+use Rattle.picture.specs.Pictures.{pictureAt, headOk}
 use Rattle.table.specs.Table.{Table, fieldRows}
 
--- the record of the ids a and b
-abbrev pub recordIn : List ℕ → List ℕ → Family → ℕ → ℕ → Option Body
-recordIn dir bodies f a b =
-    onFound (firstFrom (most f) (start f) (isAt dir a b)) none (λ i. some (bodyOf (fieldRows f) (slotOf bodies i)))
+-- the slots of the bodies end where the heads begin
+abbrev pub headsStart : ℕ
+headsStart = 44884
 
-abbrev pub cellIn : List ℕ → List ℕ → ℕ → Option (List ℕ)
-cellIn dir cells c = pick (filledAt dir c) (some (pictureOf (cellOf cells c))) none
+-- 64 heads of 14 bytes
+abbrev pub bodiesLength : ℕ
+bodiesLength = 45780
 
-unfoldable pub decode : List ℕ → List ℕ → List ℕ → Table
-decode dir bodies cells =
+unfoldable pub headsOf : List ℕ → List ℕ
+headsOf bodies = drop headsStart bodies
+
+-- emptying fixes the number of places: those lent, at most 64
+abbrev pub fixedBy : ℕ → ℕ
+fixedBy lent = pick (ltb mostPlaces lent) mostPlaces lent
+
+-- ---- the table
+
+abbrev pub fieldsIn : List ℕ → List ℕ → Family → ℕ → ℕ → List (List ℕ)
+fieldsIn index bodies f a b = onFound (slots.slotOf index f a b) [] (λ i. fieldsOf (fieldRows f) 2 (slotOf bodies i))
+
+-- what a holder shows, by the pictures at the places
+abbrev pub shownIn : List ℕ → (ℕ → List ℕ) → Holder → Option (List ℕ)
+shownIn index pictures h = shown index pictures (numberOf (slots.slotOf index) h)
+
+unfoldable pub decode : List ℕ → List ℕ → List (List ℕ) → Table
+decode index bodies store =
     record {
-      records = recordIn dir bodies;
-      many = λ f. manyIn f dir;
-      cells = cellIn dir cells;
+      index = indexOf index;
+      fields = fieldsIn index bodies;
+      shown = shownIn index (pictureAt (headsOf bodies) store);
       desktop = bodyOf desktopFields (slotOf bodies 48);
     }
 
 -- ---- the rule
 
--- slot i is free or its body is in its sets: pointers within the caches
-abbrev pub recordOk : List Row → ℕ → List ℕ → List ℕ → ℕ → Bool
-recordOk rows n dir bodies i = pick (not (isUsed dir i)) true (bodyOk rows 12 n (slotOf bodies i))
+-- slot i is free or its body is in its sets; its two marks are unused
+unfoldable pub recordOk : List Row → List ℕ → List ℕ → ℕ → Bool
+recordOk rows index bodies i = pick (not (slots.isUsed index i)) true (bodyOk rows 0 0 (slotOf bodies i))
 
-unfoldable pub windowOk : List ℕ → List ℕ → ℕ → Bool
-windowOk dir bodies i = recordOk windowFields 12 dir bodies i
+abbrev pub recordsOk : Family → List ℕ → List ℕ → Bool
+recordsOk f index bodies = eachFrom (capacity f) (start f) (recordOk (fieldRows f) index bodies)
 
-unfoldable pub notificationOk : List ℕ → List ℕ → ℕ → Bool
-notificationOk dir bodies i = recordOk notificationFields 0 dir bodies i
+-- the head of the place that holder h points at is in its sets
+unfoldable pub holderOk : List ℕ → List ℕ → ℕ → Bool
+holderOk index bodies h = pick (eqb (pointerAt index h) 0) true (headOk (headsOf bodies) (pointerAt index h - 1))
 
-unfoldable pub filledOk : List ℕ → List ℕ → ℕ → Bool
-filledOk dir cells c = pick (not (filledAt dir c)) true (cellOk (cellOf cells c))
-
-unfoldable pub soundTable : List ℕ → List ℕ → List ℕ → Bool
-soundTable dir bodies cells =
-    pick (ltb (length bodies) 44884) false
-    (pick (ltb (length cells) 50880) false
-    (pick (not (soundDirectory dir)) false
-    (pick (not (slotsOk 32 0 (windowOk dir bodies))) false
-    (pick (not (slotsOk 16 32 (notificationOk dir bodies))) false
+-- so many places are lent
+unfoldable pub soundTable : List ℕ → List ℕ → ℕ → Bool
+soundTable index bodies lent =
+    pick (ltb (length bodies) bodiesLength) false
+    (pick (not (soundIndex index)) false
+    (pick (ltb lent (placesOf index)) false
+    (pick (not (recordsOk Windows index bodies)) false
+    (pick (not (recordsOk Notifications index bodies)) false
     (pick (not (bodyOk desktopFields 1 1 (slotOf bodies 48))) false
-    (slotsOk 12 0 (filledOk dir cells)))))))
+    (eachBelow holderCount (holderOk index bodies)))))))

@@ -2,55 +2,49 @@
 use Prim.Native.Nat.{ℕ}
 use mathlib.Core.Path.{_≡_}
 use mathlib.Core.Bool.{Bool, true, false}
-use mathlib.Core.List.{List}
+use mathlib.Core.List.{List, []}
 use mathlib.Core.Option.{Option, none, some}
-use lib.Dec.{eqb}
-use Rattle.wire.specs.Tests.{both, has}
 use Rattle.order.specs.declared.Judged.{Judged}
-use Rattle.order.specs.declared.Judged.the-variants.{Window, Notification}
 use Rattle.order.specs.Judge.{judgeOf}
-use Rattle.directory.specs.Plans.{freshWindow, freshNotification, cellAt}
-use Rattle.directory.specs.Directory.{Family, windows, notifications, sameRecord, directoryAfter}
-use Rattle.body.specs.Bodies.{Body, SetsFlagged}
+use Rattle.places.specs.declared.Family.{Family}
+use Rattle.places.specs.Sharing.{isOne}
+use Rattle.places.specs.Holder.{Holder, cell, icon, sameHolder}
+use Rattle.index.specs.declared.RecordOrder.{RecordOrder}
+use Rattle.index.specs.Families.{sameRecord}
+use Rattle.index.specs.Orders.{onJudged, isDelete, bringsIcon, bringsCached, cellAt, pointerOf, holdersOf}
+use Rattle.index.specs.Index.{indexAfter}
+use Rattle.index.specs.Promises.{touched}
+use Rattle.body.specs.Bodies.{SetsFlagged}
 use Rattle.cache.specs.Cells.{carriedPicture}
-use Rattle.table.specs.Table.{Table, directory, number, fieldRows, fieldsAt, bodyBefore, after}
-use Rattle.protocol.specs.Flags.{flagDeleted, flagIcon}
+use Rattle.table.specs.Table.{Table, number, fieldRows, fieldsAt, fieldsBefore, after}
 
--- an order of a family for the record of the ids a and b
-abbrev pub orderFor : Family → ℕ → ℕ → ℕ → ℕ → Judged
-orderFor windows a b flags icon = Window (record { window = record { id = a }; flags = flags; icon = icon })
-orderFor notifications a b flags icon =
-    Notification (record { window = record { id = a }; notify = record { id = b }; flags = flags; icon = icon })
-
--- a window has no second id
-abbrev pub secondOf : Family → ℕ → ℕ
-secondOf windows b = 0
-secondOf notifications b = b
-
-abbrev pub freshFor : Family → ℕ → Bool
-freshFor windows flags = freshWindow flags
-freshFor notifications flags = freshNotification flags
+-- the order for a record that an order's bytes are
+abbrev pub recordOrder : Judged → Option RecordOrder
+recordOrder j = onJudged j some (λ flags. none) (λ n. none)
 
 -- an accepted order that makes or updates a record
-pub record Updates (t : Table) (s : List ℕ) (f : Family) (a b flags icon : ℕ) : Type 0 where
-  pub judged : judgeOf s ≡ orderFor f a b flags icon
+pub record Updates (t : Table) (s : List ℕ) (o : RecordOrder) : Type 0 where
+  pub judged : recordOrder (judgeOf s) ≡ some o
   pub accepted : number t s ≡ 0
-  pub stays : has flags flagDeleted ≡ false
+  pub stays : isDelete (o .flags) ≡ false
 
--- exactly the flagged fields are set, each to the carried value; no other record and no desktop state changes; only the cell that
--- a carried icon names is filled, with that icon's picture
-pub record Updated (t : Table) (s : List ℕ) (f : Family) (a b flags icon : ℕ) : Type 0 where
-  pub new : Body
-  pub is : after t s .records f a (secondOf f b) ≡ some new
-  pub fields : SetsFlagged (fieldRows f) flags s (fieldsAt f) (bodyBefore t f a (secondOf f b) (freshFor f flags) .fields) (new .fields)
-  pub others : (g : Family) (x y : ℕ) → sameRecord f a (secondOf f b) g x y ≡ false → after t s .records g x y ≡ t .records g x y
+-- exactly the flagged fields are set, each to the carried value; no other record and no desktop state changes. An icon's cell and
+-- pointer show its picture, a cached icon's pointer shows what its cell shows; no other window and no other notification icon shows
+-- another picture, and no cell but the one that an icon names
+pub record Updated (t : Table) (s : List ℕ) (o : RecordOrder) : Type 0 where
+  pub listed : after t s .index .listed (o .family) (o .window .id) (o .notify .id) ≡ true
+  pub fields : SetsFlagged (fieldRows (o .family)) (o .flags) s (fieldsAt (o .family)) (fieldsBefore t o) (after t s .fields (o .family) (o .window .id) (o .notify .id))
+  pub others : (g : Family) (x y : ℕ) → sameRecord (o .family) (o .window .id) (o .notify .id) g x y ≡ false
+      → (after t s .fields g x y ≡ t .fields g x y) × (after t s .index .listed g x y ≡ t .index .listed g x y)
   pub desktop : after t s .desktop ≡ t .desktop
-  pub filled : has flags flagIcon ≡ true → after t s .cells (cellAt s icon) ≡ some (carriedPicture s icon)
-  pub cells : (c : ℕ) → both (has flags flagIcon) (eqb (cellAt s icon) c) ≡ false → after t s .cells c ≡ t .cells c
+  pub brought : bringsIcon (o .flags) ≡ true → (h : Holder) → isOne sameHolder (holdersOf s o) h ≡ true → after t s .shown h ≡ some (carriedPicture s (o .icon))
+  pub cached : bringsIcon (o .flags) ≡ false → bringsCached (o .flags) ≡ true → after t s .shown (pointerOf o) ≡ t .shown (cell (cellAt s (o .icon)))
+  pub pictures : (h : Holder) → isOne sameHolder (touched s o) h ≡ false → after t s .shown h ≡ t .shown h
+  pub icons : (g : Family) (x y w : ℕ) → sameRecord (o .family) (o .window .id) (o .notify .id) g x y ≡ false → after t s .shown (icon g x y w) ≡ t .shown (icon g x y w)
 
 unfoldable pub UpdatesKeep : Type 0
-UpdatesKeep = (t : Table) (s : List ℕ) (f : Family) (a b flags icon : ℕ) → Updates t s f a b flags icon → Updated t s f a b flags icon
+UpdatesKeep = (t : Table) (s : List ℕ) (o : RecordOrder) → Updates t s o → Updated t s o
 
--- judging a run of orders needs the directory alone: the directory after an order is decided by the directory before it
-unfoldable pub DirectoryAlone : Type 0
-DirectoryAlone = (t : Table) (s : List ℕ) → directory (after t s) ≡ directoryAfter (directory t) s
+-- judging a run of orders needs the index alone: the index after an order is decided by the index before it
+unfoldable pub IndexAlone : Type 0
+IndexAlone = (t : Table) (s : List ℕ) → after t s .index ≡ indexAfter (t .index) s

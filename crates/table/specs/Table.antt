@@ -1,102 +1,83 @@
--- Document 01's table without places, the number that an order gets on it, and what an accepted order makes of it. Two
--- tables are the same when ids, fields, cells and desktop state are. Assumes nothing.
-use Prim.Native.Nat.{ℕ, _+_, _-_}
-use mathlib.Core.Bool.{Bool, true, false, not}
-use mathlib.Core.List.{List}
+-- Document 01's table with request No. 5, without slots and places: its index, the fields of each listed record, the picture that
+-- each holder shows, and the desktop state; the number that an order gets on it, and what an accepted order makes of it. Assumes
+-- nothing.
+use Prim.Native.Nat.{ℕ}
+use mathlib.Core.Bool.{Bool, not}
+use mathlib.Core.List.{List, []}
 use mathlib.Core.Option.{Option, none, some}
 use lib.Dec.{eqb}
 use Rattle.wire.specs.Tests.{pick, both, has}
 use Rattle.order.specs.declared.Row.{Row}
-use Rattle.order.specs.declared.Judged.{Judged}
-use Rattle.order.specs.declared.Judged.the-variants.{Window, Notification, Desktop, Refused}
 use Rattle.order.specs.Judge.{judgeOf}
-use Rattle.directory.specs.Plans.{freshWindow, freshNotification, cellAt}
-use Rattle.directory.specs.Directory.{Family, windows, notifications, sameFamily, sameRecord, Directory, numberIn}
-use Rattle.body.specs.Bodies.{Body, windowFields, notificationFields, desktopFields, setFlagged, emptyBody}
+use Rattle.protocol.specs.Flags.{desktopArcBegan, desktopArcCompleted, desktopHooked, desktopNone}
+use Rattle.places.specs.declared.Family.{Family}
+use Rattle.places.specs.declared.Family.the-variants.{Windows, Notifications}
+use Rattle.places.specs.Sharing.{isOne}
+use Rattle.places.specs.Holder.{Holder, cell, sameHolder, isCellHolder, iconsOf}
+use Rattle.index.specs.declared.RecordOrder.{RecordOrder}
+use Rattle.index.specs.Families.{sameRecord}
+use Rattle.index.specs.Orders.{onJudged, isNew, isDelete, bringsIcon, bringsCached, cellAt, pointerOf, holdersOf}
+use Rattle.index.specs.Index as index
+use Rattle.body.specs.Bodies.{Body, windowFields, notificationFields, desktopFields, setFlagged, emptyFields, emptyBody}
 use Rattle.cache.specs.Cells.{carriedPicture}
-use Rattle.protocol.specs.Flags.{desktopArcBegan, desktopArcCompleted, desktopHooked, desktopNone, flagBigIcon, flagDeleted, flagIcon, flagsIcon}
 
--- the records by family and ids, and how many there are; the cells of the icon cache by number; the desktop state
+-- the fields of a record that is not listed are none
 pub record Table : Type 0 where
-  pub records : Family → ℕ → ℕ → Option Body
-  pub many : Family → ℕ
-  pub cells : ℕ → Option (List ℕ)
+  pub index : index.Index
+  pub fields : Family → ℕ → ℕ → List (List ℕ)
+  pub shown : Holder → Option (List ℕ)
   pub desktop : Body
 
--- what a table has under ids, and in a cell
-abbrev pub recordAt : Table → Family → ℕ → ℕ → Option Body
-recordAt t f a b = t .records f a b
+-- document 01's emptied table, with so many places
+unfoldable pub emptied : ℕ → Table
+emptied places =
+    record { index = index.emptyIndex places; fields = λ f a b. []; shown = λ h. none; desktop = emptyBody desktopFields }
 
-abbrev pub pictureAt : Table → ℕ → Option (List ℕ)
-pictureAt t c = t .cells c
-
--- document 01's emptied table
-unfoldable pub emptied : Table
-emptied = record { records = λ f a b. none; many = λ f. 0; cells = λ c. none; desktop = emptyBody desktopFields }
-
--- ---- the number
-
-abbrev pub there : {A : Type 0} → Option A → Bool
-there none = false
-there (some x) = true
-
-unfoldable pub directory : Table → Directory
-directory t = record { listed = λ f a b. there (t .records f a b); many = t .many; filled = λ c. there (t .cells c) }
-
--- the first of the numbers 2 to 11 that applies
+-- the first of the numbers 2 to 11 and 17 that applies
 unfoldable pub number : Table → List ℕ → ℕ
-number t s = numberIn (directory t) s
+number t s = index.numberIn (t .index) s
 
 -- ---- the change
 
 -- the fields of a family's records, and where they begin in an order
 abbrev pub fieldRows : Family → List Row
-fieldRows windows = windowFields
-fieldRows notifications = notificationFields
+fieldRows Windows = windowFields
+fieldRows Notifications = notificationFields
 
 abbrev pub fieldsAt : Family → ℕ
-fieldsAt windows = 11
-fieldsAt notifications = 15
-
--- the second mark is meant: a window's big icon
-abbrev pub toSecond : Family → ℕ → Bool
-toSecond windows flags = has flags flagBigIcon
-toSecond notifications flags = false
-
--- a body after an order: flagged fields are set; an icon or a cached icon points at its cell
-unfoldable pub bodyAfter : Family → ℕ → List ℕ → ℕ → Body → Body
-bodyAfter f flags s icon b =
-    record {
-      first = pick (both (has flags flagsIcon) (not (toSecond f flags))) (cellAt s icon + 1) (b .first);
-      second = pick (both (has flags flagsIcon) (toSecond f flags)) (cellAt s icon + 1) (b .second);
-      fields = setFlagged (fieldRows f) flags s (fieldsAt f) (b .fields);
-    }
-
-abbrev pub bodyIn : Family → Option Body → Body
-bodyIn f none = emptyBody (fieldRows f)
-bodyIn f (some b) = b
+fieldsAt Windows = 11
+fieldsAt Notifications = 15
 
 -- new begins with an empty record
-abbrev pub bodyBefore : Table → Family → ℕ → ℕ → Bool → Body
-bodyBefore t f a b fresh = pick fresh (emptyBody (fieldRows f)) (bodyIn f (t .records f a b))
+abbrev pub fieldsBefore : Table → RecordOrder → List (List ℕ)
+fieldsBefore t o =
+    pick (isNew (o .family) (o .flags)) (emptyFields (fieldRows (o .family))) (t .fields (o .family) (o .window .id) (o .notify .id))
 
-unfoldable pub changeRecord : Table → Family → ℕ → ℕ → Bool → ℕ → List ℕ → ℕ → Table
-changeRecord t f a b fresh flags s icon =
-    -- deleted: the record goes; cells and the stacking list stay
-    pick (has flags flagDeleted)
-    (record {
-      records = λ g x y. pick (sameRecord f a b g x y) none (t .records g x y);
-      many = λ g. pick (sameFamily f g) (t .many g - 1) (t .many g);
-      cells = t .cells;
+-- the record's fields after an order: flagged ones are set; a deleted record has none
+unfoldable pub recordFields : Table → List ℕ → RecordOrder → List (List ℕ)
+recordFields t s o =
+    pick (isDelete (o .flags)) [] (setFlagged (fieldRows (o .family)) (o .flags) s (fieldsAt (o .family)) (fieldsBefore t o))
+
+unfoldable pub fieldsAfter : Table → List ℕ → RecordOrder → Family → ℕ → ℕ → List (List ℕ)
+fieldsAfter t s o g x y = pick (sameRecord (o .family) (o .window .id) (o .notify .id) g x y) (recordFields t s o) (t .fields g x y)
+
+-- what holders show: a deleted record's icons nothing, an icon's holders its picture, a cached icon's pointer what its cell shows; all
+-- others what they did
+unfoldable pub shownAfter : Table → List ℕ → RecordOrder → Holder → Option (List ℕ)
+shownAfter t s o h =
+    pick (isDelete (o .flags)) (pick (isOne sameHolder (iconsOf (o .family) (o .window .id) (o .notify .id)) h) none (t .shown h))
+    (pick (bringsIcon (o .flags)) (pick (isOne sameHolder (holdersOf s o) h) (some (carriedPicture s (o .icon))) (t .shown h))
+    (pick (bringsCached (o .flags)) (pick (sameHolder h (pointerOf o)) (t .shown (cell (cellAt s (o .icon)))) (t .shown h))
+    (t .shown h)))
+
+unfoldable pub changeRecord : Table → List ℕ → RecordOrder → Table
+changeRecord t s o =
+    record {
+      index = index.changeRecord (t .index) s o;
+      fields = fieldsAfter t s o;
+      shown = shownAfter t s o;
       desktop = t .desktop;
-    })
-    -- new or update; an icon fills its cell
-    (record {
-      records = λ g x y. pick (sameRecord f a b g x y) (some (bodyAfter f flags s icon (bodyBefore t f a b fresh))) (t .records g x y);
-      many = λ g. pick (both fresh (sameFamily f g)) (t .many g + 1) (t .many g);
-      cells = λ c. pick (both (has flags flagIcon) (eqb (cellAt s icon) c)) (some (carriedPicture s icon)) (t .cells c);
-      desktop = t .desktop;
-    })
+    }
 
 -- 2 sets hooked; 8 starts syncing, 4 ends it
 unfoldable pub desktopAfter : ℕ → List ℕ → Body → Body
@@ -107,20 +88,16 @@ desktopAfter flags s b =
       fields = setFlagged desktopFields flags s 7 (b .fields);
     }
 
-unfoldable pub changeDesktop : Table → ℕ → List ℕ → Table
-changeDesktop t flags s =
-    -- none: an emptied table with the cells as they were
-    pick (has flags desktopNone)
-    (record { records = emptied .records; many = emptied .many; cells = t .cells; desktop = emptied .desktop })
-    (record { records = t .records; many = t .many; cells = t .cells; desktop = desktopAfter flags s (t .desktop) })
-
-abbrev pub changeOn : Table → List ℕ → Judged → Table
-changeOn t s (Window o) = changeRecord t windows (o .window .id) 0 (freshWindow (o .flags)) (o .flags) s (o .icon)
-changeOn t s (Notification o) =
-    changeRecord t notifications (o .window .id) (o .notify .id) (freshNotification (o .flags)) (o .flags) s (o .icon)
-changeOn t s (Desktop o) = changeDesktop t (o .flags) s
-changeOn t s (Refused r) = t
+-- none: an emptied table with the cells as they were
+unfoldable pub changeDesktop : Table → List ℕ → ℕ → Table
+changeDesktop t s flags =
+    record {
+      index = index.changeDesktop (t .index) flags;
+      fields = λ g x y. pick (has flags desktopNone) [] (t .fields g x y);
+      shown = λ h. pick (both (has flags desktopNone) (not (isCellHolder h))) none (t .shown h);
+      desktop = pick (has flags desktopNone) (emptyBody desktopFields) (desktopAfter flags s (t .desktop));
+    }
 
 -- a refused order changes nothing
 unfoldable pub after : Table → List ℕ → Table
-after t s = pick (eqb (number t s) 0) (changeOn t s (judgeOf s)) t
+after t s = pick (eqb (number t s) 0) (onJudged (judgeOf s) (changeRecord t s) (changeDesktop t s) (λ n. t)) t

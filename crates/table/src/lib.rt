@@ -1,60 +1,64 @@
-// A table of windows, notification icons, icon cache and desktop state in three lent memories: its directory, the bodies of
-// its records, the cells of its icon cache. An order is judged whole before any byte changes.
+// A table of windows, notification icons, icon cache and desktop state in lent memory: its index, the bodies of its records with
+// the heads of their pictures behind them, and the store of pictures in five parts. An order is judged whole before any byte
+// changes.
 ghost use mathlib.Core.Path.{_≡_};
 ghost use mathlib.Core.Bool.{true};
 ghost use Prim.Native.Nat.{_≤_};
 ghost use lib.ListN.{length};
-ghost use Rattle.table.specs.Memory.{soundTable};
+ghost use Rattle.places.specs.Sizes.{fewestPlaces};
+ghost use Rattle.index.specs.Families.{indexLength};
+ghost use Rattle.store.specs.Store.{placesIn, five};
+ghost use Rattle.table.specs.Memory.{bodiesLength, fixedBy, soundTable};
 ghost use Rattle.table.specs.Outcome.{Emptied, Delivered};
-use directory::Plan;
-use protocol::NotifyIconId;
-use protocol::WindowId;
 
-mod changes;
-pub mod follow;
+pub mod changes;
 pub mod sound;
 
-// The bytes of the bodies of 48 records and of the desktop state.
-pub const BODIES: usize = 44884;
+// Where the heads of the pictures begin, and the bytes of the bodies with them.
+pub const HEADS: usize = 44884;
 
-// What is followed: nothing, a window by its id, a notification icon by its two ids, a cell by its number, or the desktop
-// state.
-pub enum Want {
-    Nothing,
-    Window(WindowId),
-    Notification(WindowId, NotifyIconId),
-    Cell(usize),
-    Desktop,
+pub const BODIES: usize = 45780;
+
+// Where the slot of the desktop state begins.
+pub const DESKTOP: usize = 43968;
+
+// The number of places that emptying fixes: those lent, at most 64.
+fn fixed(lent: usize) -> u8
+    ensures { λ r. ⌜ r ≡ fixedBy lent ⌝ }
+{
+    if (places::MOST as usize) < lent {
+        return places::MOST;
+    }
+    lent as u8
 }
 
-// Empties a table: no record, no filled cell, and a desktop state of zeros. The cells' bytes stay.
-pub fn empty(dir: &mut [u8], bodies: &mut [u8], cells: &[u8])
-    requires { ⌜ (444 ≤ length (now dir)) × (44884 ≤ length (now bodies)) × (50880 ≤ length (now cells)) ⌝ }
-    ensures { λ _. ⌜ Emptied (now (dir .entry)) (now (bodies .entry)) (now (dir .exit)) (now (bodies .exit)) (now (cells .entry)) ⌝ }
+// Empties a table to which so many places are lent: no record, no picture, and a desktop state of zeros.
+pub fn empty(index: &mut [u8], bodies: &mut [u8], lent: usize)
+    requires { ⌜ (indexLength ≤ length (now index)) × (bodiesLength ≤ length (now bodies)) × (fewestPlaces ≤ lent) ⌝ }
+    ensures { λ _. ⌜ Emptied (now (index .entry)) (now (bodies .entry)) lent (now (index .exit)) (now (bodies .exit)) ⌝ }
 {
-    directory::marks::empty(dir);
-    body::prepare(&mut bodies[43968..44884], true);
+    let n = fixed(lent);
+    index::changes::empty(index, n);
+    body::prepare(&mut bodies[DESKTOP..HEADS], true);
 }
 
 // Delivers an order: judges it whole, and changes the table where it is not refused.
-pub fn deliver(dir: &mut [u8], bodies: &mut [u8], cells: &mut [u8], s: &[u8]) -> u8
-    requires { ⌜ soundTable (now dir) (now bodies) (now cells) ≡ true ⌝ }
-    ensures { λ r. ⌜ Delivered (now (dir .entry)) (now (bodies .entry)) (now (cells .entry)) (now (s .entry)) r (now (dir .exit)) (now (bodies .exit)) (now (cells .exit)) ⌝ }
+pub fn deliver(
+    index: &mut [u8],
+    bodies: &mut [u8],
+    a: &mut [u8],
+    b: &mut [u8],
+    c: &mut [u8],
+    d: &mut [u8],
+    e: &mut [u8],
+    s: &[u8],
+) -> u8
+    requires { ⌜ soundTable (now index) (now bodies) (placesIn (five (now a) (now b) (now c) (now d) (now e))) ≡ true ⌝ }
+    ensures { λ r. ⌜ Delivered (now (index .entry)) (now (bodies .entry)) (five (now (a .entry)) (now (b .entry)) (now (c .entry)) (now (d .entry)) (now (e .entry))) (now (s .entry)) r (now (index .exit)) (now (bodies .exit)) (five (now (a .exit)) (now (b .exit)) (now (c .exit)) (now (d .exit)) (now (e .exit))) ⌝ }
 {
-    let p = directory::judge(dir, s);
-    match p {
-        Plan::ChangeWindow(c) => {
-            changes::window(dir, bodies, cells, s, c);
-            0
-        }
-        Plan::ChangeNotification(c) => {
-            changes::notification(dir, bodies, cells, s, c);
-            0
-        }
-        Plan::ChangeDesktop(flags) => {
-            changes::desktop(dir, bodies, s, flags);
-            0
-        }
-        Plan::Refuse(number) => number,
-    }
+    let p = index::judge(index, s);
+    changes::bodies(bodies, s, p);
+    changes::pictures(bodies, a, b, c, d, e, s, p);
+    index::changes::apply(index, p);
+    index::number(p)
 }

@@ -1,61 +1,54 @@
 // Whether memories describe a table.
 ghost use mathlib.Core.Path.{_≡_};
-ghost use Prim.Native.Nat.{_+_, _*_, _<_, _≤_};
+ghost use Prim.Native.Nat.{_+_, _<_, _≤_};
 ghost use lib.ListN.{length};
 ghost use Rattle.order.specs.Rows.{rowsFrom};
-ghost use Rattle.directory.specs.Sound.{slotsOk};
+ghost use Rattle.places.specs.Sizes.{slotCount, holderCount};
+ghost use Rattle.places.specs.Counts.{eachBelow};
+ghost use Rattle.index.specs.Families.{indexLength};
+ghost use Rattle.index.specs.Sound.{eachFrom, soundIndex};
 ghost use Rattle.body.specs.Bodies.{slotOf, bodyOk};
-ghost use Rattle.table.specs.Memory.{recordOk, filledOk, soundTable};
-use directory::slots;
+ghost use Rattle.table.specs.Memory.{bodiesLength, recordOk, holderOk, soundTable};
+ghost use mathlib.Core.Bool.{true};
+use index::slots;
 
-// Whether slot i of the bodies holds a body of rows low to high, with marks up to m and n.
-fn body_ok(bodies: &[u8], i: usize, low: usize, high: usize, m: u8, n: u8) -> bool
-    requires { ⌜ (44884 ≤ length (now bodies)) × (i < 49) × (low ≤ high) × (high ≤ 24) ⌝ }
-    ensures { λ r. ⌜ r ≡ bodyOk (rowsFrom low high) m n (slotOf (now (bodies .entry)) i) ⌝ }
+// Whether slot i of the bodies holds a body of rows low to high, with marks up to m.
+fn body_ok(bodies: &[u8], i: usize, low: usize, high: usize, m: u8) -> bool
+    requires { ⌜ (bodiesLength ≤ length (now bodies)) × (i < 49) × (low ≤ high) × (high ≤ 24) ⌝ }
+    ensures { λ r. ⌜ r ≡ bodyOk (rowsFrom low high) m m (slotOf (now (bodies .entry)) i) ⌝ }
 {
-    let base = 916 * i;
-    let end = base + 916;
-    body::sound(&bodies[base..end], low, high, m, n)
+    let base = body::SLOT * i;
+    let end = base + body::SLOT;
+    body::sound(&bodies[base..end], low, high, m, m)
 }
 
-// Whether slot i is free or holds a body of rows low to high, with marks up to 12 and n.
-fn record_ok(dir: &[u8], bodies: &[u8], i: usize, low: usize, high: usize, n: u8) -> bool
-    requires { ⌜ (44884 ≤ length (now bodies)) × (i < 48) × (low ≤ high) × (high ≤ 24) ⌝ }
-    ensures { λ r. ⌜ r ≡ recordOk (rowsFrom low high) n (now (dir .entry)) (now (bodies .entry)) i ⌝ }
+// Whether slot i is free or holds a body of rows low to high.
+fn record_ok(index: &[u8], bodies: &[u8], i: usize, low: usize, high: usize) -> bool
+    requires { ⌜ (indexLength ≤ length (now index)) × (bodiesLength ≤ length (now bodies)) × (i < slotCount) × (low ≤ high) × (high ≤ 24) ⌝ }
+    ensures { λ r. ⌜ r ≡ recordOk (rowsFrom low high) (now (index .entry)) (now (bodies .entry)) i ⌝ }
 {
-    if !slots::is_used(dir, i) {
+    if index[places::LENGTH + slots::SLOT * i] != 1 {
         return true;
     }
-    body_ok(bodies, i, low, high, 12, n)
-}
-
-fn cell_ok(dir: &[u8], cells: &[u8], c: usize) -> bool
-    requires { ⌜ (50880 ≤ length (now cells)) × (c < 12) ⌝ }
-    ensures { λ r. ⌜ r ≡ filledOk (now (dir .entry)) (now (cells .entry)) c ⌝ }
-{
-    if !slots::is_filled(dir, c) {
-        return true;
-    }
-    cache::sound(cells, c)
+    body_ok(bodies, i, low, high, 0)
 }
 
 // Each of the slots of a family is.
 fn records_ok(
-    dir: &[u8],
+    index: &[u8],
     bodies: &[u8],
     first: usize,
     count: usize,
     low: usize,
     high: usize,
-    n: u8,
 ) -> bool
-    requires { ⌜ (44884 ≤ length (now bodies)) × (first + count ≤ 48) × (low ≤ high) × (high ≤ 24) ⌝ }
-    ensures { λ r. ⌜ r ≡ slotsOk count first (recordOk (rowsFrom low high) n (now (dir .entry)) (now (bodies .entry))) ⌝ }
+    requires { ⌜ (indexLength ≤ length (now index)) × (bodiesLength ≤ length (now bodies)) × (first + count ≤ slotCount) × (low ≤ high) × (high ≤ 24) ⌝ }
+    ensures { λ r. ⌜ r ≡ eachFrom count first (recordOk (rowsFrom low high) (now (index .entry)) (now (bodies .entry))) ⌝ }
 {
     let end = first + count;
     let mut i = first;
     while i < end {
-        if !record_ok(dir, bodies, i, low, high, n) {
+        if !record_ok(index, bodies, i, low, high) {
             return false;
         }
         i += 1;
@@ -63,41 +56,54 @@ fn records_ok(
     true
 }
 
-fn cells_ok(dir: &[u8], cells: &[u8]) -> bool
-    requires { ⌜ 50880 ≤ length (now cells) ⌝ }
-    ensures { λ r. ⌜ r ≡ slotsOk 12 0 (filledOk (now (dir .entry)) (now (cells .entry))) ⌝ }
+// Whether the head of the place that holder h points at is in its sets.
+fn holder_ok(index: &[u8], bodies: &[u8], h: usize) -> bool
+    requires { ⌜ (soundIndex (now index) ≡ true) × (bodiesLength ≤ length (now bodies)) × (h < holderCount) ⌝ }
+    ensures { λ r. ⌜ r ≡ holderOk (now (index .entry)) (now (bodies .entry)) h ⌝ }
 {
-    let mut c = 0;
-    while c < 12 {
-        if !cell_ok(dir, cells, c) {
+    let p = index[h + 1];
+    if p == 0 {
+        return true;
+    }
+    picture::is_ok(&bodies[crate::HEADS..], (p - 1) as usize)
+}
+
+// So it is of every holder.
+fn holders_ok(index: &[u8], bodies: &[u8]) -> bool
+    requires { ⌜ (soundIndex (now index) ≡ true) × (bodiesLength ≤ length (now bodies)) ⌝ }
+    ensures { λ r. ⌜ r ≡ eachBelow holderCount (holderOk (now (index .entry)) (now (bodies .entry))) ⌝ }
+{
+    let mut h = 0;
+    while h < places::HOLDERS {
+        if !holder_ok(index, bodies, h) {
             return false;
         }
-        c += 1;
+        h += 1;
     }
     true
 }
 
-// Whether the memories describe a table.
-pub fn sound(dir: &[u8], bodies: &[u8], cells: &[u8]) -> bool
-    ensures { λ r. ⌜ r ≡ soundTable (now (dir .entry)) (now (bodies .entry)) (now (cells .entry)) ⌝ }
+// Whether the memories describe a table, with so many places lent.
+pub fn is_sound(index: &[u8], bodies: &[u8], lent: usize) -> bool
+    ensures { λ r. ⌜ r ≡ soundTable (now (index .entry)) (now (bodies .entry)) lent ⌝ }
 {
-    if bodies.len() < 44884 {
+    if bodies.len() < crate::BODIES {
         return false;
     }
-    if cells.len() < 50880 {
+    if !index::sound::is_sound(index) {
         return false;
     }
-    if !directory::sound::sound(dir) {
+    if lent < (index[0] as usize) {
         return false;
     }
-    if !records_ok(dir, bodies, 0, 32, 1, 15, 12) {
+    if !records_ok(index, bodies, 0, slots::WINDOWS, 1, 15) {
         return false;
     }
-    if !records_ok(dir, bodies, 32, 16, 16, 22, 0) {
+    if !records_ok(index, bodies, slots::WINDOWS, slots::NOTIFICATIONS, 16, 22) {
         return false;
     }
-    if !body_ok(bodies, 48, 22, 24, 1, 1) {
+    if !body_ok(bodies, 48, 22, 24, 1) {
         return false;
     }
-    cells_ok(dir, cells)
+    holders_ok(index, bodies)
 }

@@ -8,8 +8,7 @@ use lib.Dec.{eqb, ltb}
 use lib.ListN.{length, take, drop, length-append, length-take, length-drop}
 use borrow.Author.Tests.{eqb-true, ne-eqb, ltb-true, ltb-false}
 use Rattle.wire.specs.Tests.{pick, both}
-use Rattle.wire.specs.Numbers.{bytesOf}
-use Rattle.wire.specs.Parts.{slice, splice}
+use Rattle.wire.specs.Parts.{slice}
 use Rattle.wire.proofs.Numbers.{Bytes, bytes-slice}
 use Rattle.journal.specs.declared.JournalExtent.{JournalExtent}
 use Rattle.journal.specs.Limits.{logStart, mostOrders, journalLength}
@@ -147,8 +146,9 @@ number-is os k = go (eqb k 0) refl
     go true e = sym (eqb-true k 0 e)
     go false e = refl
 
-past-then : {m n e : Memory} → Past m n → Past n e → Past m e
-past-then a b = record { dir = b .dir ∙ a .dir; bodies = b .bodies ∙ a .bodies; cells = b .cells ∙ a .cells; journal = b .journal ∙ a .journal }
+-- one journal after another
+past-then : {m : Memory} {j k : List ℕ} → Past m (withJournal m j) → Past (withJournal m j) (withJournal m k) → Past m (withJournal m k)
+past-then a b = record { index = refl; bodies = refl; store = a .store; journal = b .journal ∙ a .journal }
 
 -- the report of n orders of at bytes on a journal of the extent w
 abbrev pub reportAt : ℕ → ℕ → ℕ → JournalExtent → Report
@@ -258,10 +258,14 @@ module _ {m : Memory} (limit : ℕ) (s : List ℕ) {w : JournalExtent} {n at : �
           ∙ ap (λ (k : ℕ). deliverAll k (order ∷ cutFrom (length s - (n + 1)) (drop end s)) st) k
           ∙ deliver-first (limit - (n + 1)) order (cutFrom (length s - (n + 1)) (drop end s)) st
 
-      module _ {r : Delivery} {d' j' : List ℕ} (done : DeliveredOn d j order (record { count = w .count + n; end = w .end + at }) r d' j') where
+      module _ (bytes : Bytes s) {r : Delivery} {d' j' : List ℕ} (done : DeliveredOn d j order (record { count = w .count + n; end = w .end + at }) r d' j') where
+        order-bytes : Bytes order
+        unfolding slice
+        order-bytes = bytes-slice s at (end - at) bytes
+
         says-is : answer (deliver order) (stateIn m (g .before ++ g .granted)) .number ≡ r .number
         says-is =
-            ap (λ (a : Answer). a .number) (answers (g .indexed) order)
+            ap (λ (a : Answer). a .number) (answers (g .indexed) order order-bytes)
             ∙ number-is (g .before ++ g .granted ++ (order ∷ [])) (numberOn d (record { count = w .count + n; end = w .end + at }) order) ∙ sym (done .number)
 
         -- refused: it changes no byte
@@ -272,17 +276,16 @@ module _ {m : Memory} (limit : ℕ) (s : List ℕ) {w : JournalExtent} {n at : �
           pub going-refused : {report : Report} → report ≡ reportAt (r .number) n at w → UpdateOutcome limit s m report (withJournal m j')
           going-refused is =
               let x : eqb (r .number) 0 ≡ false = ne-eqb (r .number) 0 not-zero in
-              let y : next (deliver order) (stateIn m (g .before ++ g .granted)) ≡ stateIn m (g .before ++ g .granted) = changes (g .indexed) order ∙ rw number-on in
+              let y : next (deliver order) (stateIn m (g .before ++ g .granted)) ≡ stateIn m (g .before ++ g .granted) = changes (g .indexed) order order-bytes ∙ rw number-on in
               stops (r .number) (delivers ∙ rw (says-is, x, y)) (done .journal ∙ rw number-on) is
 
         -- granted
-        module _ (zero : r .number ≡ 0) (bytes : Bytes s) where
+        module _ (zero : r .number ≡ 0) where
           on-zero : numberOn d (record { count = w .count + n; end = w .end + at }) order ≡ 0
           on-zero = sym (done .number) ∙ zero
 
           after : Indexed (withJournal m j') (r .extent) d' ((g .before ++ g .granted) ++ (order ∷ []))
-          unfolding slice
-          after = delivery-again (g .indexed) order done zero (bytes-slice s at (end - at) bytes)
+          after = delivery-again (g .indexed) order order-bytes done zero
 
           extent-is : r .extent ≡ record { count = w .count + (n + 1); end = w .end + end }
           extent-is =
@@ -303,7 +306,7 @@ module _ {m : Memory} (limit : ℕ) (s : List ℕ) {w : JournalExtent} {n at : �
               ≡ prefixed (g .granted ++ (order ∷ [])) (deliverAll (limit - (n + 1)) (cutFrom (length s - (n + 1)) (drop end s)) (stateIn m (g .before ++ (g .granted ++ (order ∷ [])))))
           left-is =
               let y : next (deliver order) (stateIn m (g .before ++ g .granted)) ≡ stateIn m (g .before ++ (g .granted ++ (order ∷ []))) =
-              changes (g .indexed) order ∙ (rw on-zero) ∙ ap (stateIn m) lists in
+              changes (g .indexed) order order-bytes ∙ (rw on-zero) ∙ ap (stateIn m) lists in
               let c : Course = deliverAll (limit - (n + 1)) (cutFrom (length s - (n + 1)) (drop end s)) (stateIn m (g .before ++ (g .granted ++ (order ∷ [])))) in
               g .left ∙ ap (prefixed (g .granted)) (delivers ∙ rw (says-is, zero, y))
               ∙ ap (λ (os : List (List ℕ)). record { granted = os; number = c .number; state = c .state }) (sym (append-assoc (g .granted) (order ∷ []) (c .granted)))

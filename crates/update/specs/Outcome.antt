@@ -57,5 +57,5 @@ withOrders j (o ∷ os) = withOrders (withOrder j o) os
 pub record UpdateOutcome (limit : ℕ) (s : List ℕ) (m : Memory) (r : Report) (m' : Memory) : Type 0 where
   pub says : r ≡ reportOn limit s (viewOf m)
   pub holds : viewOf m' ≡ nextOn limit s (viewOf m)
-  pub bytes : m' ≡ memory (m .dir) (m .bodies) (m .cells) (withOrders (m .journal) (grantedOn limit s (viewOf m)))
+  pub bytes : m' ≡ memory (m .index) (m .bodies) (m .store) (withOrders (m .journal) (grantedOn limit s (viewOf m)))
   pub past : Past m m'

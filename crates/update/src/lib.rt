@@ -3,7 +3,7 @@ ghost use mathlib.Core.Path.{_≡_};
 ghost use Prim.Native.Nat.{_+_, _-_, _≤_};
 ghost use lib.ListN.{length, drop};
 ghost use Rattle.journal.specs.Limits.{logStart, mostOrders, journalLength};
-ghost use Rattle.journal.specs.View.{memory};
+ghost use Rattle.journal.specs.View.{memory, InEachStore};
 ghost use Rattle.update.specs.Update.{firstSize};
 ghost use Rattle.update.specs.Outcome.{UpdateOutcome};
 ghost use Rattle.update.specs.Packed.{standingHalf, grantedHalf, packedReport};
@@ -58,17 +58,17 @@ fn reported(number: u8, n: u32, at: usize, w: JournalExtent) -> Report
 
 // Delivers the orders of the update until limit are granted, none is left or one is refused.
 pub fn update(
-    dir: &[u8],
+    index: &[u8],
     bodies: &[u8],
-    cells: &[u8],
+    lent: usize,
     journal: &mut [u8],
     limit: u32,
     s: &[u8],
 ) -> Report
-    ensures { λ r. ⌜ UpdateOutcome limit (now (s .entry)) (memory (now (dir .entry)) (now (bodies .entry)) (now (cells .entry)) (now (journal .entry))) r (memory (now (dir .entry)) (now (bodies .entry)) (now (cells .entry)) (now (journal .exit))) ⌝ }
+    ensures { λ r. ⌜ InEachStore lent (λ store. UpdateOutcome limit (now (s .entry)) (memory (now (index .entry)) (now (bodies .entry)) store (now (journal .entry))) r (memory (now (index .entry)) (now (bodies .entry)) store (now (journal .exit)))) ⌝ }
 {
-    let mut d = [0u8; session::DIRECTORY];
-    let w = journal::extent(dir, bodies, cells, journal, &mut d);
+    let mut d = [0u8; session::INDEX];
+    let w = journal::extent(index, bodies, lent, journal, &mut d);
     if w.end == 0 {
         return Report {
             number: 1,

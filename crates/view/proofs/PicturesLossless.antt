@@ -230,8 +230,8 @@ shown-picture p =
 pub shown-as-held : ShownAsHeld
 shown-as-held =
     record {
-      window = λ b v. ap windowOf (keeps-record 1 15 12 12 b v .back);
-      notification = λ b v. ap notificationOf (keeps-record 16 22 12 0 b v .back);
+      window = λ b v. ap windowOf (keeps-record 1 15 1 1 b v .back);
+      notification = λ b v. ap notificationOf (keeps-record 16 22 1 0 b v .back);
       desktop = λ b v. ap desktopOf (keeps-record 22 24 1 1 b v .back);
       picture = shown-picture;
     }

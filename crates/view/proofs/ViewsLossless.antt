@@ -1,4 +1,4 @@
--- The typed views of records lose nothing: one law for fields of fixed numbers, one for counted numbers, one for pointers and one for
+-- The typed views of records lose nothing: one law for fields of fixed numbers, one for counted numbers, one for marks and one for
 -- switches; a record is its fields. Assumes nothing.
 use mathlib.Core.Path.{_≡_, refl, sym, ap, _∙_}
 use mathlib.Core.Bool.{Bool, true, false}
@@ -30,11 +30,10 @@ use Rattle.view.specs.declared.Pair.{Pair}
 use Rattle.view.specs.declared.Text.{Text}
 use Rattle.view.specs.declared.Rectangles.{Rectangles}
 use Rattle.view.specs.declared.Stack.{Stack}
-use Rattle.view.specs.declared.Pointer.{Pointer}
 use Rattle.view.specs.declared.WindowRecord.{WindowRecord}
 use Rattle.view.specs.declared.NotificationRecord.{NotificationRecord}
 use Rattle.view.specs.declared.DesktopRecord.{DesktopRecord}
-use Rattle.view.specs.Views.{windowId, eachOf, pointOf, pairOf, textOf, rectanglesOf, stackOf, pointerOf, windowOf, notificationOf, desktopOf}
+use Rattle.view.specs.Views.{windowId, eachOf, pointOf, pairOf, textOf, rectanglesOf, stackOf, isMarked, windowOf, notificationOf, desktopOf}
 use Rattle.view.specs.Lossless.{BytesEach, ValidRecord}
 use Rattle.view.proofs.ViewsRead.{length-each}
 
@@ -140,27 +139,6 @@ module _ (flag : ℕ) {f g : List ℕ} where
 
 -- ---- a mark
 
-pointer : (v w : ℕ) → pointerOf v ≡ pointerOf w → v ≡ w
-unfolding pointerOf
-pointer v w e =
-    go (eqb v 0) refl (eqb w 0) refl (ap (λ (p : Pointer). p .some) e) (ap (λ (p : Pointer). p .cache) e) (ap (λ (p : Pointer). p .entry) e)
-  where
-    at : Bool → ℕ → Pointer
-    at b n = pick b (record { some = false; cache = 0; entry = 0 }) (record { some = true; cache = (n - 1) / 6; entry = (n - 1) % 6 })
-
-    go : (a : Bool) → eqb v 0 ≡ a → (b : Bool) → eqb w 0 ≡ b → at a v .some ≡ at b w .some → at a v .cache ≡ at b w .cache → at a v .entry ≡ at b w .entry → v ≡ w
-    go true ta true tb s c n = eqb-true v 0 ta ∙ sym (eqb-true w 0 tb)
-    go true ta false tb s c n = let z : _≡_ {A = ℕ} 0 1 = cc in absurd (omega arith)
-    go false ta true tb s c n = let z : _≡_ {A = ℕ} 0 1 = cc in absurd (omega arith)
-    go false ta false tb s c n =
-        let hv : 1 ≤ v = positive v (eqb-false v 0 ta) in
-        let hw : 1 ≤ w = positive w (eqb-false w 0 tb) in
-        omega arith
-      where
-        positive : (n : ℕ) → (n ≡ 0 → ⊥) → 1 ≤ n
-        positive zero h = absurd (h refl)
-        positive (suc n) h = omega arith
-
 -- a mark that is 0 or 1
 switch : (v w : ℕ) → v ≤ 1 → w ≤ 1 → eqb v 1 ≡ eqb w 1 → v ≡ w
 switch v w hv hw e = go (eqb v 1) refl (eqb w 1) refl e
@@ -218,15 +196,15 @@ module _ (rows : List Row) (m n : ℕ) (a b : Body) (va : ValidRecord rows m n a
   fb : (k : ℕ) → k < length rows → Whole (getD rows k noRow) (getD (b .fields) k [])
   fb = valid-at rows (b .fields) (vb .body .fields) (vb .bytes)
 
-pub window-same : (a b : Body) → ValidRecord windowFields 12 12 a → ValidRecord windowFields 12 12 b → windowOf a ≡ windowOf b → a ≡ b
+pub window-same : (a b : Body) → ValidRecord windowFields 1 1 a → ValidRecord windowFields 1 1 b → windowOf a ≡ windowOf b → a ≡ b
 unfolding windowOf pointOf pairOf
 window-same a b va vb e =
-    let u = fa windowFields 12 12 a b va vb in
-    let v = fb windowFields 12 12 a b va vb in
+    let u = fa windowFields 1 1 a b va vb in
+    let v = fb windowFields 1 1 a b va vb in
     let r : ℕ → Row = λ k. getD windowFields k noRow in
-    body-same windowFields 12 12 a b va vb
-    (pointer (a .first) (b .first) (ap (λ (x : WindowRecord). x .small) e))
-    (pointer (a .second) (b .second) (ap (λ (x : WindowRecord). x .big) e)) (
+    body-same windowFields 1 1 a b va vb
+    (switch (a .first) (b .first) (va .body .first) (vb .body .first) (ap (λ (x : WindowRecord). x .small) e))
+    (switch (a .second) (b .second) (va .body .second) (vb .body .second) (ap (λ (x : WindowRecord). x .big) e)) (
       number (r 0) (u 0 (omega arith)) (v 0 (omega arith)) 4 refl refl (ap (λ (x : WindowRecord). x .owner .id) e),
       (
         fixed (r 1) (u 1 (omega arith)) (v 1 (omega arith)) (4 ∷ 4 ∷ []) refl eight
@@ -271,14 +249,14 @@ window-same a b va vb e =
       ),
     )
 
-pub notification-same : (a b : Body) → ValidRecord notificationFields 12 0 a → ValidRecord notificationFields 12 0 b → notificationOf a ≡ notificationOf b → a ≡ b
+pub notification-same : (a b : Body) → ValidRecord notificationFields 1 0 a → ValidRecord notificationFields 1 0 b → notificationOf a ≡ notificationOf b → a ≡ b
 unfolding notificationOf
 notification-same a b va vb e =
-    let u = fa notificationFields 12 0 a b va vb in
-    let v = fb notificationFields 12 0 a b va vb in
+    let u = fa notificationFields 1 0 a b va vb in
+    let v = fb notificationFields 1 0 a b va vb in
     let r : ℕ → Row = λ k. getD notificationFields k noRow in
-    body-same notificationFields 12 0 a b va vb
-    (pointer (a .first) (b .first) (ap (λ (x : NotificationRecord). x .icon) e))
+    body-same notificationFields 1 0 a b va vb
+    (switch (a .first) (b .first) (va .body .first) (vb .body .first) (ap (λ (x : NotificationRecord). x .icon) e))
     (omega (arith, va .body .second, vb .body .second)) (
       number (r 0) (u 0 (omega arith)) (v 0 (omega arith)) 4 refl refl (ap (λ (x : NotificationRecord). x .version) e),
       (

@@ -24,7 +24,7 @@ use Rattle.body.specs.Bodies.{fieldIn}
 use Rattle.body.proofs.Placed.{len-place}
 use Rattle.layout.specs.Layouts.{fieldAt}
 use Rattle.protocol.specs.declared.WindowId.{WindowId}
-use Rattle.view.specs.Views.{windowId, eachOf, pointOf, pairOf, textOf, rectanglesOf, stackOf, pointerOf}
+use Rattle.view.specs.Views.{windowId, eachOf, pointOf, pairOf, textOf, rectanglesOf, stackOf}
 
 -- ---- the lesser of two
 
@@ -261,14 +261,6 @@ module _ (s : List ℕ) (at : ℕ) where
       let r = idsRow 0 in
       stack-parts (fieldAt r s at) (a ∙ num-start r s at 1 (omega arith) (omega arith))
       (b ∙ counted r s at windowId 4 64 1 n 64 (least-is n 64 e) (omega arith) (λ j g h. (omega arith, omega arith)) (λ j g. omega arith))
-
-pub pointer-none : (v : ℕ) → v ≡ 0 → record { some = false; cache = 0; entry = 0 } ≡ pointerOf v
-unfolding pointerOf
-pointer-none v h = rw (eq-eqb v 0 h)
-
-pub pointer-some : (v : ℕ) → (v ≡ 0 → ⊥) → record { some = true; cache = (v - 1) / 6; entry = (v - 1) % 6 } ≡ pointerOf v
-unfolding pointerOf
-pointer-some v h = rw (ne-eqb v 0 h)
 
 -- the bytes of a picture after its numbers
 pub content-is : (s : List ℕ) (at : ℕ) {bytes : List ℕ} → bytes ≡ splice (replicate 4224 0) 0 (slice s at 4224) → bytes ≡ padded 0 4224 (drop at s)

@@ -18,24 +18,23 @@ use Rattle.view.specs.declared.Point.{Point}
 use Rattle.view.specs.declared.Pair.{Pair}
 use Rattle.view.specs.declared.Text.{Text}
 use Rattle.view.specs.declared.Rectangles.{Rectangles}
-use Rattle.view.specs.declared.Pointer.{Pointer}
 use Rattle.view.specs.declared.Stack.{Stack}
-use Rattle.view.specs.Views.{windowId, pointOf, pairOf, textOf, rectanglesOf, stackOf, pointerOf, fieldOf, windowOf, notificationOf, desktopOf, pictureView}
+use Rattle.view.specs.Views.{windowId, pointOf, pairOf, textOf, rectanglesOf, stackOf, isMarked, fieldOf, windowOf, notificationOf, desktopOf, pictureView}
 use Rattle.view.proofs.ViewsRead.{num-field, num-start, numbers-flag, text-flag, rectangles-flag, ids-flag, content-is}
 
--- a pointer read from a mark
-pointed : {p : Pointer} {v w : ℕ} → p ≡ pointerOf v → v ≡ w → p ≡ pointerOf w
-pointed e f = e ∙ ap pointerOf f
+-- a mark that is read
+marked : {p : Bool} {v w : ℕ} → p ≡ isMarked v → v ≡ w → p ≡ isMarked w
+marked e f = e ∙ ap isMarked f
 
 -- ---- a window
 
 -- by the parts of a body
 window-parts : (b : Body) {owner : WindowId} {style extended show : ℕ} {title : Text} {offset : Point} {size : Pair} {content : ℕ} {root : WindowId} {place delta : Point} {whole : Pair} {rects : Rectangles} {visible : Point} {shown : Rectangles}
-    {small big : Pointer}
+    {small big : Bool}
     → owner ≡ windowId (numAt 4 (fieldOf b 0) 0) → style ≡ numAt 4 (fieldOf b 1) 0 → extended ≡ numAt 4 (fieldOf b 1) 4 → show ≡ numAt 1 (fieldOf b 2) 0 → title ≡ textOf (fieldOf b 3)
     → offset ≡ pointOf (fieldOf b 4) → size ≡ pairOf (fieldOf b 5) → content ≡ numAt 1 (fieldOf b 6) 0 → root ≡ windowId (numAt 4 (fieldOf b 7) 0) → place ≡ pointOf (fieldOf b 8)
     → delta ≡ pointOf (fieldOf b 9) → whole ≡ pairOf (fieldOf b 10) → rects ≡ rectanglesOf (fieldOf b 11) → visible ≡ pointOf (fieldOf b 12) → shown ≡ rectanglesOf (fieldOf b 13)
-    → small ≡ pointerOf (b .first) → big ≡ pointerOf (b .second)
+    → small ≡ isMarked (b .first) → big ≡ isMarked (b .second)
     → record {
       owner = owner;
       style = style;
@@ -60,11 +59,11 @@ window-parts b e0 e1 e2 e3 e4 e5 e6 e7 e8 e9 e10 e11 e12 e13 e14 e15 e16 = rw (e
 
 module _ (s : List ℕ) where
   pub window-is : {owner : WindowId} {style extended show : ℕ} {title : Text} {offset : Point} {size : Pair} {content : ℕ} {root : WindowId} {place delta : Point} {whole : Pair} {rects : Rectangles}
-      {visible : Point} {shown : Rectangles} {v w : ℕ} {small big : Pointer}
+      {visible : Point} {shown : Rectangles} {v w : ℕ} {small big : Bool}
       → title ≡ textOf (fieldAt (textRow 0 520) s 15) → offset ≡ pointOf (fieldAt (numbersRow 0 8) s 537) → size ≡ pairOf (fieldAt (numbersRow 0 8) s 545)
       → place ≡ pointOf (fieldAt (numbersRow 0 8) s 558) → delta ≡ pointOf (fieldAt (numbersRow 0 8) s 566) → whole ≡ pairOf (fieldAt (numbersRow 0 8) s 574)
       → rects ≡ rectanglesOf (fieldAt (rectanglesRow 0) s 582) → visible ≡ pointOf (fieldAt (numbersRow 0 8) s 712) → shown ≡ rectanglesOf (fieldAt (rectanglesRow 0) s 720)
-      → v ≡ numAt 1 s 0 → small ≡ pointerOf v → w ≡ numAt 1 s 1 → big ≡ pointerOf w → owner ≡ windowId (numAt 4 s 2) → root ≡ windowId (numAt 4 s 554)
+      → v ≡ numAt 1 s 0 → small ≡ isMarked v → w ≡ numAt 1 s 1 → big ≡ isMarked w → owner ≡ windowId (numAt 4 s 2) → root ≡ windowId (numAt 4 s 554)
       → style ≡ numAt 4 s 6 → extended ≡ numAt 4 s 10 → show ≡ numAt 1 s 14 → content ≡ numAt 1 s 553
       → record {
         owner = owner;
@@ -104,22 +103,22 @@ module _ (s : List ℕ) where
       (rects ∙ ap rectanglesOf (rectangles-flag 0x00000100 s 582))
       (visible ∙ ap pointOf (numbers-flag 0x00001000 8 s 712))
       (shown ∙ ap rectanglesOf (rectangles-flag 0x00000200 s 720))
-      (pointed small v)
-      (pointed big w)
+      (marked small v)
+      (marked big w)
 
 -- ---- a notification icon
 
-notification-parts : (b : Body) {version : ℕ} {tip : Text} {timeout flags : ℕ} {text title : Text} {state : ℕ} {icon : Pointer}
+notification-parts : (b : Body) {version : ℕ} {tip : Text} {timeout flags : ℕ} {text title : Text} {state : ℕ} {icon : Bool}
     → version ≡ numAt 4 (fieldOf b 0) 0 → tip ≡ textOf (fieldOf b 1) → timeout ≡ numAt 4 (fieldOf b 2) 0 → flags ≡ numAt 4 (fieldOf b 2) 4 → text ≡ textOf (fieldOf b 3)
-    → title ≡ textOf (fieldOf b 4) → state ≡ numAt 4 (fieldOf b 5) 0 → icon ≡ pointerOf (b .first)
+    → title ≡ textOf (fieldOf b 4) → state ≡ numAt 4 (fieldOf b 5) 0 → icon ≡ isMarked (b .first)
     → record { version = version; tip = tip; timeout = timeout; flags = flags; text = text; title = title; state = state; icon = icon } ≡ notificationOf b
 unfolding notificationOf
 notification-parts b e0 e1 e2 e3 e4 e5 e6 e7 = rw (e0, e1, e2, e3, e4, e5, e6, e7)
 
 module _ (s : List ℕ) where
-  pub notification-is : {version : ℕ} {tip : Text} {timeout flags : ℕ} {text title : Text} {state v : ℕ} {icon : Pointer}
+  pub notification-is : {version : ℕ} {tip : Text} {timeout flags : ℕ} {text title : Text} {state v : ℕ} {icon : Bool}
       → tip ≡ textOf (fieldAt (textRow 0 256) s 6) → text ≡ textOf (fieldAt (textRow 0 510) s 272) → title ≡ textOf (fieldAt (textRow 0 126) s 784)
-      → v ≡ numAt 1 s 0 → icon ≡ pointerOf v → version ≡ numAt 4 s 2 → timeout ≡ numAt 4 s 264 → flags ≡ numAt 4 s 268 → state ≡ numAt 4 s 912
+      → v ≡ numAt 1 s 0 → icon ≡ isMarked v → version ≡ numAt 4 s 2 → timeout ≡ numAt 4 s 264 → flags ≡ numAt 4 s 268 → state ≡ numAt 4 s 912
       → record { version = version; tip = tip; timeout = timeout; flags = flags; text = text; title = title; state = state; icon = icon } ≡ notificationOf (bodyOf notificationFields s)
   unfolding bodyOf fieldsOf
   notification-is tip text title v icon version timeout flags state =
@@ -132,7 +131,7 @@ module _ (s : List ℕ) where
       (text ∙ ap textOf (text-flag 0x00000002 510 s 272))
       (title ∙ ap textOf (text-flag 0x00000002 126 s 784))
       (state ∙ num-start (r 5) s 912 4 (omega arith) (omega arith))
-      (pointed icon v)
+      (marked icon v)
 
 -- ---- the desktop
 

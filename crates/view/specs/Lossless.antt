@@ -48,15 +48,15 @@ abbrev pub LosesNothing : {A B : Type 0} → (A → Type 0) → (A → B) → Ty
 LosesNothing {A} Valid view = (a b : A) → Valid a → Valid b → view a ≡ view b → a ≡ b
 
 pub record ViewsLoseNothing : Type 0 where
-  pub window : LosesNothing (ValidRecord windowFields 12 12) windowOf
-  pub notification : LosesNothing (ValidRecord notificationFields 12 0) notificationOf
+  pub window : LosesNothing (ValidRecord windowFields 1 1) windowOf
+  pub notification : LosesNothing (ValidRecord notificationFields 1 0) notificationOf
   pub desktop : LosesNothing (ValidRecord desktopFields 1 1) desktopOf
   pub picture : LosesNothing ValidPicture pictureView
 
 -- ---- what is handed out is shown as what the table has
 
 pub record ShownAsHeld : Type 0 where
-  pub window : (b : Body) → ValidBody windowFields 12 12 b → windowOf (bodyOf windowFields (recordBytes windowFields b)) ≡ windowOf b
-  pub notification : (b : Body) → ValidBody notificationFields 12 0 b → notificationOf (bodyOf notificationFields (recordBytes notificationFields b)) ≡ notificationOf b
+  pub window : (b : Body) → ValidBody windowFields 1 1 b → windowOf (bodyOf windowFields (recordBytes windowFields b)) ≡ windowOf b
+  pub notification : (b : Body) → ValidBody notificationFields 1 0 b → notificationOf (bodyOf notificationFields (recordBytes notificationFields b)) ≡ notificationOf b
   pub desktop : (b : Body) → ValidBody desktopFields 1 1 b → desktopOf (bodyOf desktopFields (recordBytes desktopFields b)) ≡ desktopOf b
   pub picture : (p : List ℕ) → pictureView (pictureBytes p) ≡ pictureView p

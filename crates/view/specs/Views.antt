@@ -1,6 +1,6 @@
 -- Records as they are handed out: the typed view of a raw record. Assumes nothing.
 use Prim.Native.Nat.{ℕ, zero, suc, _+_, _*_, _-_, _/_, _%_}
-use mathlib.Core.Bool.{true, false}
+use mathlib.Core.Bool.{Bool}
 use mathlib.Core.List.{List, [], _∷_}
 use lib.Dec.{eqb}
 use lib.ListN.{getD, drop}
@@ -15,7 +15,6 @@ use Rattle.view.specs.declared.Point.{Point}
 use Rattle.view.specs.declared.Pair.{Pair}
 use Rattle.view.specs.declared.Text.{Text}
 use Rattle.view.specs.declared.Rectangles.{Rectangles}
-use Rattle.view.specs.declared.Pointer.{Pointer}
 use Rattle.view.specs.declared.Stack.{Stack}
 use Rattle.view.specs.declared.WindowRecord.{WindowRecord}
 use Rattle.view.specs.declared.NotificationRecord.{NotificationRecord}
@@ -51,10 +50,9 @@ rectanglesOf f = record { count = numAt 2 f 0; sides = padded 0 64 (eachOf (λ v
 unfoldable pub stackOf : List ℕ → Stack
 stackOf f = record { count = numAt 1 f 0; ids = padded (windowId 0) 64 (eachOf windowId 4 (numAt 1 f 0) f 1) }
 
--- 0 for none, else the number of the cell and 1
-unfoldable pub pointerOf : ℕ → Pointer
-pointerOf v =
-    pick (eqb v 0) (record { some = false; cache = 0; entry = 0 }) (record { some = true; cache = (v - 1) / 6; entry = (v - 1) % 6 })
+-- a mark: 1 where it is set
+abbrev pub isMarked : ℕ → Bool
+isMarked v = eqb v 1
 
 -- ---- a record
 
@@ -79,8 +77,8 @@ windowOf b =
       «window_rects» = rectanglesOf (fieldOf b 11);
       «visible_offset» = pointOf (fieldOf b 12);
       «visibility_rects» = rectanglesOf (fieldOf b 13);
-      small = pointerOf (b .first);
-      big = pointerOf (b .second);
+      small = isMarked (b .first);
+      big = isMarked (b .second);
     }
 
 unfoldable pub notificationOf : Body → NotificationRecord
@@ -93,7 +91,7 @@ notificationOf b =
       text = textOf (fieldOf b 3);
       title = textOf (fieldOf b 4);
       state = numAt 4 (fieldOf b 5) 0;
-      icon = pointerOf (b .first);
+      icon = isMarked (b .first);
     }
 
 unfoldable pub desktopOf : Body → DesktopRecord

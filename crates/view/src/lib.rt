@@ -1,5 +1,5 @@
-// The bytes that a lookup hands out, in the fixed layout of their kind, as a typed record: numbers, ids, strings, rectangles,
-// pointers to cells. A byte past the end counts 0.
+// The bytes that a lookup hands out, in the fixed layout of their kind, as a typed record: numbers, ids, strings, rectangles, and
+// whether a picture is there. A byte past the end counts 0.
 ghost use mathlib.Core.Path.{_≡_};
 ghost use Rattle.body.specs.Bodies.{windowFields, notificationFields, desktopFields, bodyOf};
 ghost use Rattle.view.specs.Views.{windowOf, notificationOf, desktopOf, pictureView};
@@ -31,13 +31,7 @@ pub struct Rectangles {
     pub sides: [u16; 64],
 }
 
-// The cell of the icon cache that is pointed at; where none is, cache and entry are 0.
-pub struct Pointer {
-    pub some: bool,
-    pub cache: u8,
-    pub entry: u8,
-}
-
+// Its small and big say whether it shows a picture, which follows the record.
 pub struct WindowRecord {
     pub owner: WindowId,
     pub style: u32,
@@ -54,10 +48,11 @@ pub struct WindowRecord {
     pub window_rects: Rectangles,
     pub visible_offset: Point,
     pub visibility_rects: Rectangles,
-    pub small: Pointer,
-    pub big: Pointer,
+    pub small: bool,
+    pub big: bool,
 }
 
+// Its icon says whether it shows a picture.
 pub struct NotificationRecord {
     pub version: u32,
     pub tip: Text,
@@ -66,7 +61,7 @@ pub struct NotificationRecord {
     pub text: Text,
     pub title: Text,
     pub state: u32,
-    pub icon: Pointer,
+    pub icon: bool,
 }
 
 // The stacking list: its ids, and 0 to the end.
@@ -106,8 +101,8 @@ pub fn window(bytes: &[u8]) -> WindowRecord
     let window_rects = parts::rectangles(bytes, 582);
     let visible_offset = parts::point(bytes, 712);
     let visibility_rects = parts::rectangles(bytes, 720);
-    let small = parts::pointer(wire::read_u8(bytes, 0));
-    let big = parts::pointer(wire::read_u8(bytes, 1));
+    let small = parts::marked(wire::read_u8(bytes, 0));
+    let big = parts::marked(wire::read_u8(bytes, 1));
     let owner = parts::window_id(bytes, 2);
     let root_parent = parts::window_id(bytes, 554);
     WindowRecord {
@@ -138,7 +133,7 @@ pub fn notification(bytes: &[u8]) -> NotificationRecord
     let tip = parts::text(bytes, 6, 256);
     let text = parts::text(bytes, 272, 510);
     let title = parts::text(bytes, 784, 126);
-    let icon = parts::pointer(wire::read_u8(bytes, 0));
+    let icon = parts::marked(wire::read_u8(bytes, 0));
     NotificationRecord {
         version: wire::read_u32(bytes, 2),
         tip,

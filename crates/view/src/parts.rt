@@ -8,10 +8,9 @@ ghost use Rattle.wire.specs.Numbers.{numAt};
 ghost use Rattle.wire.specs.Parts.{slice, splice, padded};
 ghost use Rattle.order.specs.Rows.{numbersRow, textRow, rectanglesRow, idsRow};
 ghost use Rattle.layout.specs.Layouts.{fieldAt};
-ghost use Rattle.view.specs.Views.{eachOf, windowId, pointOf, pairOf, textOf, rectanglesOf, stackOf, pointerOf};
+ghost use Rattle.view.specs.Views.{eachOf, windowId, pointOf, pairOf, textOf, rectanglesOf, stackOf, isMarked};
 use crate::Pair;
 use crate::Point;
-use crate::Pointer;
 use crate::Rectangles;
 use crate::Stack;
 use crate::Text;
@@ -42,21 +41,11 @@ pub fn window_id(s: &[u8], at: usize) -> WindowId
     WindowId { id }
 }
 
-pub fn pointer(v: u8) -> Pointer
-    ensures { λ r. ⌜ r ≡ pointerOf v ⌝ }
+// A mark that is set.
+pub fn marked(v: u8) -> bool
+    ensures { λ r. ⌜ r ≡ isMarked v ⌝ }
 {
-    if v == 0 {
-        return Pointer {
-            some: false,
-            cache: 0,
-            entry: 0,
-        };
-    }
-    Pointer {
-        some: true,
-        cache: (v - 1) / 6,
-        entry: (v - 1) % 6,
-    }
+    v == 1
 }
 
 // The lesser of two.

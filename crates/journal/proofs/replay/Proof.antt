@@ -47,6 +47,7 @@ replay-spec =
     let f = c .before .before in
     let w = f .before .before .before in
     omega (arith, w .loop .inv .high, f .if1 .left, start (w .before) .pre .2))
+    (λ c. omega (arith, c .before .before .before .before .before .before .loop .inv .high))  -- cast-replay-order
     (λ c κs. let w = c .before .before .before .before .before .before in (w .loop .inv .sound, w .loop .inv .room))  -- replay-order-requires
     (λ c. search needs)
     (λ c. search needs)

@@ -1,7 +1,7 @@
 use native.Mathlib.Omega.{arith}
 use denote.Ref.{now}
 use Rattle.wire.proofs.Numbers.{Bytes}
-use Rattle.journal.proofs.LoopInvariants.{order-asks, order-gives}
+use Rattle.journal.proofs.LoopInvariants.{order-asks, change-asks, order-gives}
 use borrow.Author.Needs.{needs}
 use Rattle.journal.proofs.replay_order.Statement.{statement}
 use Rattle.journal.proofs.replay_order.Tie as tie
@@ -21,8 +21,12 @@ replay-order-spec =
     (λ c κs.  -- follow-requires
     let v = c .before .before .before in
     let u = start v in
-    order-asks (u .args .want) (now (u .args .d)) (now (u .args .m)) (now (u .args .s)) (c .before .judge .ensures) (bytes v) (u .pre .0) (u .pre .1))
-    (λ c κs. search needs)
+    order-asks (u .args .want) (u .args .q) (now (u .args .d)) (now (u .args .m)) (now (u .args .s)) (c .before .judge .ensures) (bytes v) (u .pre .0) (u .pre .1))
+    (λ c κs.  -- apply-requires
+    let j = c .before .before .before .before .before in
+    let v = j .before .before in
+    let u = start v in
+    change-asks (u .args .want) (u .args .q) (now (u .args .d)) (now (u .args .m)) (now (u .args .s)) (j .judge .ensures) (bytes v) (u .pre .0))
     (λ c κs. search needs)
     (λ c. search needs)
     (λ c. search needs)
@@ -31,5 +35,5 @@ replay-order-spec =
     let f = n .before .before .before .before in
     let j = f .before .before in
     let u = start (j .before .before) in
-    order-gives (u .args .want) (now (u .args .d)) (now (u .args .m)) (now (u .args .s)) (j .judge .ensures) (c .number .ensures) (n .note .ensures)
+    order-gives (u .args .want) (u .args .q) (now (u .args .d)) (now (u .args .m)) (now (u .args .s)) (j .judge .ensures) (c .number .ensures) (n .apply .ensures)
     (f .follow .ensures)))

@@ -12,24 +12,32 @@ call-spec =
     tie.close
     (tie.spec
     (λ c κs.  -- update-all-requires
-    let start = c .before .before .before .before .before .before .before .before .before .before .before .before in
-    start .pre ∙ ap blockLength (is-update (start .args .kind) (now (start .args .arg)) (c .before .before .before .before .before .if1 .taken)))
+    let start = c .before .before .before .before .before .before .before .before .before .before .before .before .before .before .before .before .before .before .before .before in
+    start .pre ∙ ap blockLength (is-update _ (start .args .kind) (now (start .args .arg)) (c .before .before .before .before .before .before .before .before .before .if1 .taken)))
     (λ c κs.  -- single-requires
-    let start = c .before .before .before .before .before .before .before .before .before .before .before .before in
-    start .pre ∙ ap blockLength (is-single (start .args .kind) (now (start .args .arg)) (c .before .before .before .before .before .if1 .left)))
+    let start = c .before .before .before .before .before .before .before .before .before .before .before .before .before .before .before .before .before .before .before .before in
+    start .pre ∙ ap blockLength (is-single _ (start .args .kind) (now (start .args .arg)) (c .before .before .before .before .before .before .before .before .before .if1 .left)))
+    (λ c. search needs)
+    (λ c. search needs)
+    (λ c. search needs)
+    (λ c. search needs)
     (λ c. search needs)
     (λ c. search needs)
     (λ c. search needs)
     (λ c. search needs)
     (λ c. search needs)
     (λ c.  -- returns
-    let start = c .before .before .before .before .before .before .before .before .before .before .before .before .before .before .before .before .before in
-    done-as (is-update (start .args .kind) (now (start .args .arg)) (c .before .before .before .before .before .before .before .before .before .before .if1 .taken)) (c .before .before .before .before .update-all .ensures))
+    let start = c .before .before .before .before .before .before .before .before .before .before .before .before .before .before .before .before .before .before .before .before .before .before .before .before .before in
+    done-as (is-update _ (start .args .kind) (now (start .args .arg)) (c .before .before .before .before .before .before .before .before .before .before .before .before .before .before .if1 .taken)) (c .before .before .before .before .update-all .ensures))
+    (λ c. search needs)
+    (λ c. search needs)
+    (λ c. search needs)
+    (λ c. search needs)
     (λ c. search needs)
     (λ c. search needs)
     (λ c. search needs)
     (λ c. search needs)
     (λ c. search needs)
     (λ c.  -- returns-2
-    let start = c .before .before .before .before .before .before .before .before .before .before .before .before .before .before .before .before .before .before .before .before .before .before .before in
-    done-as (is-single (start .args .kind) (now (start .args .arg)) (c .before .before .before .before .before .before .before .before .before .before .before .before .before .before .before .before .if1 .left)) (c .before .before .before .before .before .before .before .before .before .before .single .ensures)))
+    let start = c .before .before .before .before .before .before .before .before .before .before .before .before .before .before .before .before .before .before .before .before .before .before .before .before .before .before .before .before .before .before .before .before .before .before .before .before .before .before .before in
+    done-as (is-single _ (start .args .kind) (now (start .args .arg)) (c .before .before .before .before .before .before .before .before .before .before .before .before .before .before .before .before .before .before .before .before .before .before .before .before .before .before .before .before .if1 .left)) (c .before .before .before .before .before .before .before .before .before .before .before .before .before .before .before .before .before .before .single .ensures)))

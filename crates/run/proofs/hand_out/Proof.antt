@@ -12,15 +12,15 @@ hand-out-spec =
     tie.close
     (tie.spec
     (λ c κs.  -- put-record-requires
-    let start = c .before .before .before .before .before .before .before .before in
-    start .pre .1 ∙ ap (λ (x : Call). blockLength (oneCall x)) (is-record _ _ (c .before .if1 .taken)))
+    let start = c .before .before .before .before .before .before .before .before .before .before .before .before in
+    start .pre .1 ∙ ap (λ (x : Call). blockLength (oneCall x)) (is-record _ _ _ (c .before .if1 .taken)))
     (λ c. search needs)
-    (λ c. done-as (ap oneCall (is-record _ _ (c .before .before .before .before .if1 .taken))) (c .before .before .put-record .ensures))  -- returns
+    (λ c. done-as (ap oneCall (is-record _ _ _ (c .before .before .before .before .if1 .taken))) (c .before .before .put-record .ensures))  -- returns
     (λ c κs. search needs)
     (λ c κs.  -- look-up-requires
-    let start = c .before .before .before .before .before .before .before .before .before in
-    start .pre .1 ∙ ap (λ (x : Call). blockLength (oneCall x)) (looks _ _ (start .pre .0) (c .before .before .if1 .left) (c .before .target-of .ensures)))
+    let start = c .before .before .before .before .before .before .before .before .before .before .before .before .before in
+    start .pre .1 ∙ ap (λ (x : Call). blockLength (oneCall x)) (looks _ _ _ (start .pre .0) (c .before .before .if1 .left) (c .before .target-of .ensures)))
     (λ c. search needs)
     (λ c.  -- returns-2
-    let start = c .before .before .before .before .before .before .before .before .before .before .before .before in
-    done-as (ap oneCall (looks _ _ (start .pre .0) (c .before .before .before .before .before .if1 .left) (c .before .before .before .before .target-of .ensures))) (c .before .before .look-up .ensures)))
+    let start = c .before .before .before .before .before .before .before .before .before .before .before .before .before .before .before .before in
+    done-as (ap oneCall (looks _ _ _ (start .pre .0) (c .before .before .before .before .before .if1 .left) (c .before .before .before .before .target-of .ensures))) (c .before .before .look-up .ensures)))

@@ -19,7 +19,5 @@ look-up-spec =
     (λ c κs. search needs)
     (λ c. search needs)
     (λ c.  -- returns
-    let start = c .before .before .before .before .before .before .before .before .before .before .before .before .before .before .before .before .before .before in
-    let cleared = c .before .before .before .before .before .before .before .before .before .before .before in
-    let looked = c .before .before .before .before .before .before .before in
-    handed-block (look (start .args .target)) (now (start .args .out)) _ _ (start .pre) (cleared .clear .ensures) (looked .look .ensures) (c .before .before .before .before .packed .ensures) (c .before .before .write-u32 .ensures)))
+    let start = c .before .before .before .before .before .before .before .before .before .before .before .before .before .before .before .before .before .before .before .before .before .before in
+    handed-block (look (start .args .target)) (now (start .args .out)) _ _ (start .pre) (c .before .before .before .before .before .before .before .before .before .before .before .clear .ensures) (c .before .before .before .before .before .before .before .look .ensures) (c .before .before .before .before .packed .ensures) (c .before .before .write-u32 .ensures)))

@@ -1,4 +1,5 @@
 -- As a lookup: the output is cleared, the record is written behind the first four bytes, and its reply is put there.
+use mathlib.Core.Path.{sym}
 use denote.Ref.{now}
 use Rattle.session.specs.Calls.{writeRecord}
 use Rattle.run.proofs.Calls.{handed-block}
@@ -11,6 +12,7 @@ put-record-spec =
     tie.close
     (tie.spec
     (λ c κs. search needs)
+    (λ c κs. search needs)
     (λ c. search needs)
     (λ c. search needs)
     (λ c. search needs)
@@ -19,7 +21,5 @@ put-record-spec =
     (λ c κs. search needs)
     (λ c. search needs)
     (λ c.  -- returns
-    let start = c .before .before .before .before .before .before .before .before .before .before .before .before .before .before .before .before .before .before in
-    let cleared = c .before .before .before .before .before .before .before .before .before .before .before in
-    let written = c .before .before .before .before .before .before .before in
-    handed-block writeRecord (now (start .args .out)) _ _ (start .pre) (cleared .clear .ensures) (written .write .ensures) (c .before .before .before .before .packed .ensures) (c .before .before .write-u32 .ensures)))
+    let start = c .before .before .before .before .before .before .before .before .before .before .before .before .before .before .before .before .before .before .before .before .before .before .before in
+    handed-block writeRecord (now (start .args .out)) _ _ (start .pre) (c .before .before .before .before .before .before .before .before .before .before .before .before .clear .ensures) (c .before .before .before .before .before .before .before .write .ensures _ (sym (c .before .before .before .before .before .before .before .before .before .places .ensures))) (c .before .before .before .before .packed .ensures) (c .before .before .write-u32 .ensures)))

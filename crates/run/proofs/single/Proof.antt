@@ -21,17 +21,25 @@ single-spec =
     (λ c. search needs)
     (λ c. search needs)
     (λ c. search needs)
+    (λ c. search needs)
+    (λ c. search needs)
+    (λ c. search needs)
+    (λ c. search needs)
     (λ c.  -- returns
-    let start = c .before .before .before .before .before .before .before .before .before .before .before .before .before .before .before .before .before .before .before .before .before .before .before .before .before in
+    let start = c .before .before .before .before .before .before .before .before .before .before .before .before .before .before .before .before .before .before .before .before .before .before .before .before .before .before .before .before .before .before .before .before .before .before .before .before .before .before .before .before .before in
     let kind = start .args .kind in
     let arg = now (start .args .arg) in
-    let e = is-change kind arg (c .before .before .before .before .before .before .before .before .before .before .before .before .before .before .before .before .before .before .if1 .taken) in
+    let e = is-change _ kind arg (c .before .before .before .before .before .before .before .before .before .before .before .before .before .before .before .before .before .before .before .before .before .before .before .before .before .before .before .before .before .before .if1 .taken) in
     done-as (ap oneCall e)
-    (change-block (now (start .args .out)) (hands-nothing kind arg) (c .before .before .before .before .before .before .before .before .before .before .before .before .before .change .ensures) (start .pre ∙ ap (λ (x : Call). blockLength (oneCall x)) e) (c .before .before .before .before .packed .ensures)
+    (change-block (now (start .args .out)) (hands-nothing _ kind arg) (c .before .before .before .before .before .before .before .before .before .before .before .before .before .before .before .before .before .before .before .before .before .change .ensures) (start .pre ∙ ap (λ (x : Call). blockLength (oneCall x)) e) (c .before .before .before .before .packed .ensures)
     (c .before .before .write-u32 .ensures)))
     (λ c. search needs)
     (λ c. search needs)
     (λ c. search needs)
     (λ c. search needs)
     (λ c. search needs)
-    (λ c. c .before .before .hand-out .ensures))  -- returns-2
+    (λ c. search needs)
+    (λ c. search needs)
+    (λ c. search needs)
+    (λ c. search needs)
+    (λ c. search needs))

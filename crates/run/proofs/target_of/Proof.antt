@@ -1,5 +1,5 @@
 -- Each kind's numbers are read where targetOf reads them.
-use Rattle.run.proofs.Calls.{is-window, is-notification, is-cell, is-windows, is-notifications, is-desktop}
+use Rattle.run.proofs.Calls.{is-window, is-notification, is-cell, is-windows, is-notifications, is-shares, is-desktop}
 use borrow.Author.Needs.{needs}
 use Rattle.run.proofs.target_of.Statement.{statement}
 use Rattle.run.proofs.target_of.Tie as tie
@@ -17,6 +17,9 @@ target-of-spec =
     (λ c. is-cell _ _ (c .before .before .if3 .taken) _ _ (c .before .read-u8 .ensures) (c .read-u16 .ensures))  -- returns-3
     (λ c. is-windows _ _ (c .if4 .taken))  -- returns-4
     (λ c. is-notifications _ _ (c .if5 .taken))  -- returns-5
-    (λ c.  -- returns-6
-    let t = c .before .before in
-    is-desktop _ _ (t .before .before .if1 .left) (t .before .if2 .left) (t .if3 .left) (c .before .if4 .left) (c .if5 .left)))
+    (λ c κs. search needs)
+    (λ c κs. search needs)
+    (λ c. is-shares _ _ (c .before .before .if6 .taken) (c .before .holder-at .ensures) (c .holder-at2 .ensures))  -- returns-6
+    (λ c.  -- returns-7
+    let t = c .before .before .before in
+    is-desktop _ _ (t .before .before .if1 .left) (t .before .if2 .left) (t .if3 .left) (c .before .before .if4 .left) (c .before .if5 .left) (c .if6 .left)))

@@ -1,5 +1,5 @@
 -- The update is what follows the limit; the two halves of its report fill the block.
-use mathlib.Core.Path.{ap, _∙_}
+use mathlib.Core.Path.{sym, ap, _∙_}
 use mathlib.Core.List.{List}
 use Prim.Native.Nat.{ℕ}
 use denote.Ref.{now}
@@ -16,6 +16,7 @@ update-all-spec =
     (tie.spec
     (λ c κs. search needs)
     (λ c κs. search needs)
+    (λ c κs. search needs)
     (λ c. search needs)
     (λ c. search needs)
     (λ c. search needs)
@@ -27,8 +28,8 @@ update-all-spec =
     (λ c. search needs)
     (λ c. search needs)
     (λ c.  -- returns
-    let u = c .before .before .before .before .before .before .before .before .before .before .before .before in
-    let l = u .before .before .before in
-    let start = l .before .before .before .before .before .before .before .before in
-    update-block (now (start .args .arg)) (now (start .args .out)) (l .after-limit .result) (l .before .read-u32 .ensures) (l .after-limit .ensures .1) (u .update .ensures) (start .pre)
-    (c .before .before .before .before .before .before .before .before .before .standing .ensures) (c .before .before .before .before .before .before .before .before .granted .ensures) (c .before .before .write-u322 .ensures ∙ ap (λ (x : List ℕ). splice x 4 (bytesOf 4 (c .before .before .before .before .before .before .before .before .granted .result))) (c .before .before .before .before .before .before .write-u32 .ensures))))
+    let start = c .before .before .before .before .before .before .before .before .before .before .before .before .before .before .before .before .before .before .before .before .before .before .before .before .before .before .before .before in
+    let l = c .before .before .before .before .before .before .before .before .before .before .before .before .before .before .before .before in
+    let high = c .before .before .before .before .before .before .before .before .granted in
+    update-block (now (start .args .arg)) (now (start .args .out)) (l .after-limit .result) (l .before .read-u32 .ensures) (l .after-limit .ensures .1) (c .before .before .before .before .before .before .before .before .before .before .before .before .update .ensures _ (sym (c .before .before .before .before .before .before .before .before .before .before .before .before .before .before .before .places .ensures))) (start .pre)
+    (c .before .before .before .before .before .before .before .before .before .standing .ensures) (high .ensures) (c .before .before .write-u322 .ensures ∙ ap (λ (x : List ℕ). splice x 4 (bytesOf 4 (high .result))) (c .before .before .before .before .before .before .write-u32 .ensures))))

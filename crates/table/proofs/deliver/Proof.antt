@@ -1,39 +1,81 @@
+-- The plan of a sound table asks what it brings, and its changes make the table after the order.
+use Rattle.store.specs.Store.{five}
+use Rattle.index.proofs.Ways.{sound-long}
+use Rattle.index.proofs.After.{judged-fits}
+use Rattle.table.proofs.Rule.{table-has}
+use Rattle.table.proofs.Delivered.{plan-ready, delivered-done}
+use Rattle.wire.proofs.Numbers.{Bytes}
+use mathlib.Core.List.{List}
+use Prim.Native.Nat.{ℕ}
 use native.Mathlib.Omega.{arith}
 use denote.Ref.{now}
-use Rattle.wire.proofs.Numbers.{Bytes}
-use Rattle.table.proofs.Delivered.{window-ready, notification-ready, desktop-ready, window-delivered, notification-delivered, desktop-delivered, refused-delivered}
 use borrow.Author.Needs.{needs}
 use Rattle.table.proofs.deliver.Statement.{statement}
 use Rattle.table.proofs.deliver.Tie as tie
 
 abbrev start : tie.After-shared-slice-known → tie.Start
-start v = v .before .before .before .before
+start v = v .before .before .before .before .before .before .before .before
 
+abbrev store : tie.After-shared-slice-known → List (List ℕ)
+store v = let a = start v .args in five (now (a .a)) (now (a .b)) (now (a .c)) (now (a .d)) (now (a .e))
+
+-- an order is a list of bytes
 bytes : (v : tie.After-shared-slice-known) → Bytes (now (start v .args .s))
 bytes v = record { small = λ i. omega (arith, v .shared-slice-known .given i) }
+
+judge-requires : tie.Need-judge-requires
+judge-requires c κs = let u = start (c .before) in table-has (now (u .args .index)) (now (u .args .bodies)) _ (u .pre) .index
+
+bodies-requires : tie.Need-bodies-requires
+bodies-requires c κs =
+    let j = c .before in
+    let v = j .before .before in
+    let u = start v in
+    plan-ready (now (u .args .index)) (now (u .args .bodies)) (now (u .args .s)) (store v) (bytes v) (u .pre) (j .judge .ensures)
+
+pictures-requires : tie.Need-pictures-requires
+pictures-requires c κs =
+    let f = c .before .before .before .before .before .before .before .before in
+    let j = f .before .before in
+    let v = j .before .before in
+    let u = start v in
+    let r = plan-ready (now (u .args .index)) (now (u .args .bodies)) (now (u .args .s)) (store v) (bytes v) (u .pre) (j .judge .ensures) in
+    (omega (arith, f .bodies .kept .0, r .0), r .1)
+
+apply-requires : tie.Need-apply-requires
+apply-requires c κs =
+    let f = c .before .before .before .before .before .before .before .before .before .before .before .before .before in
+    let j = f .before .before .before .before .before .before .before .before .before .before .before in
+    let v = j .before .before in
+    let u = start v in
+    let x = now (u .args .index) in
+    let ok = table-has x (now (u .args .bodies)) _ (u .pre) .index in
+    (sound-long x ok, judged-fits x (now (u .args .s)) ok (bytes v) (j .judge .ensures))
+
+returns : tie.Need-returns
+returns c =
+    let y = c .before .before .before in
+    let q = y .before .before .before .before .before .before .before .before .before .before .before .before .before .before in
+    let f = q .before .before .before .before .before .before .before .before .before in
+    let j = f .before .before in
+    let v = j .before .before in
+    let u = start v in
+    delivered-done (now (u .args .index)) (now (u .args .bodies)) (now (u .args .s)) (store v) (bytes v) (u .pre) (j .judge .ensures) (f .bodies .ensures) (q .pictures .ensures .0) (q .pictures .ensures .1) (y .apply .ensures) (c .number .ensures)
 
 pub deliver-spec : {M : Type 1} → statement M
 deliver-spec =
     tie.close
     (tie.spec
+    judge-requires
+    bodies-requires
+    pictures-requires
+    apply-requires
     (λ c κs. search needs)
     (λ c. search needs)
-    (λ c κs. let v = c .before .before .before .before .before .before .before .before in let u = start v in window-ready (now (u .args .dir)) (now (u .args .bodies)) (now (u .args .cells)) (now (u .args .s)) (bytes v) (u .pre) (c .before .before .before .before .before .before .judge .ensures) (c .before .before .before .before .p .given .0 .0) (c .before .before .before .before .p .given .1))  -- window-requires
-    (λ c. search needs)
-    (λ c κs. let v = c .before .before .before .before .before .before .before .before in let u = start v in notification-ready (now (u .args .dir)) (now (u .args .bodies)) (now (u .args .cells)) (now (u .args .s)) (bytes v) (u .pre) (c .before .before .before .before .before .before .judge .ensures) (c .before .before .before .before .p2 .given .0 .0) (c .before .before .before .before .p2 .given .1))  -- notification-requires
-    (λ c. search needs)
-    (λ c κs. let v = c .before .before .before .before .before .before .before in let u = start v in desktop-ready (now (u .args .dir)) (now (u .args .bodies)) (now (u .args .cells)) (now (u .args .s)) (bytes v) (u .pre) (c .before .before .before .before .before .judge .ensures) (c .before .before .before .p3 .given .0 .0) (c .before .before .before .p3 .given .1))  -- desktop-requires
     (λ c. search needs)
     (λ c. search needs)
     (λ c. search needs)
     (λ c. search needs)
-    (λ c. let v = c .before .before .before .before .before .before .before .before .before .before .before .before .before .before .before in let u = start v in window-delivered (now (u .args .dir)) (now (u .args .bodies)) (now (u .args .cells)) (now (u .args .s)) (bytes v) (u .pre) (c .before .before .before .before .before .before .before .before .before .before .before .before .before .judge .ensures) (c .before .before .before .before .before .before .before .before .before .before .before .p .given .0 .0) (c .before .before .before .before .before .before .before .before .before .before .before .p .given .1) (c .before .before .before .before .before .before .window .ensures .0) (c .before .before .before .before .before .before .window .ensures .1 .0) (c .before .before .before .before .before .before .window .ensures .1 .1))  -- returns
     (λ c. search needs)
     (λ c. search needs)
-    (λ c. search needs)
-    (λ c. let v = c .before .before .before .before .before .before .before .before .before .before .before .before .before .before .before in let u = start v in notification-delivered (now (u .args .dir)) (now (u .args .bodies)) (now (u .args .cells)) (now (u .args .s)) (bytes v) (u .pre) (c .before .before .before .before .before .before .before .before .before .before .before .before .before .judge .ensures) (c .before .before .before .before .before .before .before .before .before .before .before .p2 .given .0 .0) (c .before .before .before .before .before .before .before .before .before .before .before .p2 .given .1) (c .before .before .before .before .before .before .notification .ensures .0) (c .before .before .before .before .before .before .notification .ensures .1 .0) (c .before .before .before .before .before .before .notification .ensures .1 .1))  -- returns-2
-    (λ c. search needs)
-    (λ c. search needs)
-    (λ c. let v = c .before .before .before .before .before .before .before .before .before .before .before .before in let u = start v in desktop-delivered (now (u .args .dir)) (now (u .args .bodies)) (now (u .args .cells)) (now (u .args .s)) (bytes v) (u .pre) (c .before .before .before .before .before .before .before .before .before .before .judge .ensures) (c .before .before .before .before .before .before .before .before .p3 .given .0 .0) (c .before .before .before .before .before .before .before .before .p3 .given .1) (c .before .before .before .before .desktop .ensures .0) (c .before .before .before .before .desktop .ensures .1))  -- returns-3
-    (λ c. search needs)
-    (λ c. let v = c .before .before .before .before .before in let u = start v in refused-delivered (now (u .args .dir)) (now (u .args .bodies)) (now (u .args .cells)) (now (u .args .s)) (bytes v) (u .pre) (c .before .before .before .judge .ensures) (c .before .p4 .given .0 .0) (c .before .p4 .given .1)))  -- returns-4
+    returns)

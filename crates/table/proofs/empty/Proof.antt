@@ -1,5 +1,6 @@
-use denote.Ref.{now}
+-- The index is emptied, and the desktop's slot is lent, cleared and given back.
 use Rattle.table.proofs.Delivered.{emptied-done}
+use denote.Ref.{now}
 use borrow.Author.Needs.{needs}
 use Rattle.table.proofs.empty.Statement.{statement}
 use Rattle.table.proofs.empty.Tie as tie
@@ -9,10 +10,15 @@ empty-spec =
     tie.close
     (tie.spec
     (λ c κs. search needs)
+    (λ c κs. search needs)
     (λ c. search needs)
     (λ c. search needs)
     (λ c. search needs)
     (λ c κs. search needs)
     (λ c. search needs)
     (λ c. search needs)
-    (λ c. let u = c .before .before .before .before .before .before .before .before .before .before .before in emptied-done (now (u .args .dir)) (now (u .args .bodies)) (now (u .args .cells)) (u .pre .0) (u .pre .1) (u .pre .2) (c .before .before .before .before .before .before .empty .ensures) (c .before .before .prepare .ensures) (c .before .before .prepare .kept .0)))  -- returns
+    (λ c.  -- returns
+    let e = c .before .before .before .before .before .before in
+    let u = e .before .before .before .before .before in
+    let p = c .before .before in
+    emptied-done (now (u .args .index)) (now (u .args .bodies)) (u .args .lent) (u .pre .0) (u .pre .1) (u .pre .2) (e .before .before .fixed .ensures) (e .empty .ensures) (p .prepare .ensures) (p .prepare .kept .0)))

@@ -1,5 +1,4 @@
 -- The two halves, one above the other.
-use mathlib.Core.Path.{refl}
 use Rattle.update.specs.Packed.{packedReport}
 use borrow.Author.Needs.{needs}
 use Rattle.update.proofs.packed.Statement.{statement}

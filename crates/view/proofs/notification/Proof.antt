@@ -26,7 +26,7 @@ notification-spec =
     (u1 .before .before .text2 .ensures)
     (u1 .before .text3 .ensures)
     (u1 .read-u8 .ensures)
-    (c .before .before .before .before .pointer .ensures)
+    (c .before .before .before .before .marked .ensures)
     (c .before .before .before .read-u32 .ensures)
     (c .before .before .read-u322 .ensures)
     (c .before .read-u323 .ensures)

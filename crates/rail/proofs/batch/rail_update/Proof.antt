@@ -1,4 +1,5 @@
--- The update's outcome, its report packed.
+-- The update's outcome on the places lent, its report packed.
+use mathlib.Core.Path.{sym}
 use Rattle.rail.proofs.Updates.{update-exported}
 use borrow.Author.Needs.{needs}
 use Rattle.rail.proofs.batch.rail_update.Statement.{statement}
@@ -10,5 +11,6 @@ rail-update-spec =
     (tie.spec
     (λ c κs. search needs)
     (λ c κs. search needs)
+    (λ c κs. search needs)
     (λ c. search needs)
-    (λ c. update-exported (c .before .before .before .update .ensures) (c .packed .ensures)))  -- returns
+    (λ c. update-exported (c .before .before .before .update .ensures _ (sym (c .before .before .before .before .before .places .ensures))) (c .packed .ensures)))  -- returns

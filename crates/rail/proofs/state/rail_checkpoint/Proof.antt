@@ -14,4 +14,8 @@ rail-checkpoint-spec =
     (λ c. search needs)
     (λ c. search needs)
     (λ c. search needs)
-    (λ c. exported (c .before .before .before .before .before .before .before .before .before .checkpoint .ensures) (c .packed .ensures)))  -- returns
+    (λ c. search needs)
+    (λ c. search needs)
+    (λ c. search needs)
+    (λ c. search needs)
+    (λ c. exported (c .before .before .before .before .before .before .before .before .before .before .before .before .before .before .before .before .before .checkpoint .ensures) (c .packed .ensures)))  -- returns

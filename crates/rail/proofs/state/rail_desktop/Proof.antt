@@ -1,4 +1,4 @@
--- The lookup's outcome on the target of these numbers, its reply packed.
+-- The lookup's outcome, its reply packed.
 use Rattle.rail.proofs.States.{exported}
 use borrow.Author.Needs.{needs}
 use Rattle.rail.proofs.state.rail_desktop.Statement.{statement}

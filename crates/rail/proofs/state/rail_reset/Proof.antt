@@ -1,5 +1,6 @@
--- The call's outcome, its reply packed.
-use Rattle.rail.proofs.States.{exported}
+-- The call's outcome on the places lent, its reply packed.
+use mathlib.Core.Path.{sym}
+use Rattle.rail.proofs.States.{reset-exported}
 use borrow.Author.Needs.{needs}
 use Rattle.rail.proofs.state.rail_reset.Statement.{statement}
 use Rattle.rail.proofs.state.rail_reset.Tie as tie
@@ -10,7 +11,8 @@ rail-reset-spec =
     (tie.spec
     (λ c κs. search needs)
     (λ c κs. search needs)
+    (λ c κs. search needs)
     (λ c. search needs)
     (λ c. search needs)
     (λ c. search needs)
-    (λ c. exported (c .before .before .before .before .before .before .before .reset .ensures) (c .packed .ensures)))  -- returns
+    (λ c. reset-exported (c .before .before .before .before .before .before .before .before .before .before .before .places .ensures) (c .before .before .before .before .before .before .before .reset .ensures _ (sym (c .before .before .before .before .before .before .before .before .before .before .before .places .ensures))) (c .packed .ensures)))  -- returns

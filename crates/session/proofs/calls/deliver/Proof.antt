@@ -1,21 +1,40 @@
-use mathlib.Core.Path.{refl}
+use mathlib.Core.Path.{_≡_, refl}
+use mathlib.Core.List.{List}
+use Prim.Native.Nat.{ℕ}
+use native.Mathlib.Omega.{arith}
 use denote.Ref.{now}
+use Rattle.wire.proofs.Numbers.{Bytes}
+use Rattle.store.specs.Store.{placesIn}
 use Rattle.journal.specs.View.{Memory, memory}
-use Rattle.journal.proofs.Indexed.{unmet, indexed}
+use Rattle.journal.proofs.Indexed.{Indexed, unmet, indexed}
+use Rattle.journal.specs.Journal.{logOf}
 use Rattle.session.specs.Calls.{deliver}
 use Rattle.session.specs.Outcome.{plain}
 use Rattle.session.proofs.Outcomes.{refused-unmet}
+use Rattle.session.proofs.Lent.{a-store, a-store-lends}
 use Rattle.session.proofs.Deliveries.{ready, delivery-refused, delivery-asks, delivery-granted}
 use borrow.Author.Needs.{needs}
 use Rattle.session.proofs.calls.deliver.Statement.{statement}
 use Rattle.session.proofs.calls.deliver.Tie as tie
 
 -- 1 where the rule is not met; else one delivery on what the validation established.
-abbrev mem : tie.Start → Memory
-mem u = memory (now (u .args .dir)) (now (u .args .bodies)) (now (u .args .cells)) (now (u .args .journal))
+abbrev mem : tie.Start → List (List ℕ) → Memory
+mem u p = memory (now (u .args .index)) (now (u .args .bodies)) p (now (u .args .journal))
 
 abbrev start : tie.After-extent → tie.Start
-start v = v .before .before .before .before .before .before .before .before
+start v = v .before .before .before .before .before .before .before
+
+bytes : (v : tie.After-extent) → Bytes (now (start v .args .s))
+bytes v = record { small = λ i. omega (arith, v .before .before .before .shared-slice-known3 .given i) }
+
+-- what the validation established, in a store
+index-in : (v : tie.After-extent) → (v .extent .result .end ≡ 0 → ⊥) → (p : List (List ℕ)) → placesIn p ≡ start v .args .lent
+    → Indexed (mem (start v) p) (v .extent .result) (v .extent .last .1 .1 .1 .1 .0) (logOf (now (start v .args .journal)))
+index-in v some p is = indexed {m = mem (start v) p} (v .extent .ensures p is) some
+
+index-any : (v : tie.After-extent) → (v .extent .result .end ≡ 0 → ⊥)
+    → Indexed (mem (start v) (a-store (start v .args .lent))) (v .extent .result) (v .extent .last .1 .1 .1 .1 .0) (logOf (now (start v .args .journal)))
+index-any v some = index-in v some (a-store (start v .args .lent)) (a-store-lends (start v .args .lent))
 
 pub deliver-spec : {M : Type 1} → statement M
 deliver-spec =
@@ -25,26 +44,26 @@ deliver-spec =
     (λ c κs. refl)  -- extent-requires
     (λ c κs. search needs)
     (λ c. search needs)
-    (λ c.  -- returns
+    (λ c p is.  -- returns
     let x = c .before .before .before .before in
-    refused-unmet (plain (deliver (now (start x .args .s)))) (mem (start x)) refl (unmet (x .extent .ensures) (c .before .if1 .taken)) (c .refused .ensures))
+    refused-unmet (plain (deliver (now (start x .args .s)))) (mem (start x) p) refl (unmet {m = mem (start x) p} (x .extent .ensures p is) (c .before .if1 .taken)) (c .refused .ensures))
     (λ c. search needs)
-    (λ c κs. let x = c .before .before .before .before .before in ready (indexed (x .extent .ensures) (c .before .before .if1 .left)))  -- deliver-on-requires
+    (λ c κs. let x = c .before .before .before .before .before in ready (index-any x (c .before .before .if1 .left)))  -- deliver-on-requires
     (λ c κs. search needs)
     (λ c. search needs)
-    (λ c.  -- returns-2
+    (λ c p is.  -- returns-2
     let o = c .before .before .before .before .before .before in
     let f = o .before .before .before in
     let x = f .before .before .before in
-    delivery-refused (indexed (x .extent .ensures) (f .if1 .left)) (now (start x .args .s)) (o .deliver-on .ensures) (c .before .if2 .taken) (c .refused2 .ensures))
+    delivery-refused (index-in x (f .if1 .left) p is) (now (start x .args .s)) (bytes x) (o .deliver-on .ensures) (c .before .if2 .taken) (c .refused2 .ensures))
     (λ c κs.  -- granted-requires
     let o = c .before .before .before .before .before in
     let f = o .before .before .before in
     let x = f .before .before .before in
-    delivery-asks (indexed (x .extent .ensures) (f .if1 .left)) (now (start x .args .s)) (o .deliver-on .ensures) (c .if2 .left))
+    delivery-asks (index-any x (f .if1 .left)) (now (start x .args .s)) (bytes x) (o .deliver-on .ensures) (c .if2 .left))
     (λ c. search needs)
-    (λ c.  -- returns-3
+    (λ c p is.  -- returns-3
     let o = c .before .before .before .before .before .before in
     let f = o .before .before .before in
     let x = f .before .before .before in
-    delivery-granted (indexed (x .extent .ensures) (f .if1 .left)) (now (start x .args .s)) (o .deliver-on .ensures) (c .before .if2 .left) (c .granted .ensures)))
+    delivery-granted (index-in x (f .if1 .left) p is) (now (start x .args .s)) (bytes x) (o .deliver-on .ensures) (c .before .if2 .left) (c .granted .ensures)))

@@ -1,9 +1,12 @@
-use mathlib.Core.Path.{_≡_, refl, sym, _∙_}
-use mathlib.Core.Bool.{Bool}
+use mathlib.Core.Path.{_≡_, sym, ap, _∙_}
+use mathlib.Core.Bool.{Bool, false}
+use mathlib.Core.List.{List}
+use Prim.Native.Nat.{ℕ}
 use native.Mathlib.Omega.{arith}
 use denote.Ref.{now}
-use Rattle.journal.specs.View.{Memory, memory, tooShort}
-use Rattle.journal.proofs.Logged.{long-has}
+use Rattle.store.specs.Store.{placesIn}
+use Rattle.journal.specs.View.{Memory, memory, shortOf, tooShort}
+use Rattle.journal.proofs.Logged.{Long, long-has}
 use Rattle.session.specs.Calls.{reset}
 use Rattle.session.specs.Outcome.{plain}
 use Rattle.session.proofs.Outcomes.{refused-short}
@@ -13,14 +16,25 @@ use Rattle.session.proofs.calls.reset.Statement.{statement}
 use Rattle.session.proofs.calls.reset.Tie as tie
 
 -- 1 for memory that is too short; else an emptied table and no orders.
-abbrev mem : tie.Start → Memory
-mem u = memory (now (u .args .dir)) (now (u .args .bodies)) (now (u .args .cells)) (now (u .args .journal))
+abbrev mem : tie.Start → List (List ℕ) → Memory
+mem u p = memory (now (u .args .index)) (now (u .args .bodies)) p (now (u .args .journal))
 
 abbrev start : tie.After-too-short → tie.Start
-start v = v .before .before .before .before .before .before .before .before
+start v = v .before .before .before .before .before .before .before
 
-enough : (v : tie.After-too-short) {t : Bool} → v .too-short .result ≡ t → tooShort (mem (start v)) ≡ t
+-- the parts and the places lent
+abbrev short : tie.Start → Bool
+short u = shortOf (now (u .args .index)) (now (u .args .bodies)) (u .args .lent) (now (u .args .journal))
+
+enough : (v : tie.After-too-short) {t : Bool} → v .too-short .result ≡ t → short (start v) ≡ t
 enough v f = sym (v .too-short .ensures) ∙ f
+
+-- with the places of a store
+in-store : (u : tie.Start) (p : List (List ℕ)) → placesIn p ≡ u .args .lent → {t : Bool} → short u ≡ t → tooShort (mem u p) ≡ t
+in-store u p is f = ap (λ (n : ℕ). shortOf (now (u .args .index)) (now (u .args .bodies)) n (now (u .args .journal))) is ∙ f
+
+long : (v : tie.After-too-short) → v .too-short .result ≡ false → Long (now (start v .args .index)) (now (start v .args .bodies)) (start v .args .lent) (now (start v .args .journal))
+long v f = long-has (now (start v .args .index)) (now (start v .args .bodies)) (start v .args .lent) (now (start v .args .journal)) (enough v f)
 
 pub reset-spec : {M : Type 1} → statement M
 reset-spec =
@@ -31,24 +45,19 @@ reset-spec =
     (λ c. search needs)
     (λ c. search needs)
     (λ c. search needs)
-    (λ c.  -- returns
+    (λ c p is.  -- returns
     let v = c .before .before in
-    refused-short (plain reset) (mem (start v)) (enough v (c .before .if1 .taken)) (c .refused .ensures))
-    (λ c κs.  -- empty-requires
-    let v = c .before .before .before in
-    let l = long-has (mem (start v)) (enough v (c .before .before .if1 .left)) in
-    (l .dir, l .bodies, l .cells))
-    (λ c κs.  -- write-u16-requires
-    let e = c .before .before .before .before .before .before .before .before in
-    omega (arith, long-has (mem (start (e .before))) (enough (e .before) (e .if1 .left)) .journal))
+    refused-short (plain (reset (start v .args .lent))) (mem (start v) p) (in-store (start v) p is (enough v (c .before .if1 .taken))) (c .refused .ensures))
+    (λ c κs. let l = long (c .before .before .before) (c .before .before .if1 .left) in (l .index, l .bodies, l .places))  -- empty-requires
+    (λ c κs. let e = c .before .before .before .before .before .before .before .before in omega (arith, long (e .before) (e .if1 .left) .journal))  -- write-u16-requires
     (λ c κs. search needs)
     (λ c. search needs)
     (λ c. search needs)
     (λ c. search needs)
-    (λ c.  -- returns-2
+    (λ c p is.  -- returns-2
     let e = c .before .before .before .before .before .before .before .before .before in
     let n = e .before .before .before in
     let v = n .before in
-    let short = enough v (n .if1 .left) in
-    reset-granted (mem (start v)) (long-has (mem (start v)) short) (e .empty .kept .0) (e .empty .kept .1 .0) refl (c .before .before .before .write-u16 .ensures) short refl
-    (e .empty .ensures) (c .granted .ensures)))
+    let l = long v (n .if1 .left) in
+    reset-granted (mem (start v) p) (record { index = l .index; bodies = l .bodies; places = omega (arith, is, l .places); journal = l .journal })
+    (e .empty .kept .0) (e .empty .kept .1 .0) (c .before .before .before .write-u16 .ensures) is (in-store (start v) p is (enough v (n .if1 .left))) (e .empty .ensures) (c .granted .ensures)))

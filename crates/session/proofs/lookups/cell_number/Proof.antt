@@ -1,6 +1,6 @@
 use Rattle.session.proofs.Targets.{cell-outside, cell-inside}
 use borrow.Author.Tests.{not-true, not-false}
-use Rattle.session.specs.Targets.{inCaches}
+use Rattle.session.specs.Calls.{inCaches}
 use borrow.Author.Needs.{needs}
 use Rattle.session.proofs.lookups.cell_number.Statement.{statement}
 use Rattle.session.proofs.lookups.cell_number.Tie as tie

@@ -1,6 +1,5 @@
-use Rattle.session.proofs.Targets.{found-is}
-use Rattle.directory.specs.Slots.{isAt}
 use denote.Ref.{now}
+use Rattle.session.proofs.Targets.{listed-found}
 use borrow.Author.Needs.{needs}
 use Rattle.session.proofs.lookups.found.Statement.{statement}
 use Rattle.session.proofs.lookups.found.Tie as tie
@@ -13,9 +12,5 @@ found-spec =
     (λ c κs. search needs)
     (λ c. search needs)
     (λ c. search needs)
-    (λ c.  -- returns
-    let a = c .before .before .before .before .args in
-    found-is (isAt (now (a .d)) (a .window .id) (a .notify .id)) (a .first) (a .count) (c .before .before .find .ensures) (c .enum-told .given .1))
-    (λ c.  -- returns-2
-    let a = c .before .before .before .before .args in
-    found-is (isAt (now (a .d)) (a .window .id) (a .notify .id)) (a .first) (a .count) (c .before .before .find .ensures) (c .enum-told2 .given .1)))
+    (λ c. let a = c .before .before .before .before .args in listed-found (now (a .d)) (a .family) (a .window .id) (a .notify .id) (c .before .before .find .ensures) (c .enum-told .given .1))
+    (λ c. let a = c .before .before .before .before .args in listed-found (now (a .d)) (a .family) (a .window .id) (a .notify .id) (c .before .before .find .ensures) (c .enum-told2 .given .1)))

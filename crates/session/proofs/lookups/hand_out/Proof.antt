@@ -1,50 +1,54 @@
 use denote.Ref.{now}
-use Rattle.session.specs.Outcome.{payloadBytes}
-use Rattle.session.specs.Targets.{payloadHeld}
-use Rattle.session.proofs.Targets.{hands-as, window-asks, notification-asks, picture-asks, desktop-asks, windows-asks, notifications-asks, handed-as}
+use Rattle.store.specs.Store.{five}
+use Rattle.session.specs.Handing.{HandsOut}
+use Rattle.session.proofs.Handed.{hands-as, handed-as, desktop-asks, desktop-handed, windows-handed, notifications-handed, shares-handed}
 use borrow.Author.Needs.{needs}
 use Rattle.session.proofs.lookups.hand_out.Statement.{statement}
 use Rattle.session.proofs.lookups.hand_out.Tie as tie
 
--- The layout of the target's kind.
+-- By the kind of the target.
+abbrev Hands : tie.Start → Type 0
+Hands u =
+    HandsOut (u .args .target) (now (u .args .x)) (now (u .args .bodies))
+    (five (now (u .args .a)) (now (u .args .b)) (now (u .args .c)) (now (u .args .d)) (now (u .args .e))) (now (u .args .journal)) (now (u .args .m)) (now (u .args .out))
+
+hands : (u : tie.Start) → Hands u
+hands u = u .pre
+
 pub hand-out-spec : {M : Type 1} → statement M
-unfolding payloadBytes payloadHeld
 hand-out-spec =
     tie.close
     (tie.spec
     (λ c. search needs)
-    (λ c κs.  -- record-requires
-    let u = c .before .before .before .before .before .before in
-    window-asks (now (u .args .out)) (now (u .args .m)) (hands-as (now (u .args .out)) (now (u .args .m)) (c .before .enum-told .given .1) (u .pre)))
+    (λ c κs. hands-as (c .before .before .target .given .1) (hands (c .before .before .before .before .before .before .before .before .before .before .before .before .before .before)))  -- window-requires
     (λ c. search needs)
-    (λ c κs.  -- record-requires-2
-    let u = c .before .before .before .before .before .before in
-    notification-asks (now (u .args .out)) (now (u .args .m)) (hands-as (now (u .args .out)) (now (u .args .m)) (c .before .enum-told2 .given .1) (u .pre)))
+    (λ c κs. hands-as (c .before .before .target2 .given .1) (hands (c .before .before .before .before .before .before .before .before .before .before .before .before .before .before)))  -- notification-requires
     (λ c. search needs)
-    (λ c κs.  -- picture-requires
-    let u = c .before .before .before .before .before .before in
-    picture-asks (now (u .args .out)) (now (u .args .m)) (hands-as (now (u .args .out)) (now (u .args .m)) (c .before .enum-told3 .given .1) (u .pre)))
+    (λ c κs. hands-as (c .before .before .target3 .given .1) (hands (c .before .before .before .before .before .before .before .before .before .before .before .before .before .before)))  -- cell-requires
     (λ c. search needs)
-    (λ c κs.  -- record-requires-3
-    let u = c .before .before .before .before .before .before in
-    desktop-asks (now (u .args .out)) (now (u .args .m)) (hands-as (now (u .args .out)) (now (u .args .m)) (c .before .enum-told4 .given .1) (u .pre)))
+    (λ c κs. desktop-asks (hands-as (c .before .enum-told .given .1) (hands (c .before .before .before .before .before .before .before .before .before .before .before .before .before))))  -- record-requires
     (λ c. search needs)
-    (λ c κs.  -- list-requires
-    let u = c .before .before .before .before .before .before in
-    windows-asks (now (u .args .out)) (now (u .args .m)) (hands-as (now (u .args .out)) (now (u .args .m)) (c .before .enum-told5 .given .1) (u .pre)))
+    (λ c κs. hands-as (c .before .enum-told2 .given .1) (hands (c .before .before .before .before .before .before .before .before .before .before .before .before .before)) .room)  -- list-requires
     (λ c. search needs)
-    (λ c κs.  -- list-requires-2
-    let u = c .before .before .before .before .before .before in
-    notifications-asks (now (u .args .out)) (now (u .args .m)) (hands-as (now (u .args .out)) (now (u .args .m)) (c .before .enum-told6 .given .1) (u .pre)))
+    (λ c κs. hands-as (c .before .enum-told3 .given .1) (hands (c .before .before .before .before .before .before .before .before .before .before .before .before .before)) .room)  -- list-requires-2
     (λ c. search needs)
-    (λ c. let u = c .before .before .before .before .before .before .before .before .before in handed-as (now (u .args .out)) (now (u .args .m)) (now (u .args .d)) (c .before .before .before .before .enum-told .given .1) (c .before .before .«record» .ensures))
+    (λ c κs. (hands (c .before .before .before .before .before .before .before .before .before .before .before .before .before .before)) .long)  -- shares-requires
     (λ c. search needs)
-    (λ c. let u = c .before .before .before .before .before .before .before .before .before in handed-as (now (u .args .out)) (now (u .args .m)) (now (u .args .d)) (c .before .before .before .before .enum-told2 .given .1) (c .before .before .record2 .ensures))
+    (λ c κs. hands-as (c .before .before .before .target4 .given .1) (hands (c .before .before .before .before .before .before .before .before .before .before .before .before .before .before .before)) .room)  -- write-u8-requires
     (λ c. search needs)
-    (λ c. let u = c .before .before .before .before .before .before .before .before .before in handed-as (now (u .args .out)) (now (u .args .m)) (now (u .args .d)) (c .before .before .before .before .enum-told3 .given .1) (c .before .before .picture .ensures))
+    (λ c. let h = hands (c .before .before .before .before .before .before .before .before .before .before .before .before .before .before .before .before .before) in handed-as (c .before .before .before .before .before .target .given .1) h (c .before .before .window .ensures))  -- returns
     (λ c. search needs)
-    (λ c. let u = c .before .before .before .before .before .before .before .before .before in handed-as (now (u .args .out)) (now (u .args .m)) (now (u .args .d)) (c .before .before .before .before .enum-told4 .given .1) (c .before .before .record3 .ensures))
+    (λ c. let h = hands (c .before .before .before .before .before .before .before .before .before .before .before .before .before .before .before .before .before) in handed-as (c .before .before .before .before .before .target2 .given .1) h (c .before .before .notification .ensures))  -- returns-2
     (λ c. search needs)
-    (λ c. let u = c .before .before .before .before .before .before .before .before .before in handed-as (now (u .args .out)) (now (u .args .m)) (now (u .args .d)) (c .before .before .before .before .enum-told5 .given .1) (c .before .before .list .ensures))
+    (λ c. let h = hands (c .before .before .before .before .before .before .before .before .before .before .before .before .before .before .before .before .before) in handed-as (c .before .before .before .before .before .target3 .given .1) h (c .before .before .cell .ensures))  -- returns-3
     (λ c. search needs)
-    (λ c. let u = c .before .before .before .before .before .before .before .before .before in handed-as (now (u .args .out)) (now (u .args .m)) (now (u .args .d)) (c .before .before .before .before .enum-told6 .given .1) (c .before .before .list2 .ensures)))
+    (λ c. let h = hands (c .before .before .before .before .before .before .before .before .before .before .before .before .before .before .before .before) in handed-as (c .before .before .before .before .enum-told .given .1) h (desktop-handed (hands-as (c .before .before .before .before .enum-told .given .1) h) (c .before .before .«record» .ensures)))  -- returns-4
+    (λ c. search needs)
+    (λ c. let h = hands (c .before .before .before .before .before .before .before .before .before .before .before .before .before .before .before .before) in handed-as (c .before .before .before .before .enum-told2 .given .1) h (windows-handed (hands-as (c .before .before .before .before .enum-told2 .given .1) h) (c .before .before .list .ensures)))  -- returns-5
+    (λ c. search needs)
+    (λ c. let h = hands (c .before .before .before .before .before .before .before .before .before .before .before .before .before .before .before .before) in handed-as (c .before .before .before .before .enum-told3 .given .1) h (notifications-handed (hands-as (c .before .before .before .before .enum-told3 .given .1) h) (c .before .before .list2 .ensures)))  -- returns-6
+    (λ c. search needs)
+    (λ c.  -- returns-7
+    let h = hands (c .before .before .before .before .before .before .before .before .before .before .before .before .before .before .before .before .before .before) in
+    let w = c .before .before .before .before .before .before .target4 .given in
+    handed-as (w .1) h (shares-handed (w .0 .0) (w .0 .1 .0) (hands-as (w .1) h) (c .before .before .before .shares .ensures) (c .before .before .write-u8 .ensures))))

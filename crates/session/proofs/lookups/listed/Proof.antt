@@ -1,5 +1,5 @@
 use denote.Ref.{now}
-use Rattle.session.proofs.Targets.{listed-as, window-listed, notification-listed, cell-listed, desktop-listed, windows-listed, notifications-listed}
+use Rattle.session.proofs.Targets.{listed-as, window-listed, notification-listed, cell-listed, desktop-listed, windows-listed, notifications-listed, shares-listed}
 use borrow.Author.Needs.{needs}
 use Rattle.session.proofs.lookups.listed.Statement.{statement}
 use Rattle.session.proofs.lookups.listed.Tie as tie
@@ -15,22 +15,16 @@ listed-spec =
     (λ c κs. search needs)
     (λ c. search needs)
     (λ c κs. search needs)
+    (λ c. search needs)
+    (λ c. search needs)
+    (λ c. search needs)
+    (λ c. search needs)
     (λ c κs. search needs)
-    (λ c. search needs)
-    (λ c. search needs)
-    (λ c. search needs)
-    (λ c.  -- returns
-    let d = now (c .before .before .before .before .before .args .d) in
-    let w = c .before .before .target .given in
-    listed-as d (w .1) (window-listed d (w .0 .0) (c .found .ensures)))
-    (λ c.  -- returns-2
-    let d = now (c .before .before .before .before .before .args .d) in
-    let w = c .before .before .target2 .given in
-    listed-as d (w .1) (notification-listed d (w .0 .0) (w .0 .1 .0) (c .found2 .ensures)))
-    (λ c.  -- returns-3
-    let d = now (c .before .before .before .before .before .before .args .d) in
-    let w = c .before .before .before .target3 .given in
-    listed-as d (w .1) (cell-listed d (w .0 .0) (w .0 .1 .0) (c .before .cell-number .ensures) (c .is-filled .ensures)))
-    (λ c. let d = now (c .before .before .before .args .d) in listed-as d (c .enum-told .given .1) (desktop-listed d))  -- returns-4
-    (λ c. let d = now (c .before .before .before .args .d) in listed-as d (c .enum-told2 .given .1) (windows-listed d))  -- returns-5
-    (λ c. let d = now (c .before .before .before .args .d) in listed-as d (c .enum-told3 .given .1) (notifications-listed d)))  -- returns-6
+    (λ c κs. search needs)
+    (λ c. let d = now (c .before .before .before .before .before .args .d) in let w = c .before .before .target .given in listed-as d (w .1) (window-listed d (w .0 .0) (c .found .ensures)))
+    (λ c. let d = now (c .before .before .before .before .before .args .d) in let w = c .before .before .target2 .given in listed-as d (w .1) (notification-listed d (w .0 .0) (w .0 .1 .0) (c .found2 .ensures)))
+    (λ c. let d = now (c .before .before .before .before .before .args .d) in let w = c .before .before .target3 .given in listed-as d (w .1) (cell-listed d (w .0 .0) (w .0 .1 .0) (c .shares .ensures)))
+    (λ c. let d = now (c .before .before .before .args .d) in listed-as d (c .enum-told .given .1) (desktop-listed d))
+    (λ c. let d = now (c .before .before .before .args .d) in listed-as d (c .enum-told2 .given .1) (windows-listed d))
+    (λ c. let d = now (c .before .before .before .args .d) in listed-as d (c .enum-told3 .given .1) (notifications-listed d))
+    (λ c. let d = now (c .before .before .before .before .before .before .args .d) in let w = c .before .before .before .target4 .given in listed-as d (w .1) (shares-listed d (w .0 .0) (w .0 .1 .0) (c .before .shares2 .ensures) (c .shares3 .ensures))))

@@ -30,6 +30,9 @@ look-spec =
     (λ c. search needs)
     (λ c κs. room-as (c .before .before .enum-told6 .given .1) refl)  -- look-in-requires-6
     (λ c. search needs)
+    (λ c. search needs)
+    (λ c κs. room-as (c .before .before .enum-told7 .given .1) refl)  -- look-in-requires-7
+    (λ c. search needs)
     (λ c. c .before .before .before .look-in .ensures)  -- returns
     (λ c. search needs)
     (λ c. c .before .before .before .look-in2 .ensures)  -- returns-2
@@ -40,4 +43,6 @@ look-spec =
     (λ c. search needs)
     (λ c. c .before .before .before .look-in5 .ensures)  -- returns-5
     (λ c. search needs)
-    (λ c. c .before .before .before .look-in6 .ensures))  -- returns-6
+    (λ c. c .before .before .before .look-in6 .ensures)  -- returns-6
+    (λ c. search needs)
+    (λ c. c .before .before .before .look-in7 .ensures))  -- returns-7

@@ -1,47 +1,67 @@
-use mathlib.Core.Path.{refl, sym, ap, _∙_}
-use native.Mathlib.Omega.{arith}
+use mathlib.Core.Path.{_≡_, refl, sym, ap, _∙_}
+use mathlib.Core.List.{List}
+use Prim.Native.Nat.{ℕ}
 use lib.ListN.{replicate}
 use denote.Ref.{now}
 use borrow.Author.Tests.{not-true, not-false}
-use Rattle.table.specs.Follow.{roomFor}
+use Rattle.index.specs.Families.{indexLength}
+use Rattle.store.specs.Store.{five}
+use Rattle.follow.specs.Follow.{roomFor}
+use Rattle.journal.specs.Journal.{logOf}
 use Rattle.journal.specs.View.{Memory, memory}
-use Rattle.journal.proofs.Logged.{logged-low, logged-high}
-use Rattle.journal.specs.Limits.{indexLength}
 use Rattle.journal.specs.Replay.{Validation}
-use Rattle.journal.proofs.Indexed.{validated-as, unmet, indexed, followed}
+use Rattle.journal.proofs.Logged.{logged-low, logged-high}
+use Rattle.journal.proofs.Indexed.{Indexed, Followed, validated-as, unmet, indexed, followed}
 use Rattle.session.specs.Outcome.{lookup}
-use Rattle.session.proofs.Outcomes.{refused-unmet}
 use Rattle.session.specs.Targets.{wantOf}
-use Rattle.session.proofs.Found.{look-absent, look-valid, look-small, look-found}
+use Rattle.session.proofs.Outcomes.{refused-unmet}
+use Rattle.session.proofs.Found.{look-absent, look-hands, look-small, look-found}
 use borrow.Author.Needs.{needs}
 use Rattle.session.proofs.lookups.look_in.Statement.{statement}
 use Rattle.session.proofs.lookups.look_in.Tie as tie
 
 -- 1 where the rule is not met, 9 where the index does not list the target, 14 where the output is too small; else what m holds.
+abbrev parts : tie.Start → List (List ℕ)
+parts u = five (now (u .args .a)) (now (u .args .b)) (now (u .args .c)) (now (u .args .d)) (now (u .args .e))
+
 abbrev mem : tie.Start → Memory
-mem u = memory (now (u .args .dir)) (now (u .args .bodies)) (now (u .args .cells)) (now (u .args .journal))
+mem u = memory (now (u .args .index)) (now (u .args .bodies)) (parts u) (now (u .args .journal))
 
 abbrev start : tie.After-validate → tie.Start
-start v = v .before .before .before .before .before .before .before .before .before .before
+start v = v .before .before .before .before .before .before .before .before .before .before .before .before .before .before .before
+
+-- the index of the present table, and what is held of the target
+abbrev index : tie.After-validate → List ℕ
+index v = v .validate .last .1 .1 .1 .1 .1 .0
+
+abbrev held : tie.After-validate → List ℕ
+held v = v .validate .last .1 .1 .1 .1 .1 .1 .0
 
 validation : (v : tie.After-validate)
-    → Validation (wantOf (start v .args .target)) (mem (start v)) (replicate indexLength 0) (now (start v .args .m)) (v .validate .result)
-    (v .validate .last .1 .1 .1 .1 .1 .0) (v .validate .last .1 .1 .1 .1 .1 .1 .0)
-validation v = validated-as (v .before .before .before .want-of .ensures) (v .validate .ensures)
+    → Validation (wantOf (start v .args .target)) (mem (start v)) (replicate indexLength 0) (now (start v .args .m)) (v .validate .result) (index v) (held v)
+validation v = validated-as (v .before .before .before .want-of .ensures) (v .validate .ensures (parts (start v)) (sym (v .before .before .before .before .places .ensures)))
+
+index-in : (v : tie.After-validate) → (v .validate .result .end ≡ 0 → ⊥)
+    → Indexed (mem (start v)) (v .validate .result) (index v) (logOf (now (start v .args .journal)))
+index-in v some = indexed (validation v) some
+
+held-in : (v : tie.After-validate) → (v .validate .result .end ≡ 0 → ⊥)
+    → Followed (wantOf (start v .args .target)) (mem (start v)) (index v) (logOf (now (start v .args .journal))) (held v)
+held-in v some = followed (validation v) some
 
 pub look-in-spec : {M : Type 1} → statement M
 look-in-spec =
     tie.close
     (tie.spec
     (λ c κs. search needs)
+    (λ c κs. search needs)
     (λ c. search needs)
-    (λ c κs. (refl, c .before .before .before .before .before .before .before .before .before .pre ∙ ap roomFor (sym (c .before .before .want-of .ensures))))  -- validate-requires
+    (λ c κs. (refl, c .before .before .before .before .before .before .before .before .before .before .before .before .before .before .pre ∙ ap roomFor (sym (c .before .before .want-of .ensures))))  -- validate-requires
     (λ c κs. search needs)
     (λ c. search needs)
     (λ c.  -- returns
     let x = c .before .before .before .before .before .before in
-    refused-unmet (lookup (start x .args .target) (now (start x .args .out))) (mem (start x)) refl (unmet (validation x) (c .before .if1 .taken))
-    (c .refused .ensures))
+    refused-unmet (lookup (start x .args .target) (now (start x .args .out))) (mem (start x)) refl (unmet (validation x) (c .before .if1 .taken)) (c .refused .ensures))
     (λ c. search needs)
     (λ c κs. search needs)
     (λ c κs. search needs)
@@ -50,7 +70,7 @@ look-in-spec =
     let l = c .before .before in
     let f = l .before .before in
     let x = f .before .before .before .before .before in
-    look-absent (indexed (validation x) (f .if1 .left)) (start x .args .target) (l .listed .ensures) (now (start x .args .out))
+    look-absent (index-in x (f .if1 .left)) (start x .args .target) (l .listed .ensures) (now (start x .args .out)) (held-in x (f .if1 .left))
     (not-true (l .listed .result) (c .before .if2 .taken)) (c .refused2 .ensures))
     (λ c κs. search needs)
     (λ c κs. search needs)
@@ -59,22 +79,18 @@ look-in-spec =
     let l = c .before .before .before .before in
     let f = l .before .before in
     let x = f .before .before .before .before .before in
-    look-small (indexed (validation x) (f .if1 .left)) (start x .args .target) (l .listed .ensures) (now (start x .args .out))
-    (not-false (l .listed .result) (c .before .before .before .if2 .left)) (followed (validation x) (f .if1 .left))
-    (c .before .before .size-of .ensures) (c .before .if3 .taken) (c .refused3 .ensures))
+    look-small (index-in x (f .if1 .left)) (start x .args .target) (l .listed .ensures) (now (start x .args .out)) (held-in x (f .if1 .left))
+    (not-false (l .listed .result) (c .before .before .before .if2 .left)) (c .before .before .size-of .ensures) (c .before .if3 .taken) (c .refused3 .ensures))
     (λ c. search needs)
     (λ c κs.  -- hand-out-requires
     let l = c .before .before .before .before .before .before in
     let f = l .before .before in
-    let x = f .before .before .before .before .before in (
-      omega (arith, c .before .before .before .if3 .left, c .before .before .before .before .size-of .ensures),
-      x .validate .kept .1 .1 .1 .1 .1 .1 .0 ∙ start x .pre,
-      look-valid (indexed (validation x) (f .if1 .left)) (start x .args .target) (l .listed .ensures) (now (start x .args .out))
-          (not-false (l .listed .result) (c .before .before .before .before .before .if2 .left)) (followed (validation x) (f .if1 .left)),
-    ))
+    let x = f .before .before .before .before .before in
+    look-hands (index-in x (f .if1 .left)) (start x .args .target) (l .listed .ensures) (now (start x .args .out)) (held-in x (f .if1 .left))
+    (not-false (l .listed .result) (c .before .before .before .before .before .if2 .left)) (c .before .before .before .before .size-of .ensures) (c .before .before .before .if3 .left) (x .validate .kept .1 .1 .1 .1 .1 .1 .0 ∙ start x .pre))
     (λ c κs.  -- granted-requires
     let f = c .before .before .before .before .before .before .before .before .before .before .before in
-    let g = indexed (validation (f .before .before .before .before .before)) (f .if1 .left) .logged in
+    let g = index-in (f .before .before .before .before .before) (f .if1 .left) .logged in
     (g .few, logged-low g, logged-high g))
     (λ c. search needs)
     (λ c. search needs)
@@ -82,6 +98,5 @@ look-in-spec =
     let l = c .before .before .before .before .before .before .before .before .before .before in
     let f = l .before .before in
     let x = f .before .before .before .before .before in
-    look-found (indexed (validation x) (f .if1 .left)) (start x .args .target) (l .listed .ensures) (now (start x .args .out))
-    (not-false (l .listed .result) (c .before .before .before .before .before .before .before .before .before .if2 .left)) (followed (validation x) (f .if1 .left))
-    (c .before .before .before .before .before .before .before .before .size-of .ensures) (c .before .before .before .before .before .before .before .if3 .left) (c .before .before .before .hand-out .ensures) (c .granted .ensures)))
+    look-found (index-in x (f .if1 .left)) (start x .args .target) (l .listed .ensures) (now (start x .args .out)) (held-in x (f .if1 .left))
+    (not-false (l .listed .result) (c .before .before .before .before .before .before .before .before .before .if2 .left)) (c .before .before .before .before .before .before .before .before .size-of .ensures) (c .before .before .before .before .before .before .before .if3 .left) (c .before .before .before .hand-out .ensures) (c .granted .ensures)))

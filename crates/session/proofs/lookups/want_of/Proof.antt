@@ -1,6 +1,6 @@
 use mathlib.Core.Path.{refl}
 use Rattle.session.specs.Targets.{wantOf}
-use Rattle.session.proofs.Targets.{wanted-as, cell-wanted}
+use Rattle.session.proofs.Targets.{wanted-as}
 use borrow.Author.Needs.{needs}
 use Rattle.session.proofs.lookups.want_of.Statement.{statement}
 use Rattle.session.proofs.lookups.want_of.Tie as tie
@@ -14,13 +14,14 @@ want-of-spec =
     (λ c. search needs)
     (λ c. search needs)
     (λ c. search needs)
-    (λ c κs. search needs)
     (λ c. search needs)
     (λ c. search needs)
     (λ c. search needs)
-    (λ c. wanted-as (c .before .target .given .1) refl)  -- returns
-    (λ c. wanted-as (c .before .target2 .given .1) refl)  -- returns-2
-    (λ c. let w = c .before .before .target3 .given in wanted-as (w .1) (cell-wanted (w .0 .0) (w .0 .1 .0) (c .cell-number .ensures)))  -- returns-3
-    (λ c. wanted-as (c .enum-told .given .1) refl)  -- returns-4
-    (λ c. wanted-as (c .enum-told2 .given .1) refl)  -- returns-5
-    (λ c. wanted-as (c .enum-told3 .given .1) refl))  -- returns-6
+    (λ c. search needs)
+    (λ c. wanted-as (c .before .target .given .1) refl)
+    (λ c. wanted-as (c .before .target2 .given .1) refl)
+    (λ c. wanted-as (c .enum-told .given .1) refl)
+    (λ c. wanted-as (c .enum-told2 .given .1) refl)
+    (λ c. wanted-as (c .enum-told3 .given .1) refl)
+    (λ c. wanted-as (c .enum-told4 .given .1) refl)
+    (λ c. wanted-as (c .enum-told5 .given .1) refl))

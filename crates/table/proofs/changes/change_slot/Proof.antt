@@ -1,5 +1,6 @@
-use Rattle.table.proofs.Ways.{slot-changed}
-use Rattle.order.specs.Rows.{rowsFrom}
+-- The family tells the rows and where they begin.
+use Rattle.table.proofs.Ways.{window-asks, notification-asks, window-slot, notification-slot}
+use native.Mathlib.Omega.{arith}
 use denote.Ref.{now}
 use borrow.Author.Needs.{needs}
 use Rattle.table.proofs.changes.change_slot.Statement.{statement}
@@ -9,11 +10,21 @@ pub change-slot-spec : {M : Type 1} → statement M
 change-slot-spec =
     tie.close
     (tie.spec
-    (λ c κs. search needs)
-    (λ c κs. search needs)
-    (λ c κs. search needs)
-    (λ c κs. search needs)
+    (λ c. search needs)
+    (λ c κs.  -- store-fields-requires
+    let b = c .before .before .before .before .before in
+    let w = window-asks (now (b .args .s)) (b .args .c) (now (b .args .slot)) (c .before .enum-told .given .1) (b .pre .1) in
+    ((b .pre .0, omega arith, w .0, omega arith, omega arith, w .1), w .2))
+    (λ c. search needs)
+    (λ c κs.  -- store-fields-requires-2
+    let b = c .before .before .before .before .before in
+    let w = notification-asks (now (b .args .s)) (b .args .c) (now (b .args .slot)) (c .before .enum-told2 .given .1) (b .pre .1) in
+    ((b .pre .0, omega arith, w .0, omega arith, omega arith, w .1), w .2))
     (λ c. search needs)
     (λ c.  -- returns
-    let a = c .before .before .before .before .before .before .before .before .before .before .before .before .before .before .before .args in
-    slot-changed (rowsFrom (a .low) (a .high)) (a .at) (a .mark) (now (a .s)) (a .c) (now (a .slot)) (c .before .before .before .before .before .before .before .before .before .before .before .before .pointer .ensures) (c .before .before .before .before .before .before .before .before .before .before .prepare .ensures) (c .before .before .before .before .before .before .point .ensures) (c .before .before .store .ensures)))
+    let a = c .before .before .before .before .before .before .before .before .args in
+    window-slot (now (a .s)) (a .c) (now (a .slot)) (c .before .before .before .before .enum-told .given .1) (c .before .before .store-fields .ensures))
+    (λ c. search needs)
+    (λ c.  -- returns-2
+    let a = c .before .before .before .before .before .before .before .before .args in
+    notification-slot (now (a .s)) (a .c) (now (a .slot)) (c .before .before .before .before .enum-told2 .given .1) (c .before .before .store-fields2 .ensures)))

@@ -1,4 +1,6 @@
-use Rattle.table.proofs.Ways.{desktop-none, desktop-changed, desktop-fits}
+-- None clears the slot; else the marks are set, then the fields.
+use Rattle.table.proofs.Bodied.{desktop-fits}
+use Rattle.table.proofs.Ways.{desktop-none, desktop-changed}
 use denote.Ref.{now}
 use native.Mathlib.Omega.{arith}
 use borrow.Author.Needs.{needs}

@@ -1,9 +1,10 @@
+-- The slot's own bytes are lent and tested.
 use Rattle.table.proofs.Ways.{body-lent}
 use Rattle.order.specs.Rows.{rowsFrom}
-use denote.Ref.{now}
 use Prim.Native.Nat.{_+_, _*_, _-_}
 use mathlib.Core.Path.{refl}
 use native.Mathlib.Omega.{arith}
+use denote.Ref.{now}
 use borrow.Author.Needs.{needs}
 use Rattle.table.proofs.sound.body_ok.Statement.{statement}
 use Rattle.table.proofs.sound.body_ok.Tie as tie
@@ -21,4 +22,4 @@ body-ok-spec =
     (λ c.  -- returns
     let a = c .before .before .before .args in
     let base = 916 * a .i in
-    body-lent (rowsFrom (a .low) (a .high)) (a .m) (a .n) (now (a .bodies)) (a .i) base (base + 916 - base) refl (omega arith) (c .sound .ensures)))
+    body-lent (rowsFrom (a .low) (a .high)) (a .m) (now (a .bodies)) (a .i) base (base + 916 - base) refl (omega arith) (c .sound .ensures)))

@@ -1,0 +1,19 @@
+-- The slot is copied, and the origins are cleared.
+use mathlib.Core.Path.{ap, _∙_}
+use mathlib.Core.List.{List}
+use Prim.Native.Nat.{ℕ}
+use Rattle.wire.specs.Parts.{splice}
+use Rattle.follow.specs.Follow.{noOrigins}
+use borrow.Author.Needs.{needs}
+use Rattle.follow.proofs.begin_record.Statement.{statement}
+use Rattle.follow.proofs.begin_record.Tie as tie
+
+pub begin-record-spec : {M : Type 1} → statement M
+begin-record-spec =
+    tie.close
+    (tie.spec
+    (λ c κs. search needs)
+    (λ c κs. search needs)
+    (λ c. search needs)
+    (λ c.  -- returns
+    c .before .before .clear .ensures ∙ ap (λ (x : List ℕ). splice x 916 noOrigins) (c .before .before .before .before .before .before .begin-slot .ensures)))

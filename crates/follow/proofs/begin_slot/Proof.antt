@@ -1,0 +1,32 @@
+-- The record's slot is searched and, where it is found, copied.
+use Rattle.follow.proofs.Ways.{slot-below, begun-nothing, begun-slot}
+use denote.Ref.{now}
+use native.Mathlib.Omega.{arith}
+use borrow.Author.Needs.{needs}
+use Rattle.follow.proofs.begin_slot.Statement.{statement}
+use Rattle.follow.proofs.begin_slot.Tie as tie
+
+pub begin-slot-spec : {M : Type 1} → statement M
+begin-slot-spec =
+    tie.close
+    (tie.spec
+    (λ c κs. search needs)
+    (λ c. search needs)
+    (λ c. search needs)
+    (λ c.  -- returns
+    let a = c .before .before .before .before .before .before .args in
+    begun-nothing (now (a .index)) (a .family) (a .window .id) (a .notify .id) (c .before .before .find .ensures) (now (a .bodies)) (now (a .m)) (c .enum-told .given .1))
+    (λ c.  -- mul-copy-part
+    let b = c .before .before .before .before .before .before .before .before in
+    let a = b .args in
+    let l = slot-below (now (a .index)) (a .family) (a .window .id) (a .notify .id) (c .before .before .before .before .find .ensures) (c .before .before .f .given .0 .0) (c .before .before .f .given .1) in
+    omega (arith, l))
+    (λ c κs.  -- copy-part-requires
+    let b = c .before .before .before .before .before .before .before .before in
+    let a = b .args in
+    let l = slot-below (now (a .index)) (a .family) (a .window .id) (a .notify .id) (c .before .before .before .before .find .ensures) (c .before .before .f .given .0 .0) (c .before .before .f .given .1) in
+    (omega (arith, b .pre .0), omega (arith, l, b .pre .2)))
+    (λ c. search needs)
+    (λ c.  -- returns-2
+    let a = c .before .before .before .before .before .before .before .before .before .before .before .args in
+    begun-slot (now (a .index)) (a .family) (a .window .id) (a .notify .id) (c .before .before .before .before .before .before .before .find .ensures) (now (a .bodies)) (now (a .m)) (c .before .before .before .before .before .f .given .0 .0) (c .before .before .before .before .before .f .given .1) (c .before .before .copy-part .ensures)))

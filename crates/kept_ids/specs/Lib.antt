@@ -1,4 +1,0 @@
-pub mod Ids
-pub mod Only
-pub mod Typed
-pub mod Steps

@@ -1,9 +1,0 @@
-pub mod Runs
-pub mod Stored
-pub mod Logged
-pub mod Fits
-pub mod Copies
-pub mod Replays
-pub mod Validations
-pub mod LoopInvariants
-pub mod Indexed

@@ -1,5 +1,0 @@
-pub mod Limits
-pub mod State
-pub mod Journal
-pub mod View
-pub mod Replay

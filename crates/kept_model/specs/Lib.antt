@@ -1,6 +1,0 @@
-pub mod Book
-pub mod Updates
-pub mod Claim
-pub mod Wellformed
-pub mod Lossless
-pub mod Records

@@ -1,1 +1,0 @@
-// Request No. 13, two editors side by side: definitions and proofs only.

@@ -1,3 +1,0 @@
-pub mod Cuts
-pub mod Courses
-pub mod Reports

@@ -1,3 +1,0 @@
-pub mod Update
-pub mod Outcome
-pub mod Packed

@@ -1,4 +1,0 @@
-pub mod ViewsRead
-pub mod ViewsRecords
-pub mod ViewsLossless
-pub mod PicturesLossless

@@ -1,0 +1,287 @@
+-- Handing out: a record with the pictures of its icons behind it, the picture of a cell, and the other targets. Assumes nothing.
+use mathlib.Core.Path.{_≡_, refl, sym, ap, subst, _∙_}
+use mathlib.Core.Bool.{Bool, true, false, not}
+use mathlib.Core.List.{List, [], _∷_, _++_, flatten, append-assoc, append-nil}
+use mathlib.Core.Option.{Option, none, some}
+use Prim.Native.Nat.{ℕ, _+_, _-_, _≤_, _<_}
+use native.Mathlib.Omega.{arith}
+use mir.Val.{boolByte}
+use lib.Dec.{eqb, ltb}
+use lib.ListN.{length, length-append}
+use borrow.Author.Tests.{lt-ltb, ltb-true, not-true}
+use Rattle.wire.specs.Tests.{pick}
+use Rattle.wire.specs.Numbers.{bytesOf}
+use Rattle.wire.specs.Parts.{slice, splice}
+use Rattle.wire.proofs.Tests.{both-left}
+use Rattle.wire.proofs.Parts.{length-slice, length-padded, splice-after}
+use Rattle.order.specs.declared.Row.{Row}
+use Rattle.protocol.specs.declared.WindowId.{WindowId}
+use Rattle.protocol.specs.declared.NotifyIconId.{NotifyIconId}
+use Rattle.places.specs.declared.Family.{Family}
+use Rattle.places.specs.declared.Family.the-variants as family
+use Rattle.places.specs.declared.Found.{Found}
+use Rattle.places.specs.declared.Found.the-variants.{Nothing, At}
+use Rattle.places.specs.Counts.{onFound}
+use Rattle.places.specs.Sizes.{cellCount, holderCount}
+use Rattle.places.specs.Memory.{pointerAt, shownOf, shown}
+use Rattle.places.specs.Holder.{cell, icon, iconNumber, numberOf}
+use Rattle.index.specs.Slots.{slotOf}
+use Rattle.index.specs.Memory.{indexOf}
+use Rattle.ids.specs.Ids.{idsIn, listBytes}
+use Rattle.ids.specs.Steps.{familyOf}
+use Rattle.body.specs.Bodies.{Body, windowFields, notificationFields, desktopFields, fieldsOf, bodyOf, fieldsOk}
+use Rattle.body.specs.Stores.{roomAll}
+use Rattle.layout.specs.Layouts.{pictureSize, windowSize, notificationSize, fieldsBytes, recordBytes, pictureBytes}
+use Rattle.layout.proofs.LayoutsWritten.{length-record}
+use Rattle.table.specs.Memory.{shownIn}
+use Rattle.follow.specs.Follow.{heldSlot}
+use Rattle.shown.specs.Shown.{isThere, shows, shownBytes, heldPictures, Ready}
+use Rattle.session.specs.declared.PictureHolder.{PictureHolder}
+use Rattle.session.specs.declared.LookupTarget.{LookupTarget}
+use Rattle.session.specs.declared.LookupTarget.the-variants.{Window, Notification, Cell, Desktop, Windows, Notifications, Shares}
+use Rattle.session.specs.Calls.{aPicture, cellNumber, holderOf}
+use Rattle.session.specs.Outcome.{listedBytes, payloadBytes}
+use Rattle.session.specs.Targets.{wantOf, listedIn, payloadHeld}
+use Rattle.session.specs.Handing.{bytesHeld, validHeld, ReadyFor, HandsOut}
+use Rattle.session.proofs.Targets.{slot-below, shares-by, no-pointer}
+
+no : {A : Type 0} → _≡_ {A = Bool} false true → A
+no e = let z : _≡_ {A = ℕ} 0 1 = cc in absurd (omega arith)
+
+-- ---- a record and its pictures
+
+length-shown : (p : Option (List ℕ)) → length (shownBytes p) ≡ pictureSize
+unfolding pictureBytes
+length-shown none = length-padded {A = ℕ} 0 pictureSize []
+length-shown (some p) = length-padded {A = ℕ} 0 pictureSize p
+
+-- whether a picture is there, as the code writes it
+mark-is : (p : Option (List ℕ)) {b : Bool} → b ≡ shows p → bytesOf 1 (boolByte b) ≡ isThere p ∷ []
+unfolding bytesOf
+mark-is none e = rw e
+mark-is (some p) e = rw e
+
+marked : (out : List ℕ) (x y s t : ℕ) (zs : List ℕ) → splice (splice (splice out 0 (x ∷ y ∷ zs)) 0 (s ∷ [])) 1 (t ∷ []) ≡ splice out 0 (s ∷ t ∷ zs)
+unfolding splice
+marked out x y s t zs = refl
+
+module _ (out : List ℕ) (rows : List Row) (b : Body) {n : ℕ} (size : 2 + roomAll rows ≡ n) {x : List ℕ} (fields : x ≡ splice out 0 (recordBytes rows b)) where
+  abbrev bytes : List ℕ
+  bytes = recordBytes rows b
+
+  -- its marks written again, with what stands behind it
+  marks-put : (rest : List ℕ) (s t : ℕ) {y z w : List ℕ} → y ≡ splice out 0 (bytes ++ rest) → z ≡ splice y 0 (s ∷ []) → w ≡ splice z 1 (t ∷ [])
+      → w ≡ splice out 0 (recordBytes rows (record { first = s; second = t; fields = b .fields }) ++ rest)
+  unfolding recordBytes
+  marks-put rest s t e f g = rw (g, f, e) (marked out (b .first) (b .second) s t (fieldsBytes rows (b .fields) ++ rest))
+
+  one-put : (p : Option (List ℕ)) → n + pictureSize ≤ length out → {y : List ℕ} → y ≡ splice x n (shownBytes p) → y ≡ splice out 0 (bytes ++ shownBytes p)
+  one-put p room e =
+      let k = length-record rows b in
+      let l = length-shown p in
+      e ∙ ap (λ (z : List ℕ). splice z n (shownBytes p)) fields ∙ splice-after out 0 bytes (shownBytes p) n (omega (arith, k, size)) (omega (arith, k, size, l, room))
+
+  two-put : (p q : Option (List ℕ)) → n + (pictureSize + pictureSize) ≤ length out → {y z : List ℕ} → y ≡ splice x n (shownBytes p)
+      → z ≡ splice y (n + pictureSize) (shownBytes q) → z ≡ splice out 0 (bytes ++ (shownBytes p ++ shownBytes q))
+  two-put p q room e f =
+      let k = length-record rows b in
+      let l = length-shown p in
+      let m = length-shown q in
+      let j : length (bytes ++ shownBytes p) ≡ n + pictureSize = length-append bytes (shownBytes p) ∙ omega (arith, k, size, l) in
+      f ∙ ap (λ (w : List ℕ). splice w (n + pictureSize) (shownBytes q)) (one-put p (omega arith) e)
+      ∙ splice-after out 0 (bytes ++ shownBytes p) (shownBytes q) (n + pictureSize) (omega (arith, j)) (omega (arith, j, m, room))
+      ∙ ap (splice out 0) (append-assoc bytes (shownBytes p) (shownBytes q))
+
+module _ (out slot : List ℕ) {x y v z : List ℕ} {r : Bool} where
+  -- a window
+  pub window-laid : (p q : Option (List ℕ)) → windowSize + (pictureSize + pictureSize) ≤ length out → x ≡ splice out 0 (recordBytes windowFields (bodyOf windowFields slot))
+      → r ≡ shows p → y ≡ splice x windowSize (shownBytes p) → {w : List ℕ} {t : Bool} → t ≡ shows q → v ≡ splice y (windowSize + pictureSize) (shownBytes q)
+      → z ≡ splice v 0 (bytesOf 1 (boolByte r)) → w ≡ splice z 1 (bytesOf 1 (boolByte t)) → w ≡ splice out 0 (listedBytes family.Windows (fieldsOf windowFields 2 slot) (p ∷ q ∷ []))
+  unfolding listedBytes bodyOf roomAll flatten
+  window-laid p q room e rs f ts g h i =
+      let b = bodyOf windowFields slot in
+      marks-put out windowFields b refl e (shownBytes p ++ shownBytes q) (isThere p) (isThere q) (two-put out windowFields b refl e p q room f g)
+      (h ∙ ap (splice v 0) (mark-is p rs)) (i ∙ ap (splice z 1) (mark-is q ts))
+      ∙ ap (λ (k : List ℕ). splice out 0 (recordBytes windowFields (record { first = isThere p; second = isThere q; fields = fieldsOf windowFields 2 slot }) ++ (shownBytes p ++ k)))
+      (sym (append-nil (shownBytes q)))
+
+  -- a notification icon
+  pub notification-laid : (p : Option (List ℕ)) → notificationSize + pictureSize ≤ length out
+      → x ≡ splice out 0 (recordBytes notificationFields (bodyOf notificationFields slot)) → r ≡ shows p → y ≡ splice x notificationSize (shownBytes p)
+      → v ≡ splice y 0 (bytesOf 1 (boolByte r)) → z ≡ splice v 1 (bytesOf 1 0) → z ≡ splice out 0 (listedBytes family.Notifications (fieldsOf notificationFields 2 slot) (p ∷ []))
+  unfolding listedBytes bodyOf roomAll bytesOf flatten
+  notification-laid p room e rs f h i =
+      let b = bodyOf notificationFields slot in
+      marks-put out notificationFields b refl e (shownBytes p) (isThere p) 0 (one-put out notificationFields b refl e p room f) (h ∙ ap (splice y 0) (mark-is p rs)) i
+      ∙ ap (λ (k : List ℕ). splice out 0 (recordBytes notificationFields (record { first = isThere p; second = 0; fields = fieldsOf notificationFields 2 slot }) ++ k))
+      (sym (append-nil (shownBytes p)))
+
+-- ---- holders that are listed have numbers
+
+pub icon-in : (x : List ℕ) (f : Family) (a b w : ℕ) → indexOf x .listed f a b ≡ true → w < 3 → {n : ℕ} → n ≡ numberOf (slotOf x) (icon f a b w) → n < holderCount
+unfolding indexOf numberOf
+icon-in x f a b w e l is = omega (arith, is, go (slotOf x f a b) refl e)
+  where
+    go : (r : Found) → slotOf x f a b ≡ r → onFound r false (λ i. true) ≡ true → onFound r holderCount (λ i. pick (ltb w 3) (iconNumber i w) holderCount) < holderCount
+    go Nothing s e = no e
+    go (At i) s e = let h = slot-below x f a b i s in rw (lt-ltb w 3 l) (omega arith)
+
+module _ (x : List ℕ) (c : ℕ) (listed : indexOf x .sharing .shares (cell c) (cell c) ≡ true) where
+  abbrev pointer : ℕ
+  pointer = pointerAt x (numberOf (slotOf x) (cell c))
+
+  points : eqb pointer 0 ≡ false
+  points = not-true (eqb pointer 0) (both-left (not (eqb pointer 0)) (eqb pointer pointer) (shares-by x (cell c) (cell c) ∙ listed))
+
+  pub cell-in : c < cellCount
+  unfolding numberOf
+  cell-in = go (ltb c cellCount) refl
+    where
+      go : (b : Bool) → ltb c cellCount ≡ b → c < cellCount
+      go true e = ltb-true c cellCount e
+      go false e =
+          let n : numberOf (slotOf x) (cell c) ≡ holderCount = rw e in
+          let z : 0 ≡ pointer = no-pointer x holderCount (omega arith) ∙ ap (pointerAt x) (sym n) in
+          no (sym points ∙ ap (λ (k : ℕ). eqb k 0) (sym z))
+
+  cell-is : numberOf (slotOf x) (cell c) ≡ c
+  unfolding numberOf
+  cell-is = rw (lt-ltb c cellCount cell-in)
+
+  pub cell-some : (pictures : ℕ → List ℕ) → shownIn x pictures (cell c) ≡ some (pictures (pointer - 1))
+  unfolding shown shownOf
+  cell-some pictures = rw points
+
+  cell-bytes : (pictures : ℕ → List ℕ) (target : LookupTarget) → payloadBytes target (aPicture (shownIn x pictures (cell c))) ≡ shownBytes (shown x pictures c)
+  unfolding payloadBytes
+  cell-bytes pictures target =
+      let s : shown x pictures c ≡ some (pictures (pointer - 1)) = ap (shown x pictures) (sym cell-is) ∙ cell-some pictures in
+      rw (cell-some pictures, s)
+
+-- ---- what handing out asks, and leaves
+
+module _ {x bodies : List ℕ} {store : List (List ℕ)} {journal m out : List ℕ} where
+  pub hands-as : {target v : LookupTarget} → target ≡ v → HandsOut target x bodies store journal m out → HandsOut v x bodies store journal m out
+  hands-as e h = subst (λ (t : LookupTarget). HandsOut t x bodies store journal m out) e h
+
+  pub handed-as : {target v : LookupTarget} {out' : List ℕ} → target ≡ v → HandsOut target x bodies store journal m out → out' ≡ splice out 0 (bytesHeld v x bodies store journal m) → out' ≡ splice out 0 (bytesHeld target x bodies store journal m)
+  handed-as e h f = f ∙ ap (λ (t : LookupTarget). splice out 0 (bytesHeld t x bodies store journal m)) (sym e)
+
+  -- a window
+  module _ {w : WindowId} (h : HandsOut (Window w) x bodies store journal m out) where
+    pub window-size : length m ≡ 1044
+    unfolding wantOf
+    window-size = h .size
+
+    pub window-asks : ((1 ≤ 15) × (15 ≤ 24) × (2 + roomAll windowFields ≤ length out) × (2 + roomAll windowFields ≤ length (heldSlot m)))
+        × (fieldsOk windowFields 2 (heldSlot m) ≡ true)
+    unfolding roomAll validHeld
+    window-asks =
+        let n = length-slice m 0 916 (omega (arith, window-size)) in
+        ((omega arith, omega arith, omega (arith, h .room), omega (arith, n)), h .valid)
+
+    pub window-icon : (i : ℕ) → i < 3 → {n : ℕ} → n ≡ numberOf (slotOf x) (icon family.Windows (w .id) 0 i) → n < holderCount
+    unfolding listedIn
+    window-icon i l e = icon-in x family.Windows (w .id) 0 i (h .listed) l e
+
+    pub window-ready : Ready x bodies store journal (slice m 916 128)
+    unfolding ReadyFor
+    window-ready = h .ready
+
+    pub window-handed : {n k : ℕ} → n ≡ numberOf (slotOf x) (icon family.Windows (w .id) 0 0) → k ≡ numberOf (slotOf x) (icon family.Windows (w .id) 0 1)
+        → {p q r s t : List ℕ} {small big : Bool} → p ≡ splice out 0 (recordBytes windowFields (bodyOf windowFields (heldSlot m)))
+        → small ≡ shows (shown x (heldPictures bodies store journal (slice m 916 128)) n)
+        → q ≡ splice p windowSize (shownBytes (shown x (heldPictures bodies store journal (slice m 916 128)) n))
+        → big ≡ shows (shown x (heldPictures bodies store journal (slice m 916 128)) k)
+        → r ≡ splice q (windowSize + pictureSize) (shownBytes (shown x (heldPictures bodies store journal (slice m 916 128)) k))
+        → s ≡ splice r 0 (bytesOf 1 (boolByte small)) → t ≡ splice s 1 (bytesOf 1 (boolByte big)) → t ≡ splice out 0 (bytesHeld (Window w) x bodies store journal m)
+    unfolding bytesHeld payloadHeld payloadBytes wantOf
+    window-handed {n = n} {k = k} e f a b c d g i j =
+        let pictures = heldPictures bodies store journal (slice m 916 128) in
+        window-laid out (heldSlot m) (shown x pictures n) (shown x pictures k) (h .room) a b c d g i j
+        ∙ ap (λ (z : ℕ). splice out 0 (listedBytes family.Windows (fieldsOf windowFields 2 (heldSlot m)) (shown x pictures z ∷ shown x pictures k ∷ []))) e
+        ∙ ap (λ (z : ℕ). splice out 0 (listedBytes family.Windows (fieldsOf windowFields 2 (heldSlot m)) (shownIn x pictures (icon family.Windows (w .id) 0 0) ∷ shown x pictures z ∷ []))) f
+
+  -- a notification icon
+  module _ {w : WindowId} {i : NotifyIconId} (h : HandsOut (Notification w i) x bodies store journal m out) where
+    pub notification-size : length m ≡ 1044
+    unfolding wantOf
+    notification-size = h .size
+
+    pub notification-asks : ((16 ≤ 22) × (22 ≤ 24) × (2 + roomAll notificationFields ≤ length out) × (2 + roomAll notificationFields ≤ length (heldSlot m)))
+        × (fieldsOk notificationFields 2 (heldSlot m) ≡ true)
+    unfolding roomAll validHeld
+    notification-asks =
+        let n = length-slice m 0 916 (omega (arith, notification-size)) in
+        ((omega arith, omega arith, omega (arith, h .room), omega (arith, n)), h .valid)
+
+    pub notification-icon : {n : ℕ} → n ≡ numberOf (slotOf x) (icon family.Notifications (w .id) (i .id) 0) → n < holderCount
+    unfolding listedIn
+    notification-icon e = icon-in x family.Notifications (w .id) (i .id) 0 (h .listed) (omega arith) e
+
+    pub notification-ready : Ready x bodies store journal (slice m 916 128)
+    unfolding ReadyFor
+    notification-ready = h .ready
+
+    pub notification-handed : {n : ℕ} → n ≡ numberOf (slotOf x) (icon family.Notifications (w .id) (i .id) 0) → {p q r s : List ℕ} {own : Bool}
+        → p ≡ splice out 0 (recordBytes notificationFields (bodyOf notificationFields (heldSlot m)))
+        → own ≡ shows (shown x (heldPictures bodies store journal (slice m 916 128)) n)
+        → q ≡ splice p notificationSize (shownBytes (shown x (heldPictures bodies store journal (slice m 916 128)) n))
+        → r ≡ splice q 0 (bytesOf 1 (boolByte own)) → s ≡ splice r 1 (bytesOf 1 0) → s ≡ splice out 0 (bytesHeld (Notification w i) x bodies store journal m)
+    unfolding bytesHeld payloadHeld payloadBytes wantOf
+    notification-handed {n = n} e a b c d g =
+        let pictures = heldPictures bodies store journal (slice m 916 128) in
+        notification-laid out (heldSlot m) (shown x pictures n) (h .room) a b c d g
+        ∙ ap (λ (z : ℕ). splice out 0 (listedBytes family.Notifications (fieldsOf notificationFields 2 (heldSlot m)) (shown x pictures z ∷ []))) e
+
+  -- a cell
+  module _ {cache entry : ℕ} (h : HandsOut (Cell cache entry) x bodies store journal m out) where
+    is-listed : indexOf x .sharing .shares (cell (cellNumber cache entry)) (cell (cellNumber cache entry)) ≡ true
+    unfolding listedIn
+    is-listed = h .listed
+
+    pub cell-size : length m ≡ 128
+    unfolding wantOf
+    cell-size = h .size
+
+    pub cell-number-in : {k : ℕ} → k ≡ cellNumber cache entry → k < holderCount
+    cell-number-in e = omega (arith, e, cell-in x (cellNumber cache entry) is-listed)
+
+    pub cell-ready : Ready x bodies store journal (slice m 0 128)
+    unfolding ReadyFor
+    cell-ready = h .ready
+
+    pub cell-handed : {k : ℕ} {out' : List ℕ} → k ≡ cellNumber cache entry → out' ≡ splice out 0 (shownBytes (shown x (heldPictures bodies store journal (slice m 0 128)) k))
+        → out' ≡ splice out 0 (bytesHeld (Cell cache entry) x bodies store journal m)
+    unfolding bytesHeld payloadHeld wantOf
+    cell-handed e f =
+        let pictures = heldPictures bodies store journal (slice m 0 128) in
+        f ∙ ap (λ (k : ℕ). splice out 0 (shownBytes (shown x pictures k))) e
+        ∙ ap (splice out 0) (sym (cell-bytes x (cellNumber cache entry) is-listed pictures (Cell cache entry)))
+
+  -- the desktop state, the lists, and whether two share
+  pub desktop-asks : HandsOut Desktop x bodies store journal m out
+      → ((22 ≤ 24) × (24 ≤ 24) × (2 + roomAll desktopFields ≤ length out) × (2 + roomAll desktopFields ≤ length m)) × (fieldsOk desktopFields 2 m ≡ true)
+  unfolding roomAll wantOf validHeld
+  desktop-asks h = ((omega arith, omega arith, omega (arith, h .room), omega (arith, h .size)), h .valid)
+
+  pub desktop-handed : HandsOut Desktop x bodies store journal m out → {out' : List ℕ} → out' ≡ splice out 0 (recordBytes desktopFields (bodyOf desktopFields m)) → out' ≡ splice out 0 (bytesHeld Desktop x bodies store journal m)
+  unfolding bytesHeld payloadHeld payloadBytes
+  desktop-handed h e = e
+
+  pub windows-handed : HandsOut Windows x bodies store journal m out → {out' : List ℕ} → out' ≡ splice out 0 (listBytes (familyOf false) (idsIn (indexOf x) (familyOf false))) → out' ≡ splice out 0 (bytesHeld Windows x bodies store journal m)
+  unfolding bytesHeld payloadHeld payloadBytes
+  windows-handed h e = e
+
+  pub notifications-handed : HandsOut Notifications x bodies store journal m out → {out' : List ℕ} → out' ≡ splice out 0 (listBytes (familyOf true) (idsIn (indexOf x) (familyOf true))) → out' ≡ splice out 0 (bytesHeld Notifications x bodies store journal m)
+  unfolding bytesHeld payloadHeld payloadBytes
+  notifications-handed h e = e
+
+  pub shares-handed : (g k : PictureHolder) → HandsOut (Shares g k) x bodies store journal m out → {b : Bool} {out' : List ℕ} → b ≡ indexOf x .sharing .shares (holderOf g) (holderOf k)
+      → out' ≡ splice out 0 (bytesOf 1 (boolByte b)) → out' ≡ splice out 0 (bytesHeld (Shares g k) x bodies store journal m)
+  unfolding bytesHeld payloadHeld payloadBytes
+  shares-handed g k h {b = b} e f = f ∙ ap (splice out 0) (one b ∙ ap (λ (b : Bool). pick b 1 0 ∷ []) e)
+    where
+      one : (b : Bool) → bytesOf 1 (boolByte b) ≡ pick b 1 0 ∷ []
+      one true = unfold bytesOf in refl
+      one false = unfold bytesOf in refl

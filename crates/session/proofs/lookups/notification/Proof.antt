@@ -1,0 +1,43 @@
+use native.Mathlib.Omega.{arith}
+use denote.Ref.{now}
+use Rattle.wire.specs.Parts.{slice}
+use Rattle.store.specs.Store.{five}
+use Rattle.session.specs.Handing.{HandsOut}
+use Rattle.session.specs.declared.LookupTarget.the-variants.{Notification}
+use Rattle.session.proofs.Handed.{notification-size, notification-asks, notification-icon, notification-ready, notification-handed}
+use borrow.Author.Needs.{needs}
+use Rattle.session.proofs.lookups.notification.Statement.{statement}
+use Rattle.session.proofs.lookups.notification.Tie as tie
+
+-- The record at the start, its picture behind it, then its marks.
+abbrev Hands : tie.Start → Type 0
+Hands u =
+    HandsOut (Notification (u .args .w) (u .args .n)) (now (u .args .x)) (now (u .args .bodies))
+    (five (now (u .args .a)) (now (u .args .b)) (now (u .args .c)) (now (u .args .d)) (now (u .args .e))) (now (u .args .journal)) (now (u .args .m)) (now (u .args .out))
+
+hands : (u : tie.Start) → Hands u
+hands u = u .pre
+
+pub notification-spec : {M : Type 1} → statement M
+unfolding slice
+notification-spec =
+    tie.close
+    (tie.spec
+    (λ c κs. (hands (c .before .before .before .before .before .before .before .before .before .before) .long, omega arith))
+    (λ c. search needs)
+    (λ c. omega (arith, notification-size (hands (c .before .before .before .before .before .before .before .before .before .before .before))))
+    (λ c. omega (arith, notification-size (hands (c .before .before .before .before .before .before .before .before .before .before .before))))
+    (λ c. search needs)
+    (λ c. omega (arith, notification-size (hands (c .before .before .before .before .before .before .before .before .before .before .before .before .before))))
+    (λ c. omega (arith, notification-size (hands (c .before .before .before .before .before .before .before .before .before .before .before .before .before))))
+    (λ c κs. notification-asks (hands (c .before .before .before .before .before .before .before .before .before .before .before .before .before .before)))  -- record-requires
+    (λ c κs.  -- holder-requires
+    let h = hands (c .before .before .before .before .before .before .before .before .before .before .before .before .before .before .before .before .before .before) in
+    ((omega (arith, h .room, c .before .before .before .«record» .kept .0), notification-icon h (c .before .before .before .before .before .before .before .icon-number .ensures)), notification-ready h))
+    (λ c. search needs)
+    (λ c κs. omega (arith, hands (c .before .before .before .before .before .before .before .before .before .before .before .before .before .before .before .before .before .before .before .before .before .before) .room, c .before .before .before .before .before .before .before .«record» .kept .0, c .before .before .before .holder .kept .0))
+    (λ c κs. omega (arith, hands (c .before .before .before .before .before .before .before .before .before .before .before .before .before .before .before .before .before .before .before .before .before .before .before .before .before .before) .room, c .before .before .before .before .before .before .before .before .before .before .before .«record» .kept .0, c .before .before .before .before .before .before .before .holder .kept .0, c .before .before .before .write-u8 .kept .0))
+    (λ c. search needs)
+    (λ c.  -- returns
+    let p = c .before .before .before .before .before .before .before .before .before .before .holder .ensures in
+    notification-handed (hands (c .before .before .before .before .before .before .before .before .before .before .before .before .before .before .before .before .before .before .before .before .before .before .before .before .before .before .before .before .before)) (c .before .before .before .before .before .before .before .before .before .before .before .before .before .before .before .before .before .before .icon-number .ensures) (c .before .before .before .before .before .before .before .before .before .before .before .before .before .before .«record» .ensures) (p .0) (p .1) (c .before .before .before .before .before .before .write-u8 .ensures) (c .before .before .write-u82 .ensures)))

@@ -1,0 +1,50 @@
+use native.Mathlib.Omega.{arith}
+use denote.Ref.{now}
+use Rattle.wire.specs.Parts.{slice}
+use Rattle.store.specs.Store.{five}
+use Rattle.session.specs.Handing.{HandsOut}
+use Rattle.session.specs.declared.LookupTarget.the-variants.{Window}
+use Rattle.session.proofs.Handed.{window-size, window-asks, window-icon, window-ready, window-handed}
+use borrow.Author.Needs.{needs}
+use Rattle.session.proofs.lookups.window.Statement.{statement}
+use Rattle.session.proofs.lookups.window.Tie as tie
+
+-- The record at the start, the two pictures behind it, then its marks.
+abbrev Hands : tie.Start → Type 0
+Hands u =
+    HandsOut (Window (u .args .w)) (now (u .args .x)) (now (u .args .bodies))
+    (five (now (u .args .a)) (now (u .args .b)) (now (u .args .c)) (now (u .args .d)) (now (u .args .e))) (now (u .args .journal)) (now (u .args .m)) (now (u .args .out))
+
+hands : (u : tie.Start) → Hands u
+hands u = u .pre
+
+pub window-spec : {M : Type 1} → statement M
+unfolding slice
+window-spec =
+    tie.close
+    (tie.spec
+    (λ c κs. (hands (c .before .before .before .before .before .before .before .before .before .before) .long, omega arith))
+    (λ c κs. (hands (c .before .before .before .before .before .before .before .before .before .before .before) .long, omega arith))
+    (λ c. search needs)
+    (λ c. omega (arith, window-size (hands (c .before .before .before .before .before .before .before .before .before .before .before .before))))
+    (λ c. omega (arith, window-size (hands (c .before .before .before .before .before .before .before .before .before .before .before .before))))
+    (λ c. search needs)
+    (λ c. omega (arith, window-size (hands (c .before .before .before .before .before .before .before .before .before .before .before .before .before .before))))
+    (λ c. omega (arith, window-size (hands (c .before .before .before .before .before .before .before .before .before .before .before .before .before .before))))
+    (λ c κs. window-asks (hands (c .before .before .before .before .before .before .before .before .before .before .before .before .before .before .before)))  -- record-requires
+    (λ c κs.  -- holder-requires
+    let h = hands (c .before .before .before .before .before .before .before .before .before .before .before .before .before .before .before .before .before .before .before) in
+    ((omega (arith, h .room, c .before .before .before .«record» .kept .0), window-icon h 0 (omega arith) (c .before .before .before .before .before .before .before .before .icon-number .ensures)), window-ready h))
+    (λ c. search needs)
+    (λ c κs.  -- holder-requires-2
+    let h = hands (c .before .before .before .before .before .before .before .before .before .before .before .before .before .before .before .before .before .before .before .before .before .before .before) in
+    ((omega (arith, h .room, c .before .before .before .before .before .before .before .«record» .kept .0, c .before .before .before .holder .kept .0), window-icon h 1 (omega arith) (c .before .before .before .before .before .before .before .before .before .before .before .icon-number2 .ensures)), window-ready h))
+    (λ c. search needs)
+    (λ c κs. omega (arith, hands (c .before .before .before .before .before .before .before .before .before .before .before .before .before .before .before .before .before .before .before .before .before .before .before .before .before .before .before) .room, c .before .before .before .before .before .before .before .before .before .before .before .«record» .kept .0, c .before .before .before .before .before .before .before .holder .kept .0, c .before .before .before .holder2 .kept .0))
+    (λ c. search needs)
+    (λ c κs. omega (arith, hands (c .before .before .before .before .before .before .before .before .before .before .before .before .before .before .before .before .before .before .before .before .before .before .before .before .before .before .before .before .before .before .before) .room, c .before .before .before .before .before .before .before .before .before .before .before .before .before .before .before .«record» .kept .0, c .before .before .before .before .before .before .before .before .before .before .before .holder .kept .0, c .before .before .before .before .before .before .before .holder2 .kept .0, c .before .before .before .write-u8 .kept .0))
+    (λ c. search needs)
+    (λ c.  -- returns
+    let p = c .before .before .before .before .before .before .before .before .before .before .before .before .before .before .holder .ensures in
+    let q = c .before .before .before .before .before .before .before .before .before .before .holder2 .ensures in
+    window-handed (hands (c .before .before .before .before .before .before .before .before .before .before .before .before .before .before .before .before .before .before .before .before .before .before .before .before .before .before .before .before .before .before .before .before .before .before)) (c .before .before .before .before .before .before .before .before .before .before .before .before .before .before .before .before .before .before .before .before .before .before .before .icon-number .ensures) (c .before .before .before .before .before .before .before .before .before .before .before .before .before .before .before .before .before .before .before .before .before .before .icon-number2 .ensures) (c .before .before .before .before .before .before .before .before .before .before .before .before .before .before .before .before .before .before .«record» .ensures) (p .0) (p .1) (q .0) (q .1) (c .before .before .before .before .before .before .write-u8 .ensures) (c .before .before .write-u82 .ensures)))
