@@ -11,7 +11,7 @@ use borrow.Author.Tests.{eq-eqb, ne-eqb, leb-false, le-leb, lt-leb, le-ltb, lt-l
 use Rattle.wire.specs.Tests.{pick, both, has}
 use Rattle.wire.specs.Numbers.{numAt, bytesOf}
 use Rattle.wire.specs.Parts.{slice, splice}
-use Rattle.wire.proofs.Numbers.{num1-is, num-slice}
+use Rattle.wire.proofs.Numbers.{num1-is, num-past, num-slice}
 use Rattle.protocol.specs.Flags.{desktopNone, flagBigIcon, flagCachedIcon, flagIcon, flagNew, flagsIcon}
 use Rattle.order.specs.declared.Judged.{Judged}
 use Rattle.order.specs.declared.Judged.the-variants.{Window, Notification, Desktop, Refused}
@@ -28,6 +28,7 @@ use Rattle.places.specs.Counts.{firstFrom, onFound}
 use Rattle.places.specs.Memory.{pointerAt, valid}
 use Rattle.places.specs.Changes.{pointAll, freePlace, shareOf, releaseOf, releaseRecordsOf}
 use Rattle.places.proofs.Bytes.{inside}
+use Rattle.places.proofs.Counting.{found}
 use Rattle.index.specs.declared.Searched.{Searched}
 use Rattle.index.specs.declared.RecordOrder.{RecordOrder}
 use Rattle.index.specs.declared.Place.{Place}
@@ -41,6 +42,7 @@ use Rattle.index.specs.Orders.{isNew, isDelete, bringsIcon, cellAt, whic
 use Rattle.index.specs.Plans.{slotFor, lacksPicture, pointerFor, changeOf, planAt, planRecord, planOf}
 use Rattle.index.specs.Changes.{listedOf, freedOf, removedOf, picturedOf, changedOf, clearedOf, emptiedOf, appliedOf, Fits, FitsPlan}
 use Rattle.index.specs.Sound.{eachFrom, noPointers, soundIndex, familyOk}
+use Rattle.index.proofs.Searching.{first-parts}
 use Rattle.index.proofs.Soundness.{never, within-slots, found-within, free-within, sound-has}
 
 -- ---- a slot
@@ -133,7 +135,35 @@ pub found-is : (test : ℕ → Bool) (first count : ℕ) {r : Searched} {w : Fou
 unfolding searchFrom
 found-is test first count e g = sym (ap (λ (r : Searched). r .found) e) ∙ g
 
+-- in two halves
+module _ (test : ℕ → Bool) {f : Searched} (e : f ≡ searchFrom 16 0 test) where
+  pub half-found : {j : ℕ} → f .found ≡ At j → f ≡ searchFrom 32 0 test
+  unfolding searchFrom
+  half-found {j} h =
+      let k : firstFrom 16 0 test ≡ At j = found-is test 0 16 e h in
+      let w : firstFrom 32 0 test ≡ At j = first-parts 16 16 0 test ∙ ap (λ (v : Found). onFound v (firstFrom 16 16 test) At) k in
+      e ∙ rw (k, w)
+
+  pub half-none : {g : Searched} → f .found ≡ Nothing → g ≡ searchFrom 16 16 test → record { found = g .found; looked = 16 + g .looked } ≡ searchFrom 32 0 test
+  unfolding searchFrom
+  half-none {g} h d =
+      let k : firstFrom 16 0 test ≡ Nothing = found-is test 0 16 e h in
+      let w : firstFrom 32 0 test ≡ firstFrom 16 16 test = first-parts 16 16 0 test ∙ ap (λ (v : Found). onFound v (firstFrom 16 16 test) At) k in
+      rw (d, w) (go (firstFrom 16 16 test) refl)
+    where
+      go : (v : Found) → firstFrom 16 16 test ≡ v
+          → _≡_ {A = Searched} (record { found = v; looked = 16 + onFound v 16 (λ j. j - 16 + 1) }) (record { found = v; looked = onFound v 32 (λ j. j - 0 + 1) })
+      go (At j) u =
+          let r = found 16 16 test j u in
+          let n : 16 + (j - 16 + 1) ≡ j - 0 + 1 = omega (arith, r .0) in
+          rw n
+      go Nothing u = refl
+
 -- ---- 11
+
+pub cell-past : (s : List ℕ) (icon : ℕ) → length s ≤ icon → (0 ≡ cellAt s icon) × (0 < 67073)
+unfolding cellAt
+cell-past s icon h = (rw (num-past 1 s (icon + 2) (omega arith), num-past 2 s icon h), omega arith)
 
 pub cell-of : (s : List ℕ) (icon : ℕ) {c n : ℕ} → c ≡ numAt 1 s (icon + 2) → n ≡ numAt 2 s icon → 6 * c + n ≡ cellAt s icon
 unfolding cellAt

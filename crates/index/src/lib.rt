@@ -74,6 +74,9 @@ fn cell(s: &[u8], icon: u32) -> usize
     ensures { λ r. ⌜ (r ≡ cellAt (now (s .entry)) icon) × (r < 67073) ⌝ }
 {
     let at = icon as usize;
+    if s.len() <= at {
+        return 0;
+    }
     let entry = wire::read_u16(s, at) as usize;
     let cache = wire::read_u8(s, at + 2) as usize;
     6 * cache + entry
