@@ -95,7 +95,7 @@ enum rail_numbers {
     RAIL_BAD_VALUE = 8,        /* a field's number is outside its allowed set */
     RAIL_UNKNOWN_ID = 9,       /* the id must be in the table and is not, or must not be and is */
     RAIL_TABLE_FULL = 10,      /* a new record is asked for and its table is full */
-    RAIL_NO_CELL = 11,         /* icon with cache id FF, or cached icon naming an empty cell */
+    RAIL_NO_CELL = 11,         /* cached icon naming an empty cell */
     RAIL_NO_PLACE = 17,        /* the order brings an icon, and every place of the store is pointed at */
     RAIL_HISTORY_FULL = 12,    /* history room would be passed: rail_checkpoint makes room */
     RAIL_TOO_MANY_STEPS = 13,  /* more steps back than stand after the mark */
@@ -129,7 +129,7 @@ static inline const char *rail_number_words(uint32_t number) {
         "a field's number is outside its allowed set",
         "the id must be in the table and isn't, or must not be and is",
         "a new record is asked for and its table is full",
-        "icon with cache id FF, or cached icon naming an empty cell",
+        "cached icon naming an empty cell",
         "history room would be passed",
         "more steps back than stand after the mark",
         "output memory too small",
@@ -153,8 +153,9 @@ static inline const char *rail_number_words(uint32_t number) {
  *
  * Pictures. A window or notification icon keeps the picture it was given, small and big apart, until it is given another or is
  * removed: filling a cell again changes what no other shows. An icon takes a place that nothing but its cell and its pointer then
- * points at; a cached icon shares the place of its cell. A place is used while a cell, window or notification icon points at it, and
- * free again after. What steps back need is kept in the journal and takes no place. */
+ * points at, and with cache id FF (sent once) nothing but its pointer, and no cell changes; a cached icon shares the place of its
+ * cell. A place is used while a cell, window or notification icon points at it, and free again after. What steps back need is kept
+ * in the journal and takes no place. */
 
 /* The parameters of a part, read or written, and of those that most calls only read. Undefined again below. */
 #define RAIL_READ(part) const uint8_t *part, size_t part##_size
@@ -178,8 +179,8 @@ uint32_t rail_reset(RAIL_WRITE(index), RAIL_WRITE(bodies), RAIL_READ_STORE, RAIL
 
 /* Delivers one windowing order as the server sends it, from its byte 2E on, cut to its OrderSize. Where it is granted the order
  * stands after the mark, and the table has exactly its flagged fields changed. Refuses with 1 to 12, and with 17 after 11 and before
- * 12: the order brings an icon, and every place is still pointed at once the cell and the pointer it sets have let go. Only the
- * journal is written. */
+ * 12: the order brings an icon, and every place is still pointed at once the cell, if it names one, and the pointer it sets have let
+ * go. Only the journal is written. */
 uint32_t rail_deliver(RAIL_READ_TABLE, RAIL_WRITE(journal), RAIL_READ(order));
 
 /* Delivers the orders of a whole update, which stand in it back to back, one by one until `limit` are granted, none is left or one is

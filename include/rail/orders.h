@@ -62,7 +62,7 @@ struct rail_change {
     uint32_t flags;          /* FieldsPresentFlags */
     uint32_t window_id;      /* 0 for the desktop */
     uint32_t notify_icon_id; /* 0 but for a notification icon */
-    struct rail_icon filled; /* the cell with a new picture: no record but this order's shows it, all others keep theirs */
+    struct rail_icon filled; /* the cell with a new picture, none with cache id FF: no record but this order's shows it */
 };
 
 /* Behind a string whose length stands at `at`; `size` where it does not lie in the order. */
@@ -83,7 +83,7 @@ static inline size_t rail_notification_icon_at(const uint8_t *order, size_t size
     return (flags & RAIL_BIT_NOTIFY_STATE) != 0 ? at + 4 : at;
 }
 
-/* The cell that an icon at `at` fills: entry (2 bytes), cache id (1). */
+/* The cell that an icon at `at` fills: entry (2 bytes), cache id (1). Cache id FF fills none. */
 static inline struct rail_icon rail_filled_cell(const uint8_t *order, size_t size, size_t at) {
     struct rail_icon cell = {0, 0, 0};
     if (at + 3 <= size && order[at + 2] < RAIL_ICON_CACHES && rail_get16(order + at) < RAIL_ICON_CACHE_ENTRIES) {

@@ -20,7 +20,7 @@ pub const OUTSIDE_SET: u8 = 8;
 pub const WRONG_ID: u8 = 9;
 /// A new record is asked for and its table is full.
 pub const TABLE_FULL: u8 = 10;
-/// An icon that no cache holds, or a cached icon from an empty cell.
+/// A cached icon from an empty cell.
 pub const NO_CELL: u8 = 11;
 /// The history room would be passed.
 pub const ROOM_PASSED: u8 = 12;

@@ -181,6 +181,7 @@ int main(void) {
     test_desktop();
     test_pictures();
     test_kept_pictures();
+    test_sent_once();
     test_store();
     test_lookups();
     test_orders();

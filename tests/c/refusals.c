@@ -264,7 +264,7 @@ void test_order_refusals(void) {
     refuse_icon(RAIL_ICON_CACHE_ENTRIES, 0, 32, 1, RAIL_BAD_VALUE);
     refuse_icon(0, 0, 2, 1, RAIL_BAD_VALUE);
     refuse_icon(0, 0, 32, RAIL_ICON_BITS_MAX + 1, RAIL_BAD_VALUE);
-    refuse_icon(0, 0xFF, 32, 1, RAIL_NO_CELL);
+    refuse_icon(0, 0xFF, 2, 1, RAIL_BAD_VALUE); /* FF excuses the entry alone */
     begin_window(WINDOW_ORDER_ICON, 7);
     put_icon(0, 0, 32, 0, 0, 1, 0);
     order.at[15] = RAIL_ICON_SIDE_MAX + 1; /* the width */

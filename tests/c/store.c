@@ -119,6 +119,40 @@ void test_kept_pictures(void) {
     check_kept();
 }
 
+/* Pictures sent once (cache id FF): of their window or notification icon alone; no cell changes. */
+void test_sent_once(void) {
+    const struct rail_holder cell = rail_cell_holder(0, 4), small = rail_small_icon_holder(1), big = rail_big_icon_holder(1);
+    window = fenced(RAIL_WINDOW_SIZE);
+    other = fenced(RAIL_NOTIFICATION_SIZE);
+    empty_state();
+    new_window(1);
+    grant();
+    window_icon(1, 0, 0, 4, 5, 0x10);
+    grant();
+    cached_icon(1, 1, 0, 4);
+    grant();
+    window_icon(1, 0, 0xFF, 4, 5, 0x20); /* the entry says nothing */
+    CHECK(rail_change_of(order.at, order.size).filled.present == 0);
+    grant();
+    CHECK(shown(1, 0) == 0x20 && shown(1, 1) == 0x10 && in_cell(0, 4) == 0x10);
+    CHECK(shared(small, cell) == 0 && shared(small, big) == 0 && shared(big, cell) == 1);
+    begin_notification(WINDOW_ORDER_STATE_NEW | WINDOW_ORDER_ICON, 1, 2);
+    put_icon(0xFFFF, 0xFF, 32, 3, 0, 5, 0x20);
+    grant();
+    CHECK(shown_by_icon(1, 2) == 0x20 && shared(small, rail_notification_holder(1, 2)) == 0); /* equal bytes, another place */
+    CHECK(rail_checkpoint(NOW) == RAIL_DONE);
+    CHECK(shown(1, 0) == 0x20 && shown_by_icon(1, 2) == 0x20 && in_cell(0, 4) == 0x10); /* from the store */
+    window_icon(1, 0, 0xFF, 0, 5, 0x30);
+    grant();
+    CHECK(shown(1, 0) == 0x30);
+    CHECK(rail_number(rail_undo(NOW, 1)) == RAIL_DONE);
+    CHECK(shown(1, 0) == 0x20 && shared(small, small) == 1 && shared(small, cell) == 0);
+    cached_icon(1, 0, 0xFF, 4); /* a cached icon names a cell */
+    refuse(RAIL_BAD_VALUE);
+    cached_icon(1, 0, 0, 5);
+    refuse(RAIL_NO_CELL);
+}
+
 /* ---- Stores */
 
 #define P RAIL_PLACE_SIZE
@@ -205,8 +239,12 @@ static void check_full(uint32_t places) {
     begin_window(WINDOW_ORDER_ICON, 99);
     put_icon(5, 1, 32, 3, 0, 5, 0);
     refuse(RAIL_UNKNOWN_ID);
-    window_icon(3, 0, 0xFF, 0, 5, 0);
-    refuse(RAIL_NO_CELL);
+    begin_notification(WINDOW_ORDER_ICON, 0, FIRST_EXTRA); /* sent once: it needs a place too */
+    put_icon(5, 0xFF, 32, 3, 0, 5, 0);
+    refuse(RAIL_NO_PLACE);
+    window_icon(3, 0, 0xFF, 0xFFFF, 5, 0); /* the pointer's own, once it has let go */
+    grant();
+    step_back(1);
     picture_order(places - 1, 5); /* the place is its own once it and its cell have let go */
     grant();
     step_back(1);

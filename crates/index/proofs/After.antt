@@ -32,16 +32,17 @@ use Rattle.index.specs.Slots.{isAt, slotOf}
 use Rattle.index.specs.Orders.{onJudged, isDelete, bringsIcon, bringsCached, cellAt, whichOf}
 use Rattle.index.specs.Index.{Index, recordNumber, numberIn, pictured, without, withRecord, changeRecord, changeDesktop, emptyIndex, indexAfter}
 use Rattle.index.specs.Memory.{indexOf}
-use Rattle.index.specs.Plans.{pointerFor, changeOf, planRecord, planOf, planNumber}
+use Rattle.index.specs.Plans.{pointerFor, cellFor, changeOf, planRecord, planOf, planNumber}
 use Rattle.index.specs.Changes.{removedOf, picturedOf, changedOf, clearedOf, emptiedOf, appliedOf, FitsPlan}
 use Rattle.index.specs.Sound.{soundIndex}
 use Rattle.index.proofs.Memory.{Slotted, slotted-self, points-slotted, share-slotted, cleared-is}
 use Rattle.index.proofs.Soundness.{within-slots, found-within, Sound, sound-has, sound-is}
 use Rattle.index.proofs.Listed.{slotted-find, slotted-many, find-freed, many-freed, none-find, none-many}
 use Rattle.index.proofs.Ordered.{Ordered, deleted-old, windowOrder, notificationOrder, ordered-window, ordered-notification}
-use Rattle.index.proofs.Shared.{sharingAt, removed-freed, removed-sharing, two-holders, icon-sharing, cached-sharing, cleared-sharing}
+use Rattle.index.proofs.Shared.{sharingAt, removed-freed, removed-sharing, cached-sharing, cleared-sharing}
+use Rattle.index.proofs.Held.{which-small, beside-cell, beside-small, held}
 use Rattle.index.proofs.Kept.{removed-sound, taken-sound, shared-sound, cleared-sound, places-emptied, pointer-emptied, slots-emptied}
-use Rattle.index.proofs.Numbered.{which-small, readied, Ready, ready, Planned, Outcome, refused, changes, outcome}
+use Rattle.index.proofs.Numbered.{readied, Ready, ready, Planned, Outcome, refused, changes, outcome}
 
 -- two indexes that say the same are one
 pub same-index : (d e : Index) → ((f : Family) (a b : ℕ) → d .listed f a b ≡ e .listed f a b) → ((f : Family) → d .many f ≡ e .many f) → d .sharing ≡ e .sharing → d ≡ e
@@ -54,12 +55,12 @@ record Pictured (z y s : List ℕ) (o : RecordOrder) : Type 0 where
   pub sound : Sound y
   pub sharing : sharingAt y ≡ pictured s o (sharingAt z)
 
-module _ (x s : List ℕ) (o : RecordOrder) (i place : ℕ) (r : Ready x (readied x o i) o i) (p : Planned x s o i place) where
+module _ (x s : List ℕ) (o : RecordOrder) (i place : ℕ) (h : Ordered s o) (r : Ready x (readied x o i) o i) (p : Planned x s o i place) where
   abbrev z : List ℕ
   z = readied x o i
 
-  abbrev two : List ℕ
-  two = cellAt s (o .icon) ∷ pointerFor i (o .flags) ∷ []
+  abbrev ns : List ℕ
+  ns = cellFor s o i ∷ pointerFor i (o .flags) ∷ []
 
   below : i < 48
   below = within-slots (o .family) i (found-within (o .family) z (o .window .id) (o .notify .id) i (r .at-i))
@@ -74,20 +75,8 @@ module _ (x s : List ℕ) (o : RecordOrder) (i place : ℕ) (r : Ready x (readie
   unfolding picturedOf pictured
   pictured-is = go (bringsIcon (o .flags)) (bringsCached (o .flags)) refl refl
     where
-      go : (t u : Bool) → bringsIcon (o .flags) ≡ t → bringsCached (o .flags) ≡ u
-          → Pictured z (pick t (pointAll z two (place + 1)) (pick u (shareOf z (pointerFor i (o .flags)) (cellAt s (o .icon))) z)) s o
-      go true u m n =
-          let q = p .icon m in
-          let free : freePlace z two ≡ At place = r .free two ∙ q .1 in
-          let all = two-holders z (r .sound) (o .family) (o .window .id) (o .notify .id) (whichOf (o .flags)) i (cellAt s (o .icon)) (r .at-i) which (q .0) in
-          record {
-            slotted = points-slotted two z (place + 1) all (r .sound .long);
-            sound = taken-sound z (o .family) (o .window .id) (o .notify .id) (whichOf (o .flags)) i (cellAt s (o .icon)) (r .sound) there below which (q .0) place all free;
-            sharing =
-                icon-sharing z (r .sound) (o .family) (o .window .id) (o .notify .id) (whichOf (o .flags)) i (cellAt s (o .icon)) (r .at-i) which (q .0) place free
-                ∙ rw m;
-          }
-      go false true m n =
+      shared : bringsIcon (o .flags) ≡ false → bringsCached (o .flags) ≡ true → Pictured z (shareOf z (pointerFor i (o .flags)) (cellAt s (o .icon))) s o
+      shared m n =
           let l = p .cached m n in
           let k = which in
           let j = below in
@@ -98,6 +87,18 @@ module _ (x s : List ℕ) (o : RecordOrder) (i place : ℕ) (r : Ready x (readie
                 cached-sharing z (r .sound) (o .family) (o .window .id) (o .notify .id) (whichOf (o .flags)) i (cellAt s (o .icon)) (r .at-i) which l
                 ∙ rw (m, n);
           }
+
+      go : (t u : Bool) → bringsIcon (o .flags) ≡ t → bringsCached (o .flags) ≡ u
+          → Pictured z (pick t (pointAll z ns (place + 1)) (pick u (shareOf z (pointerFor i (o .flags)) (cellFor s o i)) z)) s o
+      go true u m n =
+          let free : freePlace z ns ≡ At place = r .free ns ∙ p .icon m in
+          let k = held z s o i (r .sound) h (r .at-i) m in
+          record {
+            slotted = points-slotted ns z (place + 1) (k .all) (r .sound .long);
+            sound = taken-sound z (o .family) (o .window .id) (o .notify .id) i (r .sound) there k place free;
+            sharing = k .shares place free ∙ rw m;
+          }
+      go false true m n = rw (beside-cell (cellAt s (o .icon)) (pointerFor i (o .flags)) (p .cached m n)) (shared m n)
       go false false m n = record { slotted = slotted-self z; sound = r .sound; sharing = rw (m, n) }
 
 -- ---- a record's order
@@ -115,7 +116,7 @@ module _ (x s : List ℕ) (o : RecordOrder) (sound : Sound x) (h : Ordered s o) 
       let r = ready x s o i sound h (p .placed) in
       let z = readied x o i in
       let y = picturedOf z (changeOf s o i place) in
-      let q = pictured-is x s o i place r p in
+      let q = pictured-is x s o i place h r p in
       record {
         index =
             same-index (indexOf y) (withRecord (indexOf x) s o)
@@ -169,15 +170,11 @@ module _ (x s : List ℕ) (o : RecordOrder) (sound : Sound x) (h : Ordered s o) 
           let k = which-small (o .flags) (has (o .flags) flagBigIcon) in
           record {
             slot = l;
-            icon = λ t. let q = p .icon t in omega (arith, q .0);
-            cached = λ t. named (bringsIcon (o .flags)) refl t p;
+            icon = λ t. beside-small (cellAt s (o .icon)) (pointerFor i (o .flags)) (omega arith);
+            cached = λ t. beside-small (cellAt s (o .icon)) (pointerFor i (o .flags)) (omega arith);
             pointer = omega arith;
             place = p .small;
           }
-        where
-          named : (t : Bool) → bringsIcon (o .flags) ≡ t → bringsCached (o .flags) ≡ true → Planned x s o i place → cellAt s (o .icon) < 156
-          named true m n p = let q = p .icon m in omega (arith, q .0)
-          named false m n p = let q = p .cached m n in omega arith
 
   pub record-number : planNumber (planRecord x s o) ≡ recordNumber (indexOf x) s o
   record-number = go (planRecord x s o) (outcome x s o sound h)

@@ -16,11 +16,11 @@ use Rattle.places.specs.declared.Family.{Family}
 use Rattle.places.specs.declared.Found.the-variants.{At, Nothing}
 use Rattle.places.specs.Sharing.{isOne}
 use Rattle.places.specs.Memory.{placesOf, pointerAt, valid}
-use Rattle.places.specs.Changes.{pointAll, freePlace, takeOf, shareOf, releaseOf, releaseAllOf, releaseRecordsOf}
-use Rattle.places.specs.Holder.{sameFamily}
-use Rattle.places.proofs.Bytes.{Holders, pointer-point, pointAll-is, pointer-records, length-records}
+use Rattle.places.specs.Changes.{pointAll, freePlace, shareOf, releaseOf, releaseAllOf, releaseRecordsOf}
+use Rattle.places.specs.Holder.{Holder, sameFamily}
+use Rattle.places.proofs.Bytes.{pointer-point, pointAll-is, pointer-records, length-records}
 use Rattle.places.proofs.Validity.{valid-is}
-use Rattle.places.proofs.Meaning.{take-valid, share-valid, releases-valid, records-valid}
+use Rattle.places.proofs.Meaning.{share-valid, releases-valid, records-valid}
 use Rattle.index.specs.Families.{start, capacity, highest, sameRecord}
 use Rattle.index.specs.Slots.{usedAt, firstId, secondId, isUsed, isAt, slotOf}
 use Rattle.index.specs.Changes.{iconsAt, removedOf, clearedOf, emptiedOf}
@@ -29,6 +29,7 @@ use Rattle.index.proofs.Memory.{Same, still-valid, Listed, Slotted, poi
 use Rattle.index.proofs.Soundness.{Within, within-slots, one-family, same-family, family-same, apart, found-within, at-has, slot-free, slot-used, slot-own, slot-cases, no-pointers-has, no-pointers-is, Sound, sound-is}
 use Rattle.index.proofs.Listed.{slotted-find, find-listed, find-freed}
 use Rattle.index.proofs.Shared.{icons-holders, removed-freed, removed-still}
+use Rattle.index.proofs.Held.{Held}
 
 -- a slot that is as it was, and is found as it was; without a record it still has no pointers
 slot-kept : (f : Family) (x y : List ℕ) (j : ℕ) → Same x y j → (usedAt x j ≡ 0 → noPointers x j ≡ true → noPointers y j ≡ true)
@@ -182,23 +183,17 @@ module _ (z y : List ℕ) (f : Family) (a b i : ℕ) (s : Sound z) (k : Slotted 
           let n : usedAt z j ≡ 1 = rw e m in
           omega arith
 
-module _ (z : List ℕ) (f : Family) (a b w i c : ℕ) (s : Sound z) (there : isAt z a b i ≡ true) (below : i < 48) (lw : w < 3) (lc : c < 12) where
-  abbrev two : List ℕ
-  two = c ∷ (12 + 3 * i + w) ∷ []
+-- an icon's holders take a place
+pub taken-sound : (z : List ℕ) (f : Family) (a b i : ℕ) → Sound z → isAt z a b i ≡ true → {ns : List ℕ} {hs : List Holder} → Held z i ns hs
+    → (p : ℕ) → freePlace z ns ≡ At p → Sound (pointAll z ns (p + 1))
+taken-sound z f a b i s there {ns} k p e =
+    let m = s .long in
+    pointed-sound z (pointAll z ns (p + 1)) f a b i s (points-slotted ns z (p + 1) (k .all) (s .long)) (k .kept p e) there
+    (λ j v ne l. ap (λ (r : ℕ → ℕ). r (12 + 3 * j + v)) (pointAll-is ns z (p + 1) (k .all) (omega arith)) ∙ rw (k .others j v ne l))
 
+module _ (z : List ℕ) (f : Family) (a b w i c : ℕ) (s : Sound z) (there : isAt z a b i ≡ true) (below : i < 48) (lw : w < 3) (lc : c < 12) where
   apart-from : (j v : ℕ) → (j ≡ i → ⊥) → v < 3 → eqb (12 + 3 * j + v) (12 + 3 * i + w) ≡ false
   apart-from j v ne l = ne-eqb (12 + 3 * j + v) (12 + 3 * i + w) (λ e. ne (omega arith))
-
-  pub taken-sound : (p : ℕ) → Holders two → freePlace z two ≡ At p → Sound (pointAll z two (p + 1))
-  unfolding takeOf
-  taken-sound p all e =
-      let m = s .long in
-      let t : takeOf z two ≡ pointAll z two (p + 1) = rw e in
-      let ok : valid (pointAll z two (p + 1)) ≡ true = rw (← t) (take-valid z (s .holders) c (12 + 3 * i + w) lc (omega arith) (omega arith)) in
-      pointed-sound z (pointAll z two (p + 1)) f a b i s (points-slotted two z (p + 1) all (s .long)) ok there
-      (λ j v ne l.
-      ap (λ (r : ℕ → ℕ). r (12 + 3 * j + v)) (pointAll-is two z (p + 1) all (omega arith))
-      ∙ rw (ne-eqb (12 + 3 * j + v) c (λ k. omega arith), apart-from j v ne l))
 
   pub shared-sound : Sound (shareOf z (12 + 3 * i + w) c)
   unfolding shareOf

@@ -4,6 +4,7 @@ pub mod Soundness
 pub mod Listed
 pub mod Ordered
 pub mod Shared
+pub mod Held
 pub mod Kept
 pub mod Numbered
 pub mod After

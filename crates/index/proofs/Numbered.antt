@@ -6,12 +6,10 @@ use Prim.Native.Nat.{ℕ, _+_, _≤_, _<_}
 use native.Mathlib.Omega.{arith}
 use lib.Dec.{eqb, leb}
 use lib.ListN.{length}
-use borrow.Author.Tests.{eq-eqb, eqb-true, le-leb, lt-leb, leb-false, not-true}
-use Rattle.wire.specs.Tests.{pick, both, either, has}
-use Rattle.wire.specs.Numbers.{numAt}
+use borrow.Author.Tests.{eq-eqb, eqb-true, le-leb, lt-leb, not-true}
+use Rattle.wire.specs.Tests.{pick, both, either}
 use Rattle.places.specs.declared.Family.{Family}
 use Rattle.places.specs.declared.Family.the-variants.{Windows, Notifications}
-use Rattle.protocol.specs.Flags.{flagBigIcon}
 use Rattle.places.specs.declared.Found.{Found}
 use Rattle.places.specs.declared.Found.the-variants.{At, Nothing}
 use Rattle.places.specs.Sharing.{full}
@@ -19,7 +17,7 @@ use Rattle.places.specs.Counts.{onFound}
 use Rattle.places.specs.Memory.{pointerAt, sharingOf, decode}
 use Rattle.places.specs.Changes.{freePlace}
 use Rattle.places.specs.Keyed.{keyed}
-use Rattle.places.specs.Holder.{cell, icon, sameFamily, sameHolder}
+use Rattle.places.specs.Holder.{cell, sameFamily, sameHolder}
 use Rattle.places.proofs.Counting.{found}
 use Rattle.places.proofs.Named.{cell-number}
 use Rattle.places.proofs.Meaning.{found-free}
@@ -31,21 +29,18 @@ use Rattle.index.specs.declared.Plan.{Plan}
 use Rattle.index.specs.declared.Plan.the-variants.{ChangeRecord, Refuse}
 use Rattle.index.specs.Families.{start, capacity, highest, sameRecord}
 use Rattle.index.specs.Slots.{isUsed, isFree, slotOf, freeOf, manyIn}
-use Rattle.index.specs.Orders.{isNew, bringsIcon, bringsCached, cellAt, noCell, whichOf, holdersOf}
+use Rattle.index.specs.Orders.{isNew, bringsIcon, bringsCached, cellAt, holdersOf}
 use Rattle.index.specs.Index.{notThere, noRoom, noPicture, noPlace, recordNumber}
 use Rattle.index.specs.Memory.{indexOf}
-use Rattle.index.specs.Plans.{slotFor, lacksPicture, pointerFor, changeOf, planAt, onPlace, planRecord}
+use Rattle.index.specs.Plans.{slotFor, lacksPicture, pointerFor, cellFor, changeOf, planAt, onPlace, planRecord}
 use Rattle.index.specs.Changes.{listedOf}
 use Rattle.index.proofs.Memory.{still-free, Listed, listed-is}
 use Rattle.index.proofs.Soundness.{never, Within, within-slots, same-family, found-within, free-within, Sound, slots-of}
 use Rattle.index.proofs.Listed.{find-listed, many-listed, no-room, some-room}
-use Rattle.index.proofs.Ordered.{Ordered, icon-names, cached-names}
-use Rattle.index.proofs.Shared.{sharingAt, listed-at, listed-sharing, full-is}
+use Rattle.index.proofs.Ordered.{Ordered, cached-alone, cached-names}
+use Rattle.index.proofs.Shared.{sharingAt, listed-at, listed-sharing}
+use Rattle.index.proofs.Held.{held}
 use Rattle.index.proofs.Kept.{listed-sound}
-
-pub which-small : (flags : ℕ) (t : Bool) → _<_ (pick t 1 0) 3
-which-small flags true = omega arith
-which-small flags false = omega arith
 
 -- ---- the memory z in which the record is listed in slot i: x itself, or x with a new record
 
@@ -127,14 +122,12 @@ module _ (x : List ℕ) (s : List ℕ) (o : RecordOrder) (i : ℕ) (sound : Soun
       go false t = old-ready t
 
   -- 17, once the slot is known
-  pub place-is : cellAt s (o .icon) < 12
-      → onFound (freePlace x (cellAt s (o .icon) ∷ pointerFor i (o .flags) ∷ [])) true (λ q. false) ≡ full sameHolder (holdersOf s o) (sharingAt x)
-  place-is lc =
+  pub place-is : bringsIcon (o .flags) ≡ true
+      → onFound (freePlace x (cellFor s o i ∷ pointerFor i (o .flags) ∷ [])) true (λ q. false) ≡ full sameHolder (holdersOf s o) (sharingAt x)
+  place-is t =
       let r = ready in
-      let w = whichOf (o .flags) in
-      let c = cellAt s (o .icon) in
-      ap (λ (v : Found). onFound v true (λ q. false)) (sym (r .free (c ∷ pointerFor i (o .flags) ∷ [])))
-      ∙ full-is (readied x o i) (r .sound) f a b w i c (r .at-i) (which-small (o .flags) (has (o .flags) flagBigIcon)) lc
+      ap (λ (v : Found). onFound v true (λ q. false)) (sym (r .free (cellFor s o i ∷ pointerFor i (o .flags) ∷ [])))
+      ∙ held (readied x o i) s o i (r .sound) h (r .at-i) t .refuses
       ∙ ap (full sameHolder (holdersOf s o)) (r .sharing)
 
 -- ---- 9 and 10
@@ -183,28 +176,22 @@ module _ (x s : List ℕ) (o : RecordOrder) (h : Ordered s o) where
 
   pub picture-is : lacksPicture x (o .flags) (cellAt s (o .icon)) ≡ noPicture (indexOf x) s o
   unfolding lacksPicture noPicture indexOf
-  picture-is = go (bringsIcon (o .flags)) (bringsCached (o .flags)) refl refl
+  picture-is = go (bringsCached (o .flags)) refl
     where
-      go : (t u : Bool) → bringsIcon (o .flags) ≡ t → bringsCached (o .flags) ≡ u
-          → pick t (leb 12 (cellAt s (o .icon))) (pick u (either (leb 12 (cellAt s (o .icon))) (eqb (pointerAt x (cellAt s (o .icon))) 0)) false)
-          ≡ pick t (eqb (numAt 1 s (o .icon + 2)) noCell)
-          (both u (not (sharingAt x .shares (cell (cellAt s (o .icon))) (cell (cellAt s (o .icon))))))
-      go true u m n = icon-names s o h m
-      go false true m n =
-          let l = cached-names s o h m n in
+      go : (t : Bool) → bringsCached (o .flags) ≡ t
+          → both t (either (leb 12 (cellAt s (o .icon))) (eqb (pointerAt x (cellAt s (o .icon))) 0))
+          ≡ both t (not (sharingAt x .shares (cell (cellAt s (o .icon))) (cell (cellAt s (o .icon)))))
+      go true e =
+          let l = cached-names s o h (cached-alone (o .flags) (h .agrees) e) e in
           rw (lt-leb 12 (cellAt s (o .icon)) l, cell-shares (cellAt s (o .icon)) l)
-      go false false m n = refl
-
-  pub icon-cell : lacksPicture x (o .flags) (cellAt s (o .icon)) ≡ false → bringsIcon (o .flags) ≡ true → cellAt s (o .icon) < 12
-  unfolding lacksPicture
-  icon-cell e t = let r : leb 12 (cellAt s (o .icon)) ≡ false = rw t at e in leb-false 12 (cellAt s (o .icon)) r
+      go false e = refl
 
 -- ---- the plan of a record
 
 pub record Planned (x s : List ℕ) (o : RecordOrder) (i place : ℕ) : Type 0 where
   pub placed : Placed x o i
   pub small : place < 64
-  pub icon : bringsIcon (o .flags) ≡ true → (cellAt s (o .icon) < 12) × (freePlace x (cellAt s (o .icon) ∷ pointerFor i (o .flags) ∷ []) ≡ At place)
+  pub icon : bringsIcon (o .flags) ≡ true → freePlace x (cellFor s o i ∷ pointerFor i (o .flags) ∷ []) ≡ At place
   pub cached : bringsIcon (o .flags) ≡ false → bringsCached (o .flags) ≡ true → cellAt s (o .icon) < 12
 
 pub data Outcome (x s : List ℕ) (o : RecordOrder) : Plan → Type 0 where
@@ -216,12 +203,12 @@ module _ (x s : List ℕ) (o : RecordOrder) (sound : Sound x) (h : Ordered s o) 
       → lacksPicture x (o .flags) (cellAt s (o .icon)) ≡ false → Outcome x s o (planAt x s o i)
   unfolding planAt recordNumber noPlace indexOf
   at-place i e9 e10 p lacks =
-      go (bringsIcon (o .flags)) refl (freePlace x (cellAt s (o .icon) ∷ pointerFor i (o .flags) ∷ [])) refl
+      go (bringsIcon (o .flags)) refl (freePlace x (cellFor s o i ∷ pointerFor i (o .flags) ∷ [])) refl
     where
       e11 : noPicture (indexOf x) s o ≡ false
       e11 = sym (picture-is x s o h) ∙ lacks
 
-      go : (t : Bool) → bringsIcon (o .flags) ≡ t → (w : Found) → freePlace x (cellAt s (o .icon) ∷ pointerFor i (o .flags) ∷ []) ≡ w
+      go : (t : Bool) → bringsIcon (o .flags) ≡ t → (w : Found) → freePlace x (cellFor s o i ∷ pointerFor i (o .flags) ∷ []) ≡ w
           → Outcome x s o
           (pick t (onFound w (Refuse 17) (λ p. ChangeRecord (changeOf s o i p))) (ChangeRecord (changeOf s o i 0)))
       go false t w e =
@@ -233,17 +220,17 @@ module _ (x s : List ℕ) (o : RecordOrder) (sound : Sound x) (h : Ordered s o) 
             cached = λ u v. cached-names s o h u v;
           })
       go true t Nothing e =
-          let k : full sameHolder (holdersOf s o) (sharingAt x) ≡ true = sym (place-is x s o i sound h p (icon-cell x s o h lacks t)) ∙ rw e in
+          let k : full sameHolder (holdersOf s o) (sharingAt x) ≡ true = sym (place-is x s o i sound h p t) ∙ rw e in
           refused 17 (λ z. omega arith) (rw (e9, e10, e11, t, k))
       go true t (At q) e =
-          let k : full sameHolder (holdersOf s o) (sharingAt x) ≡ false = sym (place-is x s o i sound h p (icon-cell x s o h lacks t)) ∙ rw e in
+          let k : full sameHolder (holdersOf s o) (sharingAt x) ≡ false = sym (place-is x s o i sound h p t) ∙ rw e in
           let v = valid-has x (sound .holders) in
-          let r = found-free x (cellAt s (o .icon) ∷ pointerFor i (o .flags) ∷ []) q e in
+          let r = found-free x (cellFor s o i ∷ pointerFor i (o .flags) ∷ []) q e in
           changes i q (rw (e9, e10, e11, t, k))
           (record {
             placed = p;
             small = omega (arith, r .low, v .many);
-            icon = λ u. (icon-cell x s o h lacks t, e);
+            icon = λ u. e;
             cached = λ u v. never (sym u ∙ t);
           })
 

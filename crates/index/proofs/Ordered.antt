@@ -28,7 +28,7 @@ use Rattle.places.specs.declared.Family.{Family}
 use Rattle.places.specs.declared.Family.the-variants.{Windows, Notifications}
 use Rattle.index.specs.declared.RecordOrder.{RecordOrder}
 use Rattle.index.specs.Families.{highest}
-use Rattle.index.specs.Orders.{isNew, isDelete, bringsIcon, bringsCached, cellAt}
+use Rattle.index.specs.Orders.{isNew, isDelete, bringsIcon, bringsCached, cellAt, sentOnce}
 
 number-small : (s : List ℕ) (at : ℕ) → Bytes s → numAt 4 s at < 4294967296
 number-small s at b =
@@ -86,6 +86,19 @@ deleted-old f flags h t =
     go Windows e = rw e
     go Notifications e = e
 
+-- a cached icon comes with no icon
+second-clash : (a b c d e f g : Bool) → either (either (either (either (either a (both b c)) d) e) f) g ≡ false → c ≡ true → b ≡ false
+second-clash false true true d e f g h t = h
+second-clash false true false d e f g h t = let z : _≡_ {A = ℕ} 0 1 = cc in absurd (omega arith)
+second-clash false false c d e f g h t = refl
+second-clash true b c d e f g h t = let z : _≡_ {A = ℕ} 0 1 = cc in absurd (omega arith)
+
+pub cached-alone : (flags : ℕ) → clash flags ≡ false → bringsCached flags ≡ true → bringsIcon flags ≡ false
+cached-alone flags h t =
+    second-clash (both (has flags flagDeleted) (has flags 0xD8FFFFFF)) (has flags flagIcon) (has flags flagCachedIcon)
+    (all (isWindow flags ∷ has flags flagsIcon ∷ has flags 0x28FFDFFF ∷ [])) (both (has flags flagBigIcon) (not (has flags flagsIcon)))
+    (all (isDesktop flags ∷ has flags desktopNone ∷ has flags 0xF8FFFFFE ∷ [])) (all (isDesktop flags ∷ has flags desktopArcCompleted ∷ has flags desktopArcBegan ∷ [])) h t
+
 -- ---- accepted orders
 
 pub record Ordered (s : List ℕ) (o : RecordOrder) : Type 0 where
@@ -128,7 +141,7 @@ module _ (s : List ℕ) (bytes : Bytes s) where
 
 module _ (s : List ℕ) (o : RecordOrder) (h : Ordered s o) where
   -- an icon names a cell unless its cache id is FF
-  pub icon-names : bringsIcon (o .flags) ≡ true → leb 12 (cellAt s (o .icon)) ≡ eqb (numAt 1 s (o .icon + 2)) 0xFF
+  pub icon-names : bringsIcon (o .flags) ≡ true → leb 12 (cellAt s (o .icon)) ≡ sentOnce s (o .icon)
   unfolding cellAt
   icon-names t =
       let i = an-icon (o .flags) s (o .icon) (omega (arith, h .low)) t (h .picture) in

@@ -10,7 +10,7 @@ use Rattle.places.specs.Sharing.{Sharing, isOne, drop, dropAll, via, join, fres
 use Rattle.places.specs.Holder.{Holder, cell, icon, sameFamily, sameHolder, iconsOf}
 use Rattle.index.specs.declared.RecordOrder.{RecordOrder}
 use Rattle.index.specs.Families.{sameRecord}
-use Rattle.index.specs.Orders.{isDelete, bringsIcon, bringsCached, cellAt, whichOf, pointerOf, holdersOf}
+use Rattle.index.specs.Orders.{isDelete, bringsIcon, bringsCached, cellAt, sentOnce, whichOf, pointerOf, holdersOf}
 use Rattle.index.specs.Index.{Index, pictured, without, withRecord, changeRecord}
 use Rattle.index.specs.Promises.{touched, OthersKeep, RecordsKeep}
 use Rattle.index.proofs.Soundness.{never}
@@ -97,10 +97,14 @@ untouched s o g x y w e = go (isDelete (o .flags)) (bringsIcon (o .flags)) (brin
     n : (v : ℕ) → sameHolder (icon g x y w) (icon (o .family) (o .window .id) (o .notify .id) v) ≡ false
     n v = other-icon (o .family) g (o .window .id) (o .notify .id) v x y w e
 
+    own : (t : Bool) → isOne sameHolder (pick t (pointerOf o ∷ []) (cell (cellAt s (o .icon)) ∷ pointerOf o ∷ [])) (icon g x y w) ≡ false
+    own true = rw (n (whichOf (o .flags)))
+    own false = rw (n (whichOf (o .flags)))
+
     go : (t u v : Bool)
         → isOne sameHolder (pick t (iconsOf (o .family) (o .window .id) (o .notify .id)) (pick u (holdersOf s o) (pick v (pointerOf o ∷ []) []))) (icon g x y w) ≡ false
     go true u v = rw (n 0, n 1, n 2)
-    go false true v = rw (n (whichOf (o .flags)))
+    go false true v = own (sentOnce s (o .icon))
     go false false true = rw (n (whichOf (o .flags)))
     go false false false = refl
 

@@ -11,20 +11,18 @@ use Rattle.wire.specs.Tests.{pick, either}
 use Rattle.places.specs.declared.Family.{Family}
 use Rattle.places.specs.declared.Found.{Found}
 use Rattle.places.specs.declared.Found.the-variants.{At, Nothing}
-use Rattle.places.specs.Sharing.{Sharing, drop, dropAll, join, taken, full, cellsOnly}
-use Rattle.places.specs.Counts.{onFound}
+use Rattle.places.specs.Sharing.{Sharing, drop, dropAll, join, cellsOnly}
 use Rattle.places.specs.Memory.{decode}
-use Rattle.places.specs.Changes.{pointAll, freePlace, takeOf, shareOf, releaseAllOf, releaseRecordsOf}
+use Rattle.places.specs.Changes.{shareOf, releaseAllOf, releaseRecordsOf}
 use Rattle.places.specs.Keyed.{keyed}
 use Rattle.places.specs.Holder.{Holder, cell, icon, sameHolder, numberOf, iconsOf, isCellHolder, noSlot}
 use Rattle.places.proofs.Bytes.{Holders}
-use Rattle.places.proofs.Meaning.{holders}
-use Rattle.places.proofs.Named.{cell-number, icon-number, icon-means, icon-full, cached-means}
+use Rattle.places.proofs.Named.{cell-number, icon-number, cached-means}
 use Rattle.places.proofs.Listing.{unlisted-means, deleted-means, none-means}
 use Rattle.index.specs.Families.{sameRecord}
 use Rattle.index.specs.Slots.{isUsed, isAt, slotOf}
 use Rattle.index.specs.Changes.{freedOf, iconsAt, removedOf, clearedOf}
-use Rattle.index.proofs.Memory.{Still, still-decode, Listed, Freed, freed-is, freed-still, Slotted, points-slotted, share-slotted, releases-slotted, Cleared, cleared-is, same-trans}
+use Rattle.index.proofs.Memory.{Still, still-decode, Listed, Freed, freed-is, freed-still, Slotted, share-slotted, releases-slotted, Cleared, cleared-is, same-trans}
 use Rattle.index.proofs.Soundness.{Within, within-slots, family-same, found-within, Sound, free-pointers, slots-of}
 use Rattle.index.proofs.Listed.{slotted-find, find-listed, find-freed, none-find}
 
@@ -99,21 +97,15 @@ module _ (f : Family) (x : List ℕ) (i a b : ℕ) (s : Sound x) (at-i : slotOf 
       ∙ deleted-means (slotOf x) (slotOf gone) (slots-of x) x (s .holders) f a b i at-i (finds f a b ∙ rw (own-record f a b))
       (λ g p q e. finds g p q ∙ rw e)
 
--- ---- an icon and a cached icon of a listed record
+-- ---- a cached icon of a listed record
 
 -- pointers alone changed
-same-slots : (x y : List ℕ) → Slotted x y → slotOf y ≡ slotOf x
+pub same-slots : (x y : List ℕ) → Slotted x y → slotOf y ≡ slotOf x
 same-slots x y h = λ i g p q. slotted-find x y h g p q i
 
 module _ (z : List ℕ) (s : Sound z) (f : Family) (a b w i c : ℕ) (at-i : slotOf z f a b ≡ At i) (lw : w < 3) (lc : c < 12) where
   abbrev num : Holder → ℕ
   num = numberOf (slotOf z)
-
-  abbrev hs : List Holder
-  hs = cell c ∷ icon f a b w ∷ []
-
-  abbrev two : List ℕ
-  two = c ∷ (12 + 3 * i + w) ∷ []
 
   low : i < 48
   low = within-slots f i (found-within f z a b i at-i)
@@ -123,30 +115,6 @@ module _ (z : List ℕ) (s : Sound z) (f : Family) (a b w i c : ℕ) (at-i : slo
 
   icon-is : num (icon f a b w) ≡ 12 + 3 * i + w
   icon-is = icon-number (slotOf z) (slots-of z) f a b w i at-i lw
-
-  numbers : map num hs ≡ two
-  numbers = rw (cell-is, icon-is)
-
-  pub two-holders : Holders two
-  two-holders = let l = low in holders c (12 + 3 * i + w) (omega arith) (omega arith)
-
-  -- 17
-  pub full-is : onFound (freePlace z two) true (λ p. false) ≡ full sameHolder hs (sharingAt z)
-  full-is =
-      ap (λ (ns : List ℕ). onFound (freePlace z ns) true (λ p. false)) (sym numbers)
-      ∙ icon-full (slotOf z) (slots-of z) z (s .holders) f a b w i at-i lw c lc
-
-  taken-is : (p : ℕ) → freePlace z two ≡ At p → takeOf z two ≡ pointAll z two (p + 1)
-  unfolding takeOf
-  taken-is p e = rw e
-
-  pub icon-sharing : (p : ℕ) → freePlace z two ≡ At p → sharingAt (pointAll z two (p + 1)) ≡ taken sameHolder hs (sharingAt z)
-  icon-sharing p e =
-      let y = pointAll z two (p + 1) in
-      ap (λ (slot : Family → ℕ → ℕ → Found). keyed (numberOf slot) (decode y)) (same-slots z y (points-slotted two z (p + 1) two-holders (s .long)))
-      ∙ ap (λ (m : List ℕ). keyed num (decode m)) (sym (taken-is p e))
-      ∙ ap (λ (ns : List ℕ). keyed num (decode (takeOf z ns))) (sym numbers)
-      ∙ icon-means (slotOf z) (slots-of z) z (s .holders) f a b w i at-i lw c lc
 
   pub cached-sharing : sharingAt (shareOf z (12 + 3 * i + w) c) ≡ join sameHolder (icon f a b w) (cell c) (drop sameHolder (icon f a b w) (sharingAt z))
   cached-sharing =

@@ -7,7 +7,7 @@ use native.Mathlib.Omega.{arith}
 use lib.Dec.{eqb, leb}
 use lib.Bits.{bitAnd}
 use lib.ListN.{length, getD, take, drop, replicate}
-use borrow.Author.Tests.{eq-eqb, ne-eqb, leb-false, le-leb, lt-leb, le-ltb, lt-ltb}
+use borrow.Author.Tests.{eq-eqb, ne-eqb, le-leb, lt-leb, le-ltb, lt-ltb}
 use Rattle.wire.specs.Tests.{pick, both, has}
 use Rattle.wire.specs.Numbers.{numAt, bytesOf}
 use Rattle.wire.specs.Parts.{slice, splice}
@@ -37,8 +37,8 @@ use Rattle.index.specs.declared.Plan.{Plan}
 use Rattle.index.specs.declared.Plan.the-variants.{ChangeRecord, ChangeDesktop, Refuse}
 use Rattle.index.specs.Families.{start, capacity}
 use Rattle.index.specs.Slots.{usedAt, firstId, secondId, isUsed, isFree, isAt, slotOf, freeOf, searchFrom, searchOf, slotHas}
-use Rattle.index.specs.Orders.{isNew, isDelete, bringsIcon, cellAt, whichOf}
-use Rattle.index.specs.Plans.{slotFor, lacksPicture, pointerFor, changeOf, planAt, planRecord, planOf}
+use Rattle.index.specs.Orders.{isNew, isDelete, cellAt, whichOf}
+use Rattle.index.specs.Plans.{slotFor, lacksPicture, pointerFor, besideOf, cellFor, changeOf, planAt, planRecord, planOf}
 use Rattle.index.specs.Changes.{listedOf, freedOf, removedOf, picturedOf, changedOf, clearedOf, emptiedOf, appliedOf, Fits, FitsPlan}
 use Rattle.index.specs.Sound.{eachFrom, noPointers, soundIndex, familyOk}
 use Rattle.index.proofs.Soundness.{never, within-slots, found-within, free-within, sound-has}
@@ -151,31 +151,29 @@ new-window f flags e = rw e
 pub new-notification : (f : Family) (flags : ℕ) → f ≡ Notifications → has flags flagNew ≡ isNew f flags
 new-notification f flags e = rw e
 
+-- the holder beside a pointer
+module _ (c pointer : ℕ) (l : pointer < 156) where
+  pub beside-itself : 12 ≤ c → (pointer ≡ besideOf c pointer) × (pointer < 156)
+  unfolding besideOf
+  beside-itself h = (rw (le-leb 12 c h), l)
+
+  pub beside-named : c < 12 → (c ≡ besideOf c pointer) × (c < 156)
+  unfolding besideOf
+  beside-named h = (rw (lt-leb 12 c h), omega arith)
+
 module _ (x : List ℕ) (flags c : ℕ) where
-  pub lacks-cell : (bitAnd flags flagIcon ≡ 0 → ⊥) → leb 12 c ≡ lacksPicture x flags c
+  pub lacks-none : bitAnd flags flagCachedIcon ≡ 0 → false ≡ lacksPicture x flags c
   unfolding lacksPicture
-  lacks-cell h = rw (ne-eqb (bitAnd flags flagIcon) 0 h)
+  lacks-none g = rw (eq-eqb (bitAnd flags flagCachedIcon) 0 g)
 
-  module _ (h : bitAnd flags flagIcon ≡ 0) where
-    module _ (g : bitAnd flags flagCachedIcon ≡ 0 → ⊥) where
-      pub cached-past : 12 ≤ c → true ≡ lacksPicture x flags c
-      unfolding lacksPicture
-      cached-past l = rw (eq-eqb (bitAnd flags flagIcon) 0 h, ne-eqb (bitAnd flags flagCachedIcon) 0 g, le-leb 12 c l)
-
-      pub cached-empty : c < 12 → eqb (getD x (c + 1) 0) 0 ≡ lacksPicture x flags c
-      unfolding lacksPicture
-      cached-empty l = rw (eq-eqb (bitAnd flags flagIcon) 0 h, ne-eqb (bitAnd flags flagCachedIcon) 0 g, lt-leb 12 c l, inside x c (omega arith))
-
-    pub lacks-none : bitAnd flags flagCachedIcon ≡ 0 → false ≡ lacksPicture x flags c
+  module _ (g : bitAnd flags flagCachedIcon ≡ 0 → ⊥) where
+    pub cached-past : 12 ≤ c → true ≡ lacksPicture x flags c
     unfolding lacksPicture
-    lacks-none g = rw (eq-eqb (bitAnd flags flagIcon) 0 h, eq-eqb (bitAnd flags flagCachedIcon) 0 g)
+    cached-past l = rw (ne-eqb (bitAnd flags flagCachedIcon) 0 g, le-leb 12 c l)
 
-  -- where it lacks none, an icon names a cell
-  pub has-cell : lacksPicture x flags c ≡ false → bringsIcon flags ≡ true → c < 12
-  unfolding lacksPicture
-  has-cell e t =
-      let r : leb 12 c ≡ false = rw t at e in
-      leb-false 12 c r
+    pub cached-empty : c < 12 → eqb (getD x (c + 1) 0) 0 ≡ lacksPicture x flags c
+    unfolding lacksPicture
+    cached-empty l = rw (ne-eqb (bitAnd flags flagCachedIcon) 0 g, lt-leb 12 c l, inside x c (omega arith))
 
 -- ---- 9 and 10
 
@@ -226,7 +224,8 @@ slot-small x o {p} {i} e g =
 
 -- ---- the plans
 
-pub change-is : (s : List ℕ) (o : RecordOrder) (i place : ℕ) {t : Bool} {c w : ℕ} → t ≡ isNew (o .family) (o .flags) → c ≡ cellAt s (o .icon) → w ≡ whichOf (o .flags)
+pub change-is : (s : List ℕ) (o : RecordOrder) (i place : ℕ) {t : Bool} {c w d : ℕ} → t ≡ isNew (o .family) (o .flags) → c ≡ cellAt s (o .icon) → w ≡ whichOf (o .flags)
+    → d ≡ besideOf c (12 + 3 * i + w)
     → record {
       family = o .family;
       slot = i;
@@ -236,22 +235,22 @@ pub change-is : (s : List ℕ) (o : RecordOrder) (i place : ℕ) {t : Bool} {c w
       notify = o .notify;
       flags = o .flags;
       icon = o .icon;
-      cell = c;
+      cell = d;
       pointer = 12 + 3 * i + w;
       place = place;
     }
     ≡ changeOf s o i place
-change-is s o i place e f g = rw (e, f, g)
+change-is s o i place e f g k = rw (k, e, f, g)
 
 module _ (x s : List ℕ) (o : RecordOrder) (i : ℕ) where
   pub plan-plain : bitAnd (o .flags) flagIcon ≡ 0 → {c : Change} → c ≡ changeOf s o i 0 → ChangeRecord c ≡ planAt x s o i
   unfolding planAt
   plan-plain h e = rw (eq-eqb (bitAnd (o .flags) flagIcon) 0 h, e)
 
-  module _ (h : bitAnd (o .flags) flagIcon ≡ 0 → ⊥) {c w : ℕ} (e : c ≡ cellAt s (o .icon)) (g : w ≡ whichOf (o .flags)) {f : Found}
-      (k : f ≡ freePlace x (c ∷ (12 + 3 * i + w) ∷ [])) where
-    place-at : freePlace x (cellAt s (o .icon) ∷ pointerFor i (o .flags) ∷ []) ≡ f
-    place-at = rw (← e, ← g) (sym k)
+  module _ (h : bitAnd (o .flags) flagIcon ≡ 0 → ⊥) {c w d : ℕ} (e : c ≡ cellAt s (o .icon)) (g : w ≡ whichOf (o .flags))
+      (b : d ≡ besideOf c (12 + 3 * i + w)) {f : Found} (k : f ≡ freePlace x (d ∷ (12 + 3 * i + w) ∷ [])) where
+    place-at : freePlace x (cellFor s o i ∷ pointerFor i (o .flags) ∷ []) ≡ f
+    place-at = rw (← e, ← g, ← b) (sym k)
 
     pub plan-full : f ≡ Nothing → Refuse 17 ≡ planAt x s o i
     unfolding planAt

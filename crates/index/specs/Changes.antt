@@ -33,7 +33,7 @@ iconsAt i = iconNumber i 0 ∷ iconNumber i 1 ∷ iconNumber i 2 ∷ []
 unfoldable pub removedOf : List ℕ → ℕ → List ℕ
 removedOf x i = freedOf (releaseAllOf x (iconsAt i)) i
 
--- an icon's holders at its place, a cached icon's pointer at its cell's
+-- an icon's holders (one, where cell and pointer are the same) at its place, a cached icon's pointer at its cell's
 unfoldable pub picturedOf : List ℕ → Change → List ℕ
 picturedOf x c =
     pick (bringsIcon (c .flags)) (pointAll x (c .cell ∷ c .pointer ∷ []) (c .place + 1))

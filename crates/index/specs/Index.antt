@@ -5,7 +5,6 @@ use mathlib.Core.Bool.{Bool, true, false, not}
 use mathlib.Core.List.{List}
 use lib.Dec.{eqb, leb}
 use Rattle.wire.specs.Tests.{pick, both, has}
-use Rattle.wire.specs.Numbers.{numAt}
 use Rattle.order.specs.Judge.{judgeOf}
 use Rattle.protocol.specs.Flags.{desktopNone}
 use Rattle.places.specs.declared.Family.{Family}
@@ -13,7 +12,7 @@ use Rattle.places.specs.Sharing.{Sharing, drop, dropAll, join, full, taken, cel
 use Rattle.places.specs.Holder.{Holder, cell, sameFamily, sameHolder, isCellHolder, iconsOf}
 use Rattle.index.specs.declared.RecordOrder.{RecordOrder}
 use Rattle.index.specs.Families.{capacity, sameRecord}
-use Rattle.index.specs.Orders.{onJudged, isNew, isDelete, bringsIcon, bringsCached, cellAt, noCell, pointerOf, holdersOf}
+use Rattle.index.specs.Orders.{onJudged, isNew, isDelete, bringsIcon, bringsCached, cellAt, pointerOf, holdersOf}
 
 pub record Index : Type 0 where
   pub listed : Family → ℕ → ℕ → Bool
@@ -33,11 +32,9 @@ notThere d o = pick (isNew (o .family) (o .flags)) (lists d o) (not (lists d o))
 unfoldable pub noRoom : Index → RecordOrder → Bool
 noRoom d o = both (isNew (o .family) (o .flags)) (leb (capacity (o .family)) (d .many (o .family)))
 
--- 11: an icon with cache id FF, a cached icon whose cell points at nothing
+-- 11: a cached icon whose cell points at nothing
 unfoldable pub noPicture : Index → List ℕ → RecordOrder → Bool
-noPicture d s o =
-    pick (bringsIcon (o .flags)) (eqb (numAt 1 s (o .icon + 2)) noCell)
-    (both (bringsCached (o .flags)) (not (d .sharing .shares (cell (cellAt s (o .icon))) (cell (cellAt s (o .icon))))))
+noPicture d s o = both (bringsCached (o .flags)) (not (d .sharing .shares (cell (cellAt s (o .icon))) (cell (cellAt s (o .icon)))))
 
 -- 17: an icon, where every place is still pointed at once its holders have let go
 unfoldable pub noPlace : Index → List ℕ → RecordOrder → Bool

@@ -2,6 +2,7 @@
 use Prim.Native.Nat.{ℕ, _+_, _*_}
 use mathlib.Core.Bool.{Bool, not}
 use mathlib.Core.List.{List, [], _∷_}
+use lib.Dec.{eqb}
 use Rattle.wire.specs.Tests.{pick, both, has}
 use Rattle.wire.specs.Numbers.{numAt}
 use Rattle.order.specs.declared.Judged.{Judged}
@@ -39,9 +40,9 @@ bringsCached flags = has flags flagCachedIcon
 unfoldable pub cellAt : List ℕ → ℕ → ℕ
 cellAt s at = 6 * numAt 1 s (at + 2) + numAt 2 s at
 
--- cache id FF names none
-abbrev pub noCell : ℕ
-noCell = 0xFF
+-- request No. 14: with cache id FF an icon names no cell
+abbrev pub sentOnce : List ℕ → ℕ → Bool
+sentOnce s at = eqb (numAt 1 s (at + 2)) 0xFF
 
 -- which of a record's icons is set: a window's big one, or else its small or only one
 abbrev pub whichOf : ℕ → ℕ
@@ -50,6 +51,6 @@ whichOf flags = pick (has flags flagBigIcon) 1 0
 abbrev pub pointerOf : RecordOrder → Holder
 pointerOf o = icon (o .family) (o .window .id) (o .notify .id) (whichOf (o .flags))
 
--- the holders of the picture that an icon brings: its cell and its pointer
+-- the holders of the picture that an icon brings: its cell and its pointer, or its pointer alone
 abbrev pub holdersOf : List ℕ → RecordOrder → List Holder
-holdersOf s o = cell (cellAt s (o .icon)) ∷ pointerOf o ∷ []
+holdersOf s o = pick (sentOnce s (o .icon)) (pointerOf o ∷ []) (cell (cellAt s (o .icon)) ∷ pointerOf o ∷ [])

@@ -1,9 +1,9 @@
 -- An order judged whole, on its bytes and on the memory of an index. Assumes nothing.
 use Prim.Native.Nat.{ℕ}
-use mathlib.Core.Bool.{Bool, false}
+use mathlib.Core.Bool.{Bool}
 use mathlib.Core.List.{List, [], _∷_}
 use lib.Dec.{eqb, leb}
-use Rattle.wire.specs.Tests.{pick, either}
+use Rattle.wire.specs.Tests.{pick, both, either}
 use Rattle.order.specs.Judge.{judgeOf}
 use Rattle.places.specs.Sizes.{cellCount}
 use Rattle.places.specs.Counts.{onFound}
@@ -28,14 +28,18 @@ slotFor x o =
 
 -- 11
 unfoldable pub lacksPicture : List ℕ → ℕ → ℕ → Bool
-lacksPicture x flags c =
-    pick (bringsIcon flags) (leb cellCount c)
-    (pick (bringsCached flags) (either (leb cellCount c) (eqb (pointerAt x c) 0))
-    false)
+lacksPicture x flags c = both (bringsCached flags) (either (leb cellCount c) (eqb (pointerAt x c) 0))
 
 -- the number of the pointer that an icon sets
 abbrev pub pointerFor : ℕ → ℕ → ℕ
 pointerFor i flags = iconNumber i (whichOf flags)
+
+-- the holder that takes a place with a pointer: the cell c, or the pointer itself where c is none
+unfoldable pub besideOf : ℕ → ℕ → ℕ
+besideOf c pointer = pick (leb cellCount c) pointer c
+
+abbrev pub cellFor : List ℕ → RecordOrder → ℕ → ℕ
+cellFor s o i = besideOf (cellAt s (o .icon)) (pointerFor i (o .flags))
 
 -- a record's change in slot i, its icon at a place (0 where it brings none)
 abbrev pub changeOf : List ℕ → RecordOrder → ℕ → ℕ → Change
@@ -49,7 +53,7 @@ changeOf s o i place =
       notify = o .notify;
       flags = o .flags;
       icon = o .icon;
-      cell = cellAt s (o .icon);
+      cell = cellFor s o i;
       pointer = pointerFor i (o .flags);
       place = place;
     }
@@ -58,7 +62,7 @@ changeOf s o i place =
 unfoldable pub planAt : List ℕ → List ℕ → RecordOrder → ℕ → Plan
 planAt x s o i =
     pick (bringsIcon (o .flags))
-    (onFound (freePlace x (cellAt s (o .icon) ∷ pointerFor i (o .flags) ∷ [])) (Refuse 17) (λ p. ChangeRecord (changeOf s o i p)))
+    (onFound (freePlace x (cellFor s o i ∷ pointerFor i (o .flags) ∷ [])) (Refuse 17) (λ p. ChangeRecord (changeOf s o i p)))
     (ChangeRecord (changeOf s o i 0))
 
 abbrev pub onPlace : Place → (ℕ → Plan) → Plan

@@ -5,10 +5,10 @@ ghost use mathlib.Core.Path.{_≡_};
 ghost use mathlib.Core.Bool.{true};
 ghost use Prim.Native.Nat.{_<_, _≤_};
 ghost use lib.ListN.{length};
-ghost use Rattle.places.specs.Sizes.{cellCount, slotCount};
+ghost use Rattle.places.specs.Sizes.{holderCount, slotCount};
 ghost use Rattle.index.specs.Families.{indexLength};
-ghost use Rattle.index.specs.Orders.{isNew, bringsIcon, cellAt, whichOf};
-ghost use Rattle.index.specs.Plans.{lacksPicture, slotFor, changeOf, planAt, planRecord, planOf, planNumber};
+ghost use Rattle.index.specs.Orders.{isNew, cellAt, whichOf};
+ghost use Rattle.index.specs.Plans.{besideOf, lacksPicture, slotFor, changeOf, planAt, planRecord, planOf, planNumber};
 ghost use Rattle.index.specs.Changes.{appliedOf};
 ghost use Rattle.index.specs.Sound.{soundIndex};
 use order::Judged;
@@ -47,7 +47,8 @@ pub enum Place {
 }
 
 // What an order changes that is not refused: the record of the ids, in its slot; for a new record, in the first free slot.
-// The cell and the pointer (numbers of holders) of an icon or cached icon, and the place that an icon takes.
+// The cell and the pointer (numbers of holders) of an icon or cached icon, and the place that an icon takes; an icon that names
+// no cell has its pointer for both.
 pub struct Change {
     pub family: Family,
     pub slot: usize,
@@ -90,21 +91,26 @@ fn which(flags: u32) -> usize
     }
 }
 
-// 11: an icon that names no cell, or a cached icon whose cell points at nothing.
+// The holder that takes a place with a pointer: the cell, or the pointer itself where that is none (cache id FF).
+fn beside(cell: usize, pointer: usize) -> usize
+    requires { ⌜ pointer < holderCount ⌝ }
+    ensures { λ r. ⌜ (r ≡ besideOf cell pointer) × (r < holderCount) ⌝ }
+{
+    if places::CELLS <= cell { pointer } else { cell }
+}
+
+// 11: a cached icon whose cell points at nothing.
 fn lacks_picture(index: &[u8], flags: u32, cell: usize) -> bool
     requires { ⌜ indexLength ≤ length (now index) ⌝ }
     ensures { λ r. ⌜ r ≡ lacksPicture (now (index .entry)) flags cell ⌝ }
 {
-    if flags & protocol::ICON != 0 {
-        return places::CELLS <= cell;
+    if flags & protocol::CACHED_ICON == 0 {
+        return false;
     }
-    if flags & protocol::CACHED_ICON != 0 {
-        if places::CELLS <= cell {
-            return true;
-        }
-        return index[cell + 1] == 0;
+    if places::CELLS <= cell {
+        return true;
     }
-    false
+    index[cell + 1] == 0
 }
 
 // A new record is asked for.
@@ -160,6 +166,8 @@ fn change_at(s: &[u8], o: RecordOrder, i: usize, place: usize) -> Change
     let icon = o.icon;
     let c = cell(s, icon);
     let w = which(flags);
+    let pointer = places::CELLS + places::ICONS_EACH * i + w;
+    let held = beside(c, pointer);
     Change {
         family,
         slot: i,
@@ -169,8 +177,8 @@ fn change_at(s: &[u8], o: RecordOrder, i: usize, place: usize) -> Change
         notify,
         flags,
         icon,
-        cell: c,
-        pointer: places::CELLS + places::ICONS_EACH * i + w,
+        cell: held,
+        pointer,
         place,
     }
 }
@@ -178,7 +186,6 @@ fn change_at(s: &[u8], o: RecordOrder, i: usize, place: usize) -> Change
 // 17, or the change of a record in slot i.
 fn plan_at(index: &[u8], s: &[u8], o: RecordOrder, i: usize) -> Plan
     requires { ⌜ (soundIndex (now index) ≡ true) × (i < slotCount) ⌝ }
-    requires { ⌜ (bringsIcon (o .flags) ≡ true → cellAt (now s) (o .icon) < cellCount) ⌝ }
     ensures { λ r. ⌜ r ≡ planAt (now (index .entry)) (now (s .entry)) o i ⌝ }
 {
     let flags = o.flags;
@@ -187,7 +194,9 @@ fn plan_at(index: &[u8], s: &[u8], o: RecordOrder, i: usize) -> Plan
     }
     let c = cell(s, o.icon);
     let w = which(flags);
-    let f = places::free_place(index, c, places::CELLS + places::ICONS_EACH * i + w);
+    let pointer = places::CELLS + places::ICONS_EACH * i + w;
+    let held = beside(c, pointer);
+    let f = places::free_place(index, held, pointer);
     let Found::At(p) = f else {
         return Plan::Refuse(17);
     };

@@ -64,7 +64,7 @@ pictured-places s o t = go (bringsIcon (o .flags)) (bringsCached (o .flags)) (fu
         → pick a (pick c t (fresh sameHolder (holdersOf s o) (dropAll sameHolder (holdersOf s o) t)))
         (pick b (join sameHolder (pointerOf o) (cell (cellAt s (o .icon))) (drop sameHolder (pointerOf o) t)) t) .places ≡ t .places
     go true b true = refl
-    go true b false = refl
+    go true b false = drops-places (holdersOf s o) t
     go false true c = refl
     go false false c = refl
 

@@ -18,9 +18,9 @@ use Rattle.places.proofs.Meaning.{found-free}
 use Rattle.index.specs.declared.RecordOrder.{RecordOrder}
 use Rattle.index.specs.declared.Plan.{Plan}
 use Rattle.index.specs.declared.Plan.the-variants.{ChangeRecord, ChangeDesktop, Refuse}
-use Rattle.index.specs.Orders.{isDelete, bringsIcon, cellAt}
+use Rattle.index.specs.Orders.{isDelete, bringsIcon}
 use Rattle.index.specs.Memory.{indexOf}
-use Rattle.index.specs.Plans.{pointerFor, changeOf, planOf, planNumber}
+use Rattle.index.specs.Plans.{pointerFor, cellFor, changeOf, planOf, planNumber}
 use Rattle.index.specs.Changes.{emptiedOf, appliedOf, FitsPlan}
 use Rattle.index.specs.Sound.{soundIndex}
 use Rattle.index.proofs.Soundness.{within-slots, free-is, never, sound-has}
@@ -105,7 +105,7 @@ module _ (x b s : List ℕ) (store : List (List ℕ)) (bytes : Bytes s) (sound :
       icon e = ordered-icon s o (k .ordered) (brings (isDelete (o .flags)) e)
 
       low : putsPicture (changeOf s o i place) ≡ true → place < placesOf x
-      low e = found-free x (cellAt s (o .icon) ∷ pointerFor i (o .flags) ∷ []) place (p .icon (brings (isDelete (o .flags)) e) .1) .low
+      low e = found-free x (cellFor s o i ∷ pointerFor i (o .flags) ∷ []) place (p .icon (brings (isDelete (o .flags)) e)) .low
 
   changed : (p : Plan) → Planning x s p → FitsPlan p → Changed p
   unfolding appliedOf storeBy picturesBy slotsBy headsBy

@@ -5,6 +5,7 @@ pub mod Past
 pub mod Shown
 pub mod Rule
 pub mod Promises
+pub mod SentOnce
 pub mod Bodied
 pub mod Heads
 pub mod Pointed

@@ -16,7 +16,7 @@ use Rattle.places.specs.Sharing.{isOne}
 use Rattle.places.specs.Holder.{Holder, cell, icon, sameFamily, sameHolder}
 use Rattle.index.specs.declared.RecordOrder.{RecordOrder}
 use Rattle.index.specs.Families.{sameRecord}
-use Rattle.index.specs.Orders.{onJudged, bringsIcon, bringsCached, cellAt, whichOf, pointerOf, holdersOf}
+use Rattle.index.specs.Orders.{onJudged, bringsIcon, bringsCached, cellAt, sentOnce, whichOf, pointerOf, holdersOf}
 use Rattle.index.specs.Index as index
 use Rattle.index.specs.Promises.{touched}
 use Rattle.index.proofs.Soundness.{never, family-same}
@@ -36,7 +36,7 @@ module _ (t : Table) (s : List ℕ) (o : RecordOrder) (u : Updates t s o) where
   changed-on (Desktop w) e = let z : _≡_ {A = ℕ} 0 1 = cc in absurd (omega arith)
   changed-on (Refused r) e = let z : _≡_ {A = ℕ} 0 1 = cc in absurd (omega arith)
 
-  after-is : after t s ≡ changeRecord t s o
+  pub after-is : after t s ≡ changeRecord t s o
   unfolding after
   after-is = rw (u .accepted) (changed-on (judgeOf s) (u .judged))
 
@@ -111,8 +111,13 @@ module _ (t : Table) (s : List ℕ) (o : RecordOrder) (u : Updates t s o) where
       pointer true false j k e = refl
       pointer false i j k e = refl
 
+      own : (t : Bool) → sameHolder (icon g x y w) (pointerOf o) ≡ false
+          → isOne sameHolder (pick t (pointerOf o ∷ []) (cell (cellAt s (o .icon)) ∷ pointerOf o ∷ [])) (icon g x y w) ≡ false
+      own true n = rw n
+      own false n = rw n
+
       go : (i c : Bool) → sameHolder (icon g x y w) (pointerOf o) ≡ false → isOne sameHolder (pick i (holdersOf s o) (pick c (pointerOf o ∷ []) [])) (icon g x y w) ≡ false
-      go true c n = rw n
+      go true c n = own (sentOnce s (o .icon)) n
       go false true n = rw n
       go false false n = refl
 

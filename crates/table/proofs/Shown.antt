@@ -24,8 +24,8 @@ use Rattle.places.proofs.Counting.{found}
 use Rattle.places.proofs.Bytes.{outside, pointAll-is}
 use Rattle.places.proofs.Validity.{valid-has}
 use Rattle.places.proofs.Keyed.{Own, keyed-one}
-use Rattle.places.proofs.Named.{cell-number, icon-number, own-icon, same-record, icon-shown}
-use Rattle.places.proofs.Pictures.{share-shown, records-shown}
+use Rattle.places.proofs.Named.{cell-number, icon-number, own-icon, same-record}
+use Rattle.places.proofs.Pictures.{take-shown, share-shown, records-shown}
 use Rattle.index.specs.declared.RecordOrder.{RecordOrder}
 use Rattle.index.specs.declared.Plan.{Plan}
 use Rattle.index.specs.declared.Plan.the-variants.{ChangeRecord, ChangeDesktop, Refuse}
@@ -34,15 +34,16 @@ use Rattle.index.specs.Slots.{isAt, slotOf}
 use Rattle.index.specs.Orders.{onJudged, isNew, isDelete, bringsIcon, bringsCached, cellAt, whichOf, pointerOf, holdersOf}
 use Rattle.index.specs.Index as index
 use Rattle.index.specs.Memory.{indexOf}
-use Rattle.index.specs.Plans.{pointerFor, changeOf, planRecord, planOf}
+use Rattle.index.specs.Plans.{pointerFor, cellFor, changeOf, planRecord, planOf}
 use Rattle.index.specs.Changes.{listedOf, iconsAt, removedOf, picturedOf, changedOf, clearedOf, appliedOf}
 use Rattle.index.specs.Sound.{soundIndex}
 use Rattle.index.proofs.Memory.{Listed, listed-is, Slotted, points-slotted, share-slotted, Cleared, cleared-is}
 use Rattle.index.proofs.Soundness.{within-slots, Sound, sound-has, free-pointers, slots-of}
 use Rattle.index.proofs.Listed.{slotted-find, find-listed, find-freed, none-find}
 use Rattle.index.proofs.Ordered.{Ordered, deleted-old, windowOrder, notificationOrder, ordered-window, ordered-notification}
-use Rattle.index.proofs.Shared.{listed-at, removed-freed, removed-still, icons-holders, two-holders}
-use Rattle.index.proofs.Numbered.{which-small, readied, Ready, ready, Planned, Outcome, refused, changes, outcome}
+use Rattle.index.proofs.Shared.{listed-at, removed-freed, removed-still, icons-holders}
+use Rattle.index.proofs.Held.{which-small, beside-cell, held}
+use Rattle.index.proofs.Numbered.{readied, Ready, ready, Planned, Outcome, refused, changes, outcome}
 use Rattle.cache.specs.Cells.{carriedPicture}
 use Rattle.table.specs.Table.{Table, number, shownAfter, changeRecord, changeDesktop, after}
 use Rattle.table.specs.Memory.{shownIn}
@@ -133,8 +134,9 @@ module _ (x s : List ℕ) (o : RecordOrder) (i place : ℕ) (sound : Sound x) (h
   abbrev z : List ℕ
   z = readied x o i
 
-  abbrev two : List ℕ
-  two = c ∷ pointerFor i (o .flags) ∷ []
+  -- its picture's holders, as numbers
+  abbrev ns : List ℕ
+  ns = cellFor s o i ∷ pointerFor i (o .flags) ∷ []
 
   r : Ready x z o i
   r = ready x s o i sound h (p .placed)
@@ -211,30 +213,25 @@ module _ (x s : List ℕ) (o : RecordOrder) (i place : ℕ) (sound : Sound x) (h
       go true = refl
       go false = refl
 
-  taken-is : freePlace z two ≡ At place → takeOf z two ≡ pointAll z two (place + 1)
+  taken-is : freePlace z ns ≡ At place → takeOf z ns ≡ pointAll z ns (place + 1)
   unfolding takeOf
   taken-is e = rw e
 
   -- an icon's holders show its picture
   brought-shown : bringsIcon (o .flags) ≡ true → (q : List ℕ) (g : Holder)
-      → pick (isOne sameHolder (holdersOf s o) g) (some q) (shownIn x pictures g) ≡ shownIn (pointAll z two (place + 1)) (withPicture pictures place q) g
+      → pick (isOne sameHolder (holdersOf s o) g) (some q) (shownIn x pictures g) ≡ shownIn (pointAll z ns (place + 1)) (withPicture pictures place q) g
   brought-shown t q g =
-      let n = p .icon t in
-      let free : freePlace z two ≡ At place = r .free two ∙ n .1 in
-      let all = two-holders z (r .sound) f a b w i c (r .at-i) which (n .0) in
-      let m = pointAll z two (place + 1) in
+      let free : freePlace z ns ≡ At place = r .free ns ∙ p .icon t in
+      let e = held z s o i (r .sound) h (r .at-i) t in
+      let m = pointAll z ns (place + 1) in
       let k = numberOf (slotOf z) g in
       let now = withPicture pictures place q in
-      let e = numbers (n .0) in
       sym
-      (ap (shown m now) (slotted-number z m (points-slotted two z (place + 1) all (r .sound .long)) g)
+      (ap (shown m now) (slotted-number z m (points-slotted ns z (place + 1) (e .all) (r .sound .long)) g)
       ∙ ap (λ (y : List ℕ). shown y now k) (sym (taken-is free))
-      ∙ ap (λ (ns : List ℕ). shown (takeOf z ns) now k) (sym e)
-      ∙ icon-shown (slotOf z) (slots-of z) z (r .sound .holders) f a b w i (r .at-i) which c (n .0) place (ap (freePlace z) e ∙ free) pictures q g
+      ∙ take-shown z (r .sound .holders) ns (e .all) place free pictures q k
+      ∙ ap (λ (b : Bool). pick b (some q) (shown z pictures k)) (e .among g)
       ∙ ap (pick (isOne sameHolder (holdersOf s o) g) (some q)) (ready-shown g))
-    where
-      numbers : c < 12 → map (numberOf (slotOf z)) (holdersOf s o) ≡ two
-      numbers l = rw (cell-number (slotOf z) (slots-of z) c l, icon-number (slotOf z) (slots-of z) f a b w i (r .at-i) which)
 
   -- a cached icon's pointer shows what its cell shows
   cached-shown : bringsIcon (o .flags) ≡ false → bringsCached (o .flags) ≡ true → (g : Holder)
@@ -266,11 +263,11 @@ module _ (x s : List ℕ) (o : RecordOrder) (i place : ℕ) (sound : Sound x) (h
           → pick u (pick (isOne sameHolder (iconsOf f a b) g) none (shownIn x pictures g))
           (pick v (pick (isOne sameHolder (holdersOf s o) g) (some (carriedPicture s (o .icon))) (shownIn x pictures g))
           (pick k (pick (sameHolder g (pointerOf o)) (shownIn x pictures (cell c)) (shownIn x pictures g)) (shownIn x pictures g)))
-          ≡ shownIn (pick u (removedOf x i) (pick v (pointAll z two (place + 1)) (pick k (shareOf z (pointerFor i (o .flags)) c) z)))
+          ≡ shownIn (pick u (removedOf x i) (pick v (pointAll z ns (place + 1)) (pick k (shareOf z (pointerFor i (o .flags)) (cellFor s o i)) z)))
           (pick (pick u false v) (withPicture pictures place (carriedPicture s (o .icon))) pictures) g
       go true v k d e m = removed-shown d g
       go false true k d e m = brought-shown e (carriedPicture s (o .icon)) g
-      go false false true d e m = cached-shown e m g
+      go false false true d e m = rw (beside-cell c (pointerFor i (o .flags)) (p .cached e m)) (cached-shown e m g)
       go false false false d e m = sym (ready-shown g)
 
 -- ---- an order for a record, judged

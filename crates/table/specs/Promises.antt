@@ -11,7 +11,7 @@ use Rattle.places.specs.Sharing.{isOne}
 use Rattle.places.specs.Holder.{Holder, cell, icon, sameHolder}
 use Rattle.index.specs.declared.RecordOrder.{RecordOrder}
 use Rattle.index.specs.Families.{sameRecord}
-use Rattle.index.specs.Orders.{onJudged, isDelete, bringsIcon, bringsCached, cellAt, pointerOf, holdersOf}
+use Rattle.index.specs.Orders.{onJudged, isDelete, bringsIcon, bringsCached, cellAt, sentOnce, pointerOf, holdersOf}
 use Rattle.index.specs.Index.{indexAfter}
 use Rattle.index.specs.Promises.{touched}
 use Rattle.body.specs.Bodies.{SetsFlagged}
@@ -28,8 +28,8 @@ pub record Updates (t : Table) (s : List ℕ) (o : RecordOrder) : Type 0 where
   pub accepted : number t s ≡ 0
   pub stays : isDelete (o .flags) ≡ false
 
--- exactly the flagged fields are set, each to the carried value; no other record and no desktop state changes. An icon's cell and
--- pointer show its picture, a cached icon's pointer shows what its cell shows; no other window and no other notification icon shows
+-- exactly the flagged fields are set, each to the carried value; no other record and no desktop state changes. An icon's holders
+-- show its picture, a cached icon's pointer shows what its cell shows; no other window and no other notification icon shows
 -- another picture, and no cell but the one that an icon names
 pub record Updated (t : Table) (s : List ℕ) (o : RecordOrder) : Type 0 where
   pub listed : after t s .index .listed (o .family) (o .window .id) (o .notify .id) ≡ true
@@ -44,6 +44,19 @@ pub record Updated (t : Table) (s : List ℕ) (o : RecordOrder) : Type 0 where
 
 unfoldable pub UpdatesKeep : Type 0
 UpdatesKeep = (t : Table) (s : List ℕ) (o : RecordOrder) → Updates t s o → Updated t s o
+
+-- request No. 14, an icon with cache id FF: its window or notification icon shows the picture and shares it with no other holder; every
+-- other holder shows what it did, each cell and each icon of another record among them, and shares what it did
+pub record OnceOnly (t : Table) (s : List ℕ) (o : RecordOrder) : Type 0 where
+  pub own : after t s .shown (pointerOf o) ≡ some (carriedPicture s (o .icon))
+  pub alone : (h : Holder) → sameHolder h (pointerOf o) ≡ false → after t s .index .sharing .shares h (pointerOf o) ≡ false
+  pub others : (h : Holder) → sameHolder h (pointerOf o) ≡ false → after t s .shown h ≡ t .shown h
+  pub sharing : (h k : Holder) → sameHolder h (pointerOf o) ≡ false → sameHolder k (pointerOf o) ≡ false
+      → after t s .index .sharing .shares h k ≡ t .index .sharing .shares h k
+  pub cells : (c : ℕ) → after t s .shown (cell c) ≡ t .shown (cell c)
+
+unfoldable pub OnceKeeps : Type 0
+OnceKeeps = (t : Table) (s : List ℕ) (o : RecordOrder) → Updates t s o → bringsIcon (o .flags) ≡ true → sentOnce s (o .icon) ≡ true → OnceOnly t s o
 
 -- judging a run of orders needs the index alone: the index after an order is decided by the index before it
 unfoldable pub IndexAlone : Type 0

@@ -37,7 +37,7 @@ pub enum Refusal {
     WrongId = 9,
     /// 10: a new record is asked for and its table is full.
     TableFull = 10,
-    /// 11: an icon that no cache is to hold, or a cached icon naming an empty cell.
+    /// 11: a cached icon naming an empty cell.
     NoCell = 11,
     /// 12: the room for orders after the checkpoint would be passed.
     HistoryFull = 12,
@@ -111,7 +111,7 @@ impl Refusal {
             Refusal::OutsideSet => "a field's number is outside its allowed set",
             Refusal::WrongId => "the id must be in the table and isn't, or must not be and is",
             Refusal::TableFull => "a new record is asked for and its table is full",
-            Refusal::NoCell => "icon with cache id FF, or cached icon naming an empty cell",
+            Refusal::NoCell => "cached icon naming an empty cell",
             Refusal::HistoryFull => "history room would be passed",
             Refusal::TooManySteps => "more steps back than stand after the mark",
             Refusal::OutputTooSmall => "output memory too small",

@@ -55,7 +55,8 @@ pub struct Changed {
     pub what: Change,
     /// FieldsPresentFlags: see [`protocol`](crate::protocol).
     pub flags: u32,
-    /// The cell with a new picture. What was given the cell's picture before keeps it.
+    /// The cell with a new picture, none with cache id FF. What was given the cell's picture
+    /// before keeps it.
     pub filled: Option<CacheCell>,
 }
 
@@ -263,6 +264,9 @@ mod tests {
         let filled = |flags, fields: &[&[u8]]| Changed::of(&order(flags, fields))?.filled;
         assert_eq!(filled(0x4100_0000, &[&WINDOW, &PICTURE]), cell);
         assert_eq!(filled(0x8100_0000, &[&WINDOW, &PICTURE]), None);
+        let mut sent_once = PICTURE;
+        sent_once[2] = 0xFF;
+        assert_eq!(filled(0x4100_0000, &[&WINDOW, &sent_once]), None);
         let fields: [(u32, &[u8]); 4] = [
             (8, &[4, 0, 0, 0]),
             (1, &[2, 0, 0x41, 0]),

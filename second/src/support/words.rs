@@ -17,7 +17,7 @@ pub fn condition(number: u8) -> &'static str {
         8 => "a field's number is outside its allowed set",
         9 => "the id must be in the table and isn't, or must not be and is",
         10 => "a new record is asked for and its table is full",
-        11 => "icon with cache id FF, or cached icon naming an empty cell",
+        11 => "cached icon naming an empty cell",
         12 => "history room would be passed",
         13 => "more steps back than stand after the mark",
         14 => "output memory too small",

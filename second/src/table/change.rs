@@ -5,7 +5,7 @@ use super::{Holder, NOTIFICATION_ICONS, WINDOWS};
 use crate::ids::WindowId;
 use crate::number::{NO_CELL, NO_PLACE, TABLE_FULL, WRONG_ID};
 use crate::order::rules::{ID_SIZE, NO_CACHE, RECT_SIZE};
-use crate::order::{DesktopFields, DesktopOrder, Icon, Order, Picture};
+use crate::order::{CellPlace, DesktopFields, DesktopOrder, Icon, Order, Picture};
 use crate::order::{NotificationChange, NotificationFields, NotificationOrder};
 use crate::order::{WindowChange, WindowFields, WindowOrder};
 
@@ -30,7 +30,7 @@ pub fn number(table: &Table, order: &Order<'_>) -> u8 {
         WRONG_ID
     } else if new && full {
         TABLE_FULL
-    } else if given.is_some_and(|(_, picture)| !has_cell(table, &picture)) {
+    } else if given.is_some_and(|(_, picture)| is_of_empty_cell(table, &picture)) {
         NO_CELL
     } else if brings_icon(order).is_some_and(|setting| table.is_full_for(&setting)) {
         NO_PLACE
@@ -39,11 +39,20 @@ pub fn number(table: &Table, order: &Order<'_>) -> u8 {
     }
 }
 
-/// The cell and the pointer that an order sets, if it brings an icon for a cell.
-pub fn brings_icon(order: &Order<'_>) -> Option<[Holder; 2]> {
+/// Those that an order sets, if it brings an icon: its cell, where it names one, and last
+/// its pointer.
+pub fn brings_icon(order: &Order<'_>) -> Option<Vec<Holder>> {
     match given(order)? {
-        (holder, Picture::Icon(icon)) => Some([icon.place.into(), holder]),
+        (holder, Picture::Icon(icon)) => Some(setting(icon.place, holder)),
         (_, Picture::Cached(_)) => None,
+    }
+}
+
+/// Those that an icon for a place and a pointer sets: with cache id FF, the pointer alone.
+pub fn setting(place: CellPlace, pointer: Holder) -> Vec<Holder> {
+    match place.cache {
+        NO_CACHE => vec![pointer],
+        _ => vec![place.into(), pointer],
     }
 }
 
@@ -72,11 +81,11 @@ fn given<'a>(order: &Order<'a>) -> Option<(Holder, Picture<'a>)> {
     }
 }
 
-/// Whether a picture has a cell to go to, or comes from a filled one.
-fn has_cell(table: &Table, picture: &Picture<'_>) -> bool {
+/// Whether a picture is to come from a cell that has none.
+fn is_of_empty_cell(table: &Table, picture: &Picture<'_>) -> bool {
     match picture {
-        Picture::Icon(icon) => icon.place.cache != NO_CACHE,
-        Picture::Cached(place) => table.cell(*place).is_some(),
+        Picture::Icon(_) => false,
+        Picture::Cached(place) => table.cell(*place).is_none(),
     }
 }
 
@@ -139,11 +148,11 @@ impl Table {
     }
 
     /// Gives a picture to a holder: one that is carried goes to a place of its own, for
-    /// its cell and the holder; of a cell, its place is shared.
+    /// the holder and its cell, if it has one; of a cell, its place is shared.
     fn give(&mut self, holder: Holder, picture: &Picture<'_>) {
         match picture {
             Picture::Icon(icon) => {
-                let setting = [icon.place.into(), holder];
+                let setting = setting(icon.place, holder);
                 self.store.take(&setting, Cell::of(icon));
             }
             Picture::Cached(place) => self.store.share(holder, (*place).into()),

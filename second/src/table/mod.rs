@@ -3,7 +3,7 @@
 mod change;
 mod store;
 
-pub use change::{brings_icon, number};
+pub use change::{brings_icon, number, setting};
 pub use store::{Holder, Store, FEWEST_PLACES, MOST_PLACES, PLACE_SIZE};
 
 use std::collections::BTreeMap;

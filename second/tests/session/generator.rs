@@ -123,7 +123,7 @@ fn what_is_missing_is_named() {
 }
 
 /// The calls, the limits of document 01's table and history rules, and those of the store.
-const NAMED: [&str; 84] = [
+const NAMED: [&str; 88] = [
     "E lent=11 1",
     "E lent=70 0",
     "E places=12 0",
@@ -188,7 +188,11 @@ const NAMED: [&str; 84] = [
     "D entry=6 8",
     "D cache=1 0",
     "D cache=2 8",
-    "D cache=255 11",
+    "D cache=255 0",
+    "D entry=65535 0",
+    "D sent once 17",
+    "D sent once over what a cell has",
+    "B takes back one sent once",
     "D cached_entry=5 0",
     "D cached_entry=6 8",
     "D cached_cache=1 0",
@@ -197,7 +201,7 @@ const NAMED: [&str; 84] = [
     "D new window 10",
     "D new notification with icon 10",
     "D small cached icon 11",
-    "D big icon 11",
+    "D big cached icon 11",
     "D clash window icon with 00000010",
     "D desktop outside=20000000 5",
     "D orders=128 0",

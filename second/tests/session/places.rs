@@ -86,7 +86,8 @@ impl Numbered {
                 return 17;
             };
             self.pictures[place] = table.shown(setting[0]).cloned();
-            self.pointers.extend(setting.map(|holder| (holder, place)));
+            let pointers = setting.into_iter().map(|holder| (holder, place));
+            self.pointers.extend(pointers);
             return 0;
         }
         match order {
@@ -201,7 +202,7 @@ fn others_keep(before: &Table, after: &Table, order: &Order<'_>) {
         (Order::Notification(order), Holder::Notification(window, icon)) => {
             (window, icon) == (order.window_id, order.notify_icon_id)
         }
-        (order, Holder::Cell(..)) => brings_icon(order).is_some_and(|set| set[0] == holder),
+        (order, Holder::Cell(..)) => brings_icon(order).is_some_and(|set| set.contains(&holder)),
         _ => false,
     };
     for holder in before.store().holders().chain(after.store().holders()) {

@@ -228,11 +228,11 @@ fn the_new_bit_counts_on_notification_icons() {
 fn no_cache() {
     let mut book = book_of(&[(NEW_WINDOW, ID)]);
     for (flags, ids, expected) in [
-        (0x4100_0000, ID, 11),
-        (0x4100_2000, ID, 11),
-        (0x5200_0000, IDS, 11),
         (0x4200_0000, IDS, 9),
         (0x4100_0000, "01000000", 9),
+        (0x4100_0000, ID, 0),
+        (0x4100_2000, ID, 0),
+        (0x5200_0000, IDS, 0),
     ] {
         assert_eq!(
             deliver(&mut book, flags, &picture(ids, 0xFF, 9, 1)),
@@ -240,6 +240,11 @@ fn no_cache() {
         );
     }
     assert_eq!(book.table().filled_cells().count(), 0);
+    assert_eq!(book.table().store().used(), 3);
+    for holder in [SMALL, BIG, NOTIFICATION] {
+        assert_eq!(shown(&book, holder), [1]);
+        assert_eq!(book.table().store().sharing(holder).count(), 1);
+    }
 }
 
 #[test]

@@ -43,7 +43,7 @@ fn stored_script() {
     let text = include_str!("../../scripts/session.txt");
     let expected = text.lines().filter_map(|line| line.split_once("# => "));
     let expected: Vec<&str> = expected.map(|(_, line)| line).collect();
-    assert_eq!(expected.len(), 511);
+    assert_eq!(expected.len(), 553);
     assert_lines(&run_text(text), &expected);
 }
 

@@ -1,5 +1,6 @@
--- The three values that are computed are those of the definition; the others are copied.
+-- The four values that are computed are those of the definition; the others are copied.
 use Rattle.index.proofs.Ways.{change-is}
+use native.Mathlib.Omega.{arith}
 use denote.Ref.{now}
 use borrow.Author.Needs.{needs}
 use Rattle.index.proofs.change_at.Statement.{statement}
@@ -15,6 +16,8 @@ change-at-spec =
     (λ c. search needs)
     (λ c. search needs)
     (λ c. search needs)
+    (λ c κs.  -- beside-requires
+    omega (arith, c .before .before .before .before .before .before .pre, c .which .ensures .1))
     (λ c.  -- returns
-    let a = c .before .before .before .before .before .before .args in
-    change-is (now (a .s)) (a .o) (a .i) (a .place) (c .before .before .before .before .is-new .ensures) (c .before .cell .ensures .0) (c .which .ensures .0)))
+    let a = c .before .before .before .before .before .before .before .args in
+    change-is (now (a .s)) (a .o) (a .i) (a .place) (c .before .before .before .before .before .is-new .ensures) (c .before .before .cell .ensures .0) (c .before .which .ensures .0) (c .beside .ensures .0)))

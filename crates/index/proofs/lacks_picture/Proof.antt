@@ -1,5 +1,5 @@
 -- Each way out is one line of the definition; a cell below 12 has its pointer behind the number of places.
-use Rattle.index.proofs.Ways.{lacks-cell, cached-past, cached-empty, lacks-none}
+use Rattle.index.proofs.Ways.{cached-past, cached-empty, lacks-none}
 use denote.Ref.{now}
 use borrow.Author.Needs.{needs}
 use Rattle.index.proofs.lacks_picture.Statement.{statement}
@@ -11,15 +11,12 @@ lacks-picture-spec =
     (tie.spec
     (λ c.  -- returns
     let a = c .before .args in
-    lacks-cell (now (a .index)) (a .flags) (a .cell) (c .if1 .taken))
+    lacks-none (now (a .index)) (a .flags) (a .cell) (c .if1 .taken))
     (λ c.  -- returns-2
-    let a = c .before .before .before .args in
-    cached-past (now (a .index)) (a .flags) (a .cell) (c .before .before .if1 .left) (c .before .if2 .taken) (c .if3 .taken))
+    let a = c .before .before .args in
+    cached-past (now (a .index)) (a .flags) (a .cell) (c .before .if1 .left) (c .if2 .taken))
     (λ c. search needs)
     (λ c. search needs)
     (λ c.  -- returns-3
-    let a = c .before .before .before .before .args in
-    cached-empty (now (a .index)) (a .flags) (a .cell) (c .before .before .before .if1 .left) (c .before .before .if2 .taken) (c .before .if3 .left))
-    (λ c.  -- returns-4
-    let a = c .before .before .args in
-    lacks-none (now (a .index)) (a .flags) (a .cell) (c .before .if1 .left) (c .if2 .left)))
+    let a = c .before .before .before .args in
+    cached-empty (now (a .index)) (a .flags) (a .cell) (c .before .before .if1 .left) (c .before .if2 .left)))

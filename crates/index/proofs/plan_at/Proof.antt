@@ -1,10 +1,5 @@
--- Without an icon nothing is asked; with one, its cell and its pointer are holders, and the free place is that of `places`.
+-- Without an icon nothing is asked; with one, its pointer and the cell beside it are holders, and the free place is that of `places`.
 use Rattle.index.proofs.Ways.{plan-plain, plan-full, plan-taken, sound-holders}
-use borrow.Author.Tests.{ne-eqb}
-use lib.Bits.{bitAnd}
-use mathlib.Core.Bool.{not}
-use Rattle.protocol.specs.Flags.{flagIcon}
-use mathlib.Core.Path.{ap}
 use denote.Ref.{now}
 use native.Mathlib.Omega.{arith}
 use borrow.Author.Needs.{needs}
@@ -24,16 +19,17 @@ plan-at-spec =
     (λ c. search needs)
     (λ c. search needs)
     (λ c. search needs)
+    (λ c κs.  -- beside-requires
+    omega (arith, c .before .before .before .before .before .pre .1, c .which .ensures .1))
     (λ c κs.  -- free-place-requires
-    let s = c .before .before .before .before .before in
-    let h = s .pre .1 (ap not (ne-eqb (bitAnd (s .args .o .flags) flagIcon) 0 (c .before .before .if1 .left))) in
-    (sound-holders (now (s .args .index)) (s .pre .0 .0), omega (arith, c .before .cell .ensures .0, h), omega (arith, s .pre .0 .1, c .which .ensures .1)))
+    let s = c .before .before .before .before .before .before in
+    (sound-holders (now (s .args .index)) (s .pre .0), c .beside .ensures .1, omega (arith, s .pre .1, c .before .which .ensures .1)))
     (λ c. search needs)
     (λ c. search needs)
     (λ c.  -- returns-2
-    let a = c .before .before .before .before .before .before .before .before .args in
-    plan-full (now (a .index)) (now (a .s)) (a .o) (a .i) (c .before .before .before .before .before .if1 .left) (c .before .before .before .before .cell .ensures .0) (c .before .before .before .which .ensures .0) (c .before .before .free-place .ensures) (c .enum-told .given .1))
+    let a = c .before .before .before .before .before .before .before .before .before .args in
+    plan-full (now (a .index)) (now (a .s)) (a .o) (a .i) (c .before .before .before .before .before .before .if1 .left) (c .before .before .before .before .before .cell .ensures .0) (c .before .before .before .before .which .ensures .0) (c .before .before .before .beside .ensures .0) (c .before .before .free-place .ensures) (c .enum-told .given .1))
     (λ c κs. search needs)
     (λ c.  -- returns-3
-    let a = c .before .before .before .before .before .before .before .before .before .before .args in
-    plan-taken (now (a .index)) (now (a .s)) (a .o) (a .i) (c .before .before .before .before .before .before .before .if1 .left) (c .before .before .before .before .before .before .cell .ensures .0) (c .before .before .before .before .before .which .ensures .0) (c .before .before .before .before .free-place .ensures) (c .before .before .f .given .1) (c .change-at2 .ensures)))
+    let a = c .before .before .before .before .before .before .before .before .before .before .before .args in
+    plan-taken (now (a .index)) (now (a .s)) (a .o) (a .i) (c .before .before .before .before .before .before .before .before .if1 .left) (c .before .before .before .before .before .before .before .cell .ensures .0) (c .before .before .before .before .before .before .which .ensures .0) (c .before .before .before .before .before .beside .ensures .0) (c .before .before .before .before .free-place .ensures) (c .before .before .f .given .1) (c .change-at2 .ensures)))

@@ -1,6 +1,5 @@
--- 9 and 10 come from the slot, 11 from the picture; what is left names a cell, so the place may be asked for.
-use Rattle.index.proofs.Ways.{record-refused, record-lacks, record-plan, slot-small, has-cell, sound-long}
-use mathlib.Core.Path.{sym, _∙_}
+-- 9 and 10 come from the slot, 11 from the cell of a cached icon; what is left asks for a place.
+use Rattle.index.proofs.Ways.{record-refused, record-lacks, record-plan, slot-small, sound-long}
 use denote.Ref.{now}
 use borrow.Author.Needs.{needs}
 use Rattle.index.proofs.plan_record.Statement.{statement}
@@ -23,7 +22,7 @@ plan-record-spec =
     (λ c κs.  -- plan-at-requires
     let s = c .before .before .before .before .before .before .before .before .before in
     let a = s .args in
-    ((s .pre, slot-small (now (a .index)) (a .o) (c .before .before .before .before .before .before .slot-for .ensures) (c .before .before .before .before .p2 .given .1)), λ t. rw (← (c .before .before .cell .ensures .0)) (has-cell (now (a .index)) (a .o .flags) (c .before .before .cell .result) (sym (c .before .lacks-picture .ensures) ∙ c .if1 .left) t)))
+    (s .pre, slot-small (now (a .index)) (a .o) (c .before .before .before .before .before .before .slot-for .ensures) (c .before .before .before .before .p2 .given .1)))
     (λ c.  -- returns-2
     let a = c .before .before .before .before .before .before .args in
     record-refused (now (a .index)) (now (a .s)) (a .o) (c .before .before .before .slot-for .ensures) (c .before .p .given .1))

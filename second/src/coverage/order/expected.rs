@@ -7,15 +7,15 @@ const SORTS: [(&str, &[u8]); 16] = [
     ("new window", &[0, 7, 8, 9, 10]),
     ("update window", &[0, 7, 8, 9]),
     ("delete window", &[0, 7, 9]),
-    ("small icon", &[0, 7, 8, 9, 11]),
-    ("big icon", &[0, 7, 8, 9, 11]),
+    ("small icon", &[0, 7, 8, 9]),
+    ("big icon", &[0, 7, 8, 9]),
     ("small cached icon", &[0, 7, 8, 9, 11]),
     ("big cached icon", &[0, 7, 8, 9, 11]),
     ("new notification", &[0, 7, 8, 9, 10]),
-    ("new notification with icon", &[0, 8, 9, 10, 11]),
+    ("new notification with icon", &[0, 8, 9, 10]),
     ("new notification with cached icon", &[0, 9, 10, 11]),
     ("update notification", &[0, 7, 8, 9]),
-    ("update notification with icon", &[0, 8, 9, 11]),
+    ("update notification with icon", &[0, 8, 9]),
     ("update notification with cached icon", &[0, 8, 9, 11]),
     ("delete notification", &[0, 7, 9]),
     ("desktop none", &[0, 7]),
@@ -48,7 +48,7 @@ const LIMITS: [(&str, &[usize], &[usize]); 17] = [
 ];
 
 /// Facts of their own.
-const SINGLE: [&str; 17] = [
+const SINGLE: [&str; 19] = [
     "D first byte 4",
     "D types=0 4",
     "D types=3 4",
@@ -57,7 +57,9 @@ const SINGLE: [&str; 17] = [
     "D types=7 4",
     "D declared+1 3",
     "D declared-1 3",
-    "D cache=255 11",
+    "D cache=255 0",
+    "D entry=6 0",
+    "D entry=65535 0",
     "D windows=32 0",
     "D windows=33 10",
     "D icons=16 0",

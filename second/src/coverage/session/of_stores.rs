@@ -8,7 +8,7 @@ pub const KINDS: [&str; 4] = ["cell", "small", "big", "notification"];
 const CALLS: &str = "EDUMBWNCSIHO";
 
 /// Facts of their own.
-const SINGLE: [&str; 50] = [
+const SINGLE: [&str; 57] = [
     "E lent=11 1",
     "E lent=0 1",
     "E lent=70 0",
@@ -32,7 +32,14 @@ const SINGLE: [&str; 50] = [
     "D 17 for an empty cell",
     "D 17 for a filled cell",
     "D 9 with an icon and a full store",
-    "D 11 with cache FF and a full store",
+    "D 11 with a full store",
+    "D sent once 17",
+    "D sent once, the last place taken",
+    "D sent once, own place in a full store",
+    "D sent once over what a cell has",
+    "D sent once over one sent once",
+    "D sent once, to a new notification",
+    "B takes back one sent once",
     "D full store, own place by the cell",
     "D full store, own place by the pointer",
     "D full store, own place by both together",

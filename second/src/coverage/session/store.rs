@@ -5,7 +5,7 @@ use super::of_stores::KINDS;
 use crate::book::{Book, BYTES_ROOM, ORDERS_ROOM};
 use crate::ids::WindowId;
 use crate::number::{NO_CELL, NO_PLACE, STATE_UNFIT, WRONG_ID};
-use crate::order::rules::{CACHES, CELLS, NO_CACHE};
+use crate::order::rules::{CACHES, CELLS};
 use crate::order::{judge, Order, Picture, WindowChange};
 use crate::script::parts::{places, places_of, StoreLengths};
 use crate::script::session::{Call, Session};
@@ -63,6 +63,7 @@ impl Facts {
             Call::Deliver(order) => self.add_icon(stores, before, order, number),
             Call::StepBack(steps) if number == 0 && *steps > 0 => {
                 self.add_taken_back(before.book.table().store(), session.book().table().store());
+                self.add_taken_once(&before.book, session.book());
                 stores.granted("step back");
             }
             Call::Window(id) if number == 0 => self.add_window(session.book(), *id),
@@ -165,8 +166,13 @@ impl Facts {
         let Ok(judged) = judge(order) else { return };
         let (store, fixed) = (before.book.table().store(), before.book.places());
         let is_full = store.used() == fixed;
-        if let Some(setting) = brings_icon(&judged) {
-            self.add_brought(before, order, &setting, number);
+        match brings_icon(&judged).as_deref() {
+            Some(&[cell, pointer]) => self.add_brought(before, order, [cell, pointer], number),
+            Some(&[pointer]) => self.add_sent_once(before, pointer, number),
+            _ => {}
+        }
+        if number == NO_CELL && is_full {
+            self.add("D 11 with a full store");
         }
         if let (0, Some((holder, cell))) = (number, cached(&judged)) {
             if is_full {
@@ -199,14 +205,14 @@ impl Facts {
     }
 
     /// A delivery that brings an icon for a cell and a pointer.
-    fn add_brought(&mut self, before: &Before, order: &[u8], setting: &[Holder; 2], number: u8) {
+    fn add_brought(&mut self, before: &Before, order: &[u8], setting: [Holder; 2], number: u8) {
         let (table, fixed) = (before.book.table(), before.book.places());
         let store = table.store();
         let is_full = store.used() == fixed;
-        let [cell, pointer] = *setting;
+        let [cell, pointer] = setting;
         match number {
             0 => {
-                if store.used() + 1 == fixed && store.used_without(setting) == store.used() {
+                if store.used() + 1 == fixed && store.used_without(&setting) == store.used() {
                     self.add(format!("D places={fixed}, the last one taken"));
                 }
                 if store.shared(cell, pointer) == Some(true) {
@@ -245,8 +251,37 @@ impl Facts {
                 }
             }
             WRONG_ID if is_full => self.add("D 9 with an icon and a full store"),
-            NO_CELL if is_full && cell_cache(cell) == Some(u32::from(NO_CACHE)) => {
-                self.add("D 11 with cache FF and a full store");
+            _ => {}
+        }
+    }
+
+    /// A delivery that brings an icon for a pointer alone.
+    fn add_sent_once(&mut self, before: &Before, pointer: Holder, number: u8) {
+        let (store, fixed) = (before.book.table().store(), before.book.places());
+        match number {
+            NO_PLACE => self.add("D sent once 17"),
+            0 => {
+                let is_alone = store.used_without(&[pointer]) < store.used();
+                let is_of_cell = store
+                    .sharing(pointer)
+                    .any(|holder| matches!(holder, Holder::Cell(..)));
+                let is_last = store.used() + 1 == fixed && !is_alone;
+                let is_full = store.used() == fixed;
+                let is_new = matches!(pointer, Holder::Notification(window, icon)
+                    if before.book.table().icon(window, icon).is_none());
+                let mut earlier = before.book.orders().iter().rev();
+                let again = earlier.find_map(|order| last_given(order, pointer)) == Some(true);
+                for (what, holds) in [
+                    (", the last place taken", is_last),
+                    (", own place in a full store", is_full),
+                    (" over what a cell has", is_of_cell),
+                    (" over one sent once", again),
+                    (", to a new notification", is_new),
+                ] {
+                    if holds {
+                        self.add(format!("D sent once{what}"));
+                    }
+                }
             }
             _ => {}
         }
@@ -266,6 +301,22 @@ impl Facts {
             .any(|&h| sharing(before, h) != sharing(after, h))
         {
             self.add("B restores sharing");
+        }
+    }
+
+    /// A picture sent once, in whose stead another one is back.
+    fn add_taken_once(&mut self, before: &Book, after: &Book) {
+        let gone = &before.orders()[after.orders().len()..];
+        let pointers = gone.iter().filter_map(|order| {
+            let setting = brings_icon(&judge(order).ok()?)?;
+            (setting.len() == 1).then(|| setting[0])
+        });
+        let shown = |book: &Book, holder| book.table().shown(holder).cloned();
+        for pointer in pointers {
+            let earlier = shown(after, pointer);
+            if earlier.is_some() && earlier != shown(before, pointer) {
+                self.add("B takes back one sent once");
+            }
         }
     }
 
@@ -369,13 +420,6 @@ fn absent(book: &Book, holder: Holder) -> String {
     }
 }
 
-fn cell_cache(holder: Holder) -> Option<u32> {
-    match holder {
-        Holder::Cell(cache, _) => Some(cache),
-        _ => None,
-    }
-}
-
 fn kind(holder: Holder) -> &'static str {
     match holder {
         Holder::Cell(..) => KINDS[0],
@@ -383,6 +427,13 @@ fn kind(holder: Holder) -> &'static str {
         Holder::Big(_) => KINDS[2],
         Holder::Notification(..) => KINDS[3],
     }
+}
+
+/// Whether the picture that an order brings for a pointer is sent once; none where it
+/// brings none for it.
+fn last_given(order: &[u8], pointer: Holder) -> Option<bool> {
+    let setting = brings_icon(&judge(order).ok()?)?;
+    (setting.last() == Some(&pointer)).then_some(setting.len() == 1)
 }
 
 /// Who shares with which cell by an order.

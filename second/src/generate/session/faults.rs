@@ -74,15 +74,12 @@ impl Maker<'_> {
         }
     }
 
-    /// An icon that no cache holds, or a cached icon from an empty cell.
+    /// A cached icon from an empty cell; where all are filled, another refused order.
     pub fn no_cell(&mut self) -> Vec<u8> {
-        let (picture, fixed) = match self.empty_cell() {
-            Some(fixed) if self.random.chance(50) => (flags::CACHED_ICON, fixed),
-            _ => {
-                let entry = self.random.pick(&[0, 1, 5, 6, 65_535]);
-                (flags::ICON, [(Slot::Entry, entry), (Slot::Cache, 0xFF)])
-            }
+        let Some(fixed) = self.empty_cell() else {
+            return self.wrong_id();
         };
+        let picture = flags::CACHED_ICON;
         let draft = match (self.random.below(3), self.listed_window()) {
             (0 | 1, Some(id)) => {
                 let bits = self.icon_bits();

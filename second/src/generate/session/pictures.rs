@@ -5,9 +5,9 @@ use super::good::Maker;
 use super::slot::{Slot, NOTIFICATION_FIELDS};
 use crate::ids::{NotifyIconId, WindowId};
 use crate::order::flags;
-use crate::order::rules::{CACHES, CELLS};
+use crate::order::rules::{CACHES, CELLS, NO_CACHE};
 use crate::order::CellPlace;
-use crate::table::{Cell, Holder, NOTIFICATION_ICONS};
+use crate::table::{setting, Cell, Holder, NOTIFICATION_ICONS};
 
 /// How many pairs of a pointer and a cell are tried.
 const TRIES: usize = 60;
@@ -34,26 +34,27 @@ impl Maker<'_> {
     /// would have let go.
     pub fn no_place_beside_other(&mut self) -> Option<Vec<u8>> {
         self.icon_where(|maker, setting| {
-            let other = match setting[1] {
+            let pointer = setting[setting.len() - 1];
+            let other = match pointer {
                 Holder::Small(id) => Holder::Big(id),
                 Holder::Big(id) => Holder::Small(id),
                 _ => return false,
             };
             let store = maker.table.store();
             maker.table.is_full_for(setting)
-                && !maker.table.is_full_for(&[setting[0], setting[1], other])
-                && store.shared(setting[1], other) == Some(true)
+                && !maker.table.is_full_for(&[setting, &[other]].concat())
+                && store.shared(pointer, other) == Some(true)
         })
     }
 
     /// An icon for a listed record, or a new notification icon, whose cell and pointer
     /// are as wished.
-    fn icon_where(&mut self, wished: impl Fn(&Self, &[Holder; 2]) -> bool) -> Option<Vec<u8>> {
+    fn icon_where(&mut self, wished: impl Fn(&Self, &[Holder]) -> bool) -> Option<Vec<u8>> {
         for _ in 0..TRIES {
             let pointer = self.pointer()?;
-            let cell = self.cell();
-            if wished(self, &[cell.into(), pointer]) {
-                return Some(self.icon_for(pointer, cell));
+            let place = self.place();
+            if wished(self, &setting(place, pointer)) {
+                return Some(self.icon_for(pointer, place));
             }
         }
         None
@@ -75,22 +76,29 @@ impl Maker<'_> {
         }
     }
 
-    fn cell(&mut self) -> CellPlace {
+    /// A cell, or what names none, whatever its entry.
+    fn place(&mut self) -> CellPlace {
+        if self.random.chance(20) {
+            return CellPlace {
+                cache: NO_CACHE,
+                entry: self.random.pick(&[0, 1, 5, 6, u16::MAX]),
+            };
+        }
         CellPlace {
             cache: self.random.below(CACHES) as u8,
             entry: self.random.below(CELLS) as u16,
         }
     }
 
-    /// An icon into a cell, for a pointer. Some have the bytes of a picture that is there.
-    fn icon_for(&mut self, pointer: Holder, cell: CellPlace) -> Vec<u8> {
+    /// An icon for a pointer and a place. Some have the bytes of a picture that is there.
+    fn icon_for(&mut self, pointer: Holder, place: CellPlace) -> Vec<u8> {
         let holders: Vec<Holder> = self.table.store().holders().collect();
         let same = (!holders.is_empty() && self.random.chance(25))
             .then(|| self.random.pick(&holders))
             .and_then(|holder| self.table.shown(holder).cloned());
         let mut fixed = vec![
-            (Slot::Entry, u32::from(cell.entry)),
-            (Slot::Cache, u32::from(cell.cache)),
+            (Slot::Entry, u32::from(place.entry)),
+            (Slot::Cache, u32::from(place.cache)),
         ];
         if let Some(picture) = &same {
             fixed.extend(lengths(picture));
