@@ -13,7 +13,7 @@ INSTALL = install
 to = $(DESTDIR)$(PREFIX)
 doc = $(to)/share/doc/rail
 parts = $(notdir $(wildcard include/rail/*.h))
-documents = CHANGELOG.md $(wildcard docs/*.md) docs/desktop.svg
+documents = CHANGELOG.md $(wildcard docs/*.md) docs/desktop.svg docs/visible.svg
 examples = $(wildcard examples/*)
 sources = crates.txt $(shell find crates -name must-fail -prune -o '(' -name '*.rt' -o -name '*.antt' ')' -print)
 

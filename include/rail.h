@@ -58,7 +58,8 @@ enum rail_measure {
     RAIL_MEASURE_PICTURE = 7,
     RAIL_MEASURE_CHUNK = 8,
     RAIL_MEASURE_RECORD = 9, /* the longest session record */
-    RAIL_MEASURE_LIST = 10
+    RAIL_MEASURE_LIST = 10,
+    RAIL_MEASURE_FIGURE = 11
 };
 
 /* ---- Limits of the table and of its history. */
@@ -275,6 +276,7 @@ uint32_t rail_pdu_write(const uint32_t words[12], const uint8_t *strings, size_t
 
 #include "rail/chunk.h"
 #include "rail/counter.h"
+#include "rail/figure.h"
 #include "rail/session_record.h"
 #undef RAIL_READ
 #undef RAIL_WRITE

@@ -5,6 +5,7 @@ mod call;
 mod callgrind;
 mod check;
 mod chunks;
+mod figures;
 mod inputs;
 mod instructions;
 mod kinds;
@@ -23,8 +24,8 @@ use std::process::ExitCode;
 const HELP: &str = "\
 bench: the proved code beside the plain Rust of `second`
 
-  bench                check, time, instructions, chunks, orders, state, search and
-                       updates and records, in turn
+  bench                check, time, instructions, chunks, orders, state, search,
+                       updates, records and figures, in turn
   bench check          compare the two sides' answers, words and bytes on every
                        benchmark message and on generated ones
   bench time           print nanoseconds per call as a Markdown table
@@ -65,6 +66,11 @@ bench: the proved code beside the plain Rust of `second`
   bench record-one ORDERS BYTES CALL N
                        make N calls and print nothing, for callgrind. BYTES: of each
                        order, 7 or a title's; CALL: refused, written or opened
+  bench figures        print instructions of the figure at the mark beyond the
+                       validation of the memory, as a Markdown table
+  bench figure-one WINDOWS RECTANGLES LIE CALL N
+                       make N calls and print nothing, for callgrind. LIE: apart or
+                       stairs; CALL: refused or counted
 
 Jobs: `read` takes a message's bytes to the 12 words of its record, judged;
 `write` takes 12 words and strings to a message's bytes in an output buffer.
@@ -102,6 +108,10 @@ fn main() -> ExitCode {
         }
         ["records"] => records::run(),
         ["record-one", orders, bytes, call, calls] => records::one(orders, bytes, call, calls),
+        ["figures"] => figures::run(),
+        ["figure-one", windows, rectangles, lie, call, calls] => {
+            figures::one(windows, rectangles, lie, call, calls)
+        }
         ["--help" | "-h" | "help"] => {
             print!("{HELP}");
             Ok(())
@@ -137,7 +147,9 @@ fn everything() -> Result<(), String> {
     println!();
     updates::run()?;
     println!();
-    records::run()
+    records::run()?;
+    println!();
+    figures::run()
 }
 
 fn list_messages() -> Result<(), String> {

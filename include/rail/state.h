@@ -107,6 +107,14 @@ static inline uint32_t rail_state_record(const struct rail_state *s, uint8_t *ou
     return rail_record_write(RAIL_STATE_PARTS(s), out, out_size);
 }
 
+static inline uint32_t rail_state_figure(const struct rail_state *s, struct rail_figure *figure) {
+    uint8_t out[RAIL_FIGURE_SIZE];
+    const uint32_t answer = rail_figure(RAIL_STATE_PARTS(s), out, RAIL_FIGURE_SIZE);
+    if (rail_number(answer) == RAIL_DONE)
+        rail_figure_decode(figure, out);
+    return answer;
+}
+
 /* ---- Whether two holders share a place */
 
 struct rail_holder {

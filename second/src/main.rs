@@ -5,12 +5,12 @@ use std::io::{self, BufWriter, Read, Write};
 use std::path::Path;
 use std::process::ExitCode;
 
-use second::compare::{compare, Scripts};
+use second::compare::{compare, Items, Scripts};
 use second::coverage::{self, Facts};
 use second::fault::{chunk_fault_run, fault_run, Tally};
 use second::script::parts::Parts;
 use second::script::End;
-use second::{generate, hex, script, support};
+use second::{generate, hex, report, script, support};
 
 const HELP: &str = "\
 The independent second program for RDP Remote Programs (RAIL).
@@ -24,17 +24,24 @@ usage:
       script of control messages only a chunk taken before the change is undone, by the
       same item or by an emptying, does so. Of the memory that an item Z prints only the
       size is known here, and printed: `Z`, the number and `bytes`.
+  second report < input > output
+      Prints how much was visible at each mark. The input has items of a length of 2 and
+      that many bytes to deliver; length 0 is a mark.
   second gen-pdu SEED ITEMS > script
   second gen-session SEED ITEMS [--parts L0,L1,..] > script
       Generates a script. The same seed and count give the same bytes.
       A seed that leaves 19 when divided by 20 gives a script whose last item is bad.
+  second gen-report SEED ITEMS > input
+      The same for a report. There such a seed gives an input whose last item is cut.
   second coverage-pdu FROM TO ITEMS
   second coverage-session FROM TO ITEMS
+  second coverage-report FROM TO ITEMS
       Runs the generated scripts of the seeds FROM to TO, prints how often each
       call, kind and number was met, also at each limit, and then what is missing.
       The status is 0 only if nothing is missing.
   second compare-pdu PROGRAM FROM TO ITEMS
   second compare-session PROGRAM FROM TO ITEMS [--parts L0,L1,..]
+  second compare-report PROGRAM FROM TO ITEMS
       Runs PROGRAM on the same scripts and compares what it prints, two at a time.
       Of an item Z the size is compared, and those bytes with the Z before that no call
       between them may change. The status is 0 only if scripts were compared and none
@@ -54,6 +61,8 @@ usage:
   second hex-session < text > script
       Makes a script of lines that have the letter of a kind and hex, such as
       `R hex`. Spaces in the hex, empty lines and comments from # on are passed over.
+  second hex-report < text > input
+      Makes the input of a report of lines that have the hex of an order, or `mark`.
   second update-to-script [--hex] < update > script
       Makes a script of a raw update (orders back to back, as a server sends them;
       with --hex a text of hex with comments): each order is delivered, and after each
@@ -100,6 +109,10 @@ fn dispatch(arguments: &[&str]) -> Result<ExitCode, String> {
     match arguments {
         ["pdu"] => run_pdu(),
         ["session", options @ ..] => run_session(&parts(options)?),
+        ["report"] => run_report(),
+        ["gen-report", seed, items] => {
+            print(&generate::report::input(number(seed)?, count(items)?))
+        }
         ["gen-pdu", seed, items] => print(&generate::pdu::script(number(seed)?, count(items)?)),
         ["gen-session", seed, items, options @ ..] => {
             let parts = parts(options)?;
@@ -116,6 +129,14 @@ fn dispatch(arguments: &[&str]) -> Result<ExitCode, String> {
             number(to)?,
             count(items)?,
         )),
+        ["coverage-report", from, to, items] => print_facts(&coverage::report::of_seeds(
+            number(from)?,
+            number(to)?,
+            count(items)?,
+        )),
+        ["compare-report", program, from, to, items] => {
+            compare_report(program, number(from)?, number(to)?, count(items)?)
+        }
         ["compare-pdu", program, from, to, items] => {
             compare_pdu(program, number(from)?, number(to)?, count(items)?)
         }
@@ -131,6 +152,10 @@ fn dispatch(arguments: &[&str]) -> Result<ExitCode, String> {
             fault_session(program, number(from)?, number(to)?, count(items)?, &parts)
         }
         ["hex-pdu"] => print_script(script::pdu::KINDS),
+        ["hex-report"] => {
+            let text = String::from_utf8(input()?).map_err(|_| "input: not a text")?;
+            print(&report::from_text(&text)?)
+        }
         ["hex-session"] => print_script(script::session::KINDS),
         ["update-to-script"] => print(&support::import::script(&input()?)),
         ["update-to-script", "--hex"] => print(&support::import::script(&hex_input()?)),
@@ -224,6 +249,12 @@ fn run_session(parts: &Parts) -> Result<ExitCode, String> {
     }))
 }
 
+fn run_report() -> Result<ExitCode, String> {
+    let input = input()?;
+    to_output(|out| report::run(&input, out))?;
+    Ok(ExitCode::SUCCESS)
+}
+
 /// The status of a run; standard error tells what is wrong with its script, or that a fault ended it.
 fn ended(end: End, kind: &str, unfit: impl Fn() -> Option<String>) -> ExitCode {
     match end {
@@ -265,7 +296,7 @@ fn compare_pdu(program: &str, from: u64, to: u64, items: usize) -> Result<ExitCo
         make: &|seed| generate::pdu::script(seed, items),
         expected: &|script| written(|out| script::pdu::run(script, out)),
         told: &|_, printed| printed,
-        silent: script::chunk::SILENT,
+        items: Items::of_calls(script::chunk::SILENT),
     };
     compare_scripts(program, from, to, &scripts)
 }
@@ -281,7 +312,21 @@ fn compare_session(
         make: &|seed| generate::session::script(seed, items, parts),
         expected: &|script| written(|out| script::session::run(script, parts, out)),
         told: &|script, printed| script::dump::told(script, parts, &printed),
-        silent: script::session::SILENT,
+        items: Items::of_calls(script::session::SILENT),
+    };
+    compare_scripts(program, from, to, &scripts)
+}
+
+fn compare_report(program: &str, from: u64, to: u64, items: usize) -> Result<ExitCode, String> {
+    let scripts = Scripts {
+        make: &|seed| generate::report::input(seed, items),
+        expected: &|input| written(|out| report::run(input, out)),
+        told: &|_, printed| printed,
+        items: Items {
+            take: report::take_item,
+            silent: report::SILENT,
+            head: 1,
+        },
     };
     compare_scripts(program, from, to, &scripts)
 }

@@ -79,6 +79,7 @@ void test_counter(void);
 void test_chunks(void);
 void test_session_record(void);
 void test_lists(void);
+void test_figure(void);
 void test_script(void);
 void test_updates(void);
 void test_stack(void);

@@ -199,6 +199,7 @@ int main(void) {
     test_chunks();
     test_session_record();
     test_lists();
+    test_figure();
     test_script();
     test_updates();
     test_stack();

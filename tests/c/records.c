@@ -11,7 +11,7 @@ void test_constants(void) {
     CHECK(rail_size(RAIL_MEASURE_DESKTOP) == RAIL_DESKTOP_SIZE);
     CHECK(rail_size(RAIL_MEASURE_PICTURE) == RAIL_PICTURE_SIZE);
     CHECK(rail_size(RAIL_MEASURE_LIST) == RAIL_LIST_SIZE);
-    CHECK(rail_size(RAIL_MEASURE_LIST + 1) == 0);
+    CHECK(rail_size(RAIL_MEASURE_FIGURE + 1) == 0);
     CHECK(rail_size(256) == 0);
     CHECK(rail_size(UINT32_MAX) == 0);
     empty_state(); /* on memory with any contents */

@@ -1,6 +1,5 @@
 -- Request No. 8: how much is visible of the windows that memory lists: how many are shown, and the pixels of their visibility
--- rectangles. Still to come: the function over whole state memory, which answers 1 where that is not well formed, and the figure
--- at the mark. Assumes nothing.
+-- rectangles. Assumes nothing.
 use Prim.Native.Nat.{ℕ}
 use mathlib.Core.Path.{_≡_}
 use mathlib.Core.Bool.{Bool, true, not}

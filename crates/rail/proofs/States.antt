@@ -52,6 +52,6 @@ past : (n k : ℕ) → NoneOf n k → n ≤ k
 past zero k t = omega arith
 past (suc n) k t = omega (arith, past n k (t .0), t .1)
 
-pub size-past : (what : ℕ) → NoneOf 11 what → 0 ≡ sizeOf what
+pub size-past : (what : ℕ) → NoneOf 12 what → 0 ≡ sizeOf what
 unfolding sizeOf
-size-past what t = sym (List·getD-eq-default sizes 0 (past 11 what t))
+size-past what t = sym (List·getD-eq-default sizes 0 (past 12 what t))

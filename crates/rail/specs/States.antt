@@ -15,13 +15,14 @@ use Rattle.record.specs.Layout.{mostRecord}
 use Rattle.session.specs.Calls.{answerView, nextView}
 use Rattle.session.specs.Outcome.{Request, Response, responseOf}
 use Rattle.session.specs.Packed.{packedOf}
+use Rattle.visible.specs.Outcome.{figureLength}
 
 -- the bytes of index, bodies, a place of the store and journal, of the three records with the pictures that are handed out with them,
--- of a picture, of the chunk memory, of the longest session record, and of a list
+-- of a picture, of the chunk memory, of the longest session record, of a list, and of a figure
 abbrev pub sizes : List ℕ
 sizes =
     indexLength ∷ bodiesLength ∷ placeLength ∷ journalLength ∷ (windowSize + (pictureSize + pictureSize))
-    ∷ (notificationSize + pictureSize) ∷ desktopSize ∷ pictureSize ∷ memorySize ∷ mostRecord ∷ listSize ∷ []
+    ∷ (notificationSize + pictureSize) ∷ desktopSize ∷ pictureSize ∷ memorySize ∷ mostRecord ∷ listSize ∷ figureLength ∷ []
 
 unfoldable pub sizeOf : ℕ → ℕ
 sizeOf what = getD sizes what 0

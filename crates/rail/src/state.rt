@@ -17,7 +17,7 @@ use session::lookups::look;
 use session::packed::packed;
 
 // The bytes of a part of the state memory (of the store, those of a place), of a lookup with its pictures, of a picture, of the
-// chunk memory, of the longest session record, or of a list.
+// chunk memory, of the longest session record, of a list, or of a figure.
 #[no_mangle]
 pub extern "C" fn rail_size(what: u32) -> u32
     ensures { λ r. ⌜ r ≡ sizeOf what ⌝ }
@@ -34,6 +34,7 @@ pub extern "C" fn rail_size(what: u32) -> u32
         8 => chunk::MEMORY as u32,
         9 => record::MOST as u32,
         10 => ids::LENGTH as u32,
+        11 => visible::LENGTH as u32,
         _ => 0,
     }
 }

@@ -47,6 +47,7 @@ extern crate alloc;
 mod answer;
 mod channel;
 mod ffi;
+mod figure;
 mod ids;
 mod memory;
 mod message;
@@ -63,6 +64,7 @@ mod view;
 
 pub use answer::{Found, Refusal, Standing, UnknownNumber};
 pub use channel::{Channel, CHUNK_SIZE};
+pub use figure::Figure;
 pub use ids::{NotifyIconId, WindowId};
 pub use memory::{
     LentSession, Memory, BODIES_SIZE, FEWEST_PLACES, INDEX_SIZE, JOURNAL_SIZE, MOST_PLACES,

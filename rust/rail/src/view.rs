@@ -5,6 +5,7 @@ use core::fmt;
 
 use crate::answer::{state_answer, Found, Refusal, Standing};
 use crate::ffi;
+use crate::figure::Figure;
 use crate::ids::{NotifyIconId, WindowId};
 use crate::memory::STORE_PARTS;
 use crate::record::holder::SHARED_SIZE;
@@ -164,6 +165,26 @@ impl<'a> View<'a> {
     /// As [`desktop`](Self::desktop), then [`Refusal::OutputTooSmall`].
     pub fn desktop_bytes(self, out: &mut [u8]) -> Result<Standing, Refusal> {
         state_answer(ffi::desktop(self, out))
+    }
+
+    /// How much was visible at the checkpoint: see [`Figure`].
+    ///
+    /// # Errors
+    /// [`Refusal::UnfitMemory`].
+    pub fn figure(self) -> Result<Found<Figure>, Refusal> {
+        let mut out = [0; Figure::SIZE];
+        let standing = self.figure_bytes(&mut out)?;
+        let record = Figure::of(&out);
+        Ok(Found { record, standing })
+    }
+
+    /// Writes the figure at the checkpoint, [`Figure::SIZE`] bytes, as
+    /// [`window_bytes`](Self::window_bytes) does.
+    ///
+    /// # Errors
+    /// As [`figure`](Self::figure), then [`Refusal::OutputTooSmall`].
+    pub fn figure_bytes(self, out: &mut [u8]) -> Result<Standing, Refusal> {
+        state_answer(ffi::figure(self, out))
     }
 
     /// The ids of all windows, each once and ascending.

@@ -1,8 +1,9 @@
 //! Memory longer and shorter than needed, output memory too, and numbers past limits.
 
 use rail::{
-    CacheCell, Desktop, Holder, LentSession, Memory, NotificationIcon, NotifyIconId, Picture,
-    Refusal, Session, Standing, View, Window, WindowId, MOST_PLACES, PLACE_SIZE, STORE_PARTS,
+    CacheCell, Desktop, Figure, Holder, LentSession, Memory, NotificationIcon, NotifyIconId,
+    Picture, Refusal, Session, Standing, View, Window, WindowId, MOST_PLACES, PLACE_SIZE,
+    STORE_PARTS,
 };
 use second::generate::session::script;
 use second::script::parts::Parts;
@@ -175,7 +176,7 @@ const NEW_ICON: [u8; 29] = [
 /// A lookup of what is there or not, with its output memory.
 type Lookup = fn(View<'_>, bool, &mut [u8]) -> Result<Standing, Refusal>;
 
-const LOOKUPS: [(usize, Lookup); 5] = [
+const LOOKUPS: [(usize, Lookup); 6] = [
     (Window::SIZE, |view, there, out| {
         view.window_bytes(WindowId(there.into()), out)
     }),
@@ -190,6 +191,7 @@ const LOOKUPS: [(usize, Lookup); 5] = [
         view.picture_bytes(cell, out)
     }),
     (Desktop::SIZE, |view, _, out| view.desktop_bytes(out)),
+    (Figure::SIZE, |view, _, out| view.figure_bytes(out)),
     (1, |view, there, out| {
         let icon = Holder::NotificationIcon(WindowId(1), NotifyIconId(1 + u32::from(there)));
         view.shared_bytes(CacheCell::default().into(), icon, out)
@@ -214,7 +216,7 @@ fn output_of_lookups() {
                 Err(Refusal::OutputTooSmall)
             );
             assert_eq!(lookup(unfit.view(), true, out), Err(Refusal::UnfitMemory));
-            if needed != Desktop::SIZE {
+            if ![Desktop::SIZE, Figure::SIZE].contains(&needed) {
                 assert_eq!(lookup(memory.view(), false, out), Err(Refusal::WrongId));
             }
         }

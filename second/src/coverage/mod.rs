@@ -2,6 +2,7 @@
 
 mod order;
 pub mod pdu;
+pub mod report;
 pub mod session;
 
 use std::collections::BTreeMap;

@@ -4,4 +4,5 @@ pub mod chunk_fault;
 pub mod fault;
 pub mod pdu;
 pub mod random;
+pub mod report;
 pub mod session;

@@ -9,8 +9,8 @@
 mod state;
 
 pub(crate) use state::{
-    cell, checkpoint, deliver, desktop, notification, notifications, record_write, reset, run,
-    shared, undo, update, window, windows,
+    cell, checkpoint, deliver, desktop, figure, notification, notifications, record_write, reset,
+    run, shared, undo, update, window, windows,
 };
 
 /// A record's fields as numbers: the type, then the fields in carried order, a string
@@ -134,7 +134,7 @@ mod tests {
             assert_eq!(size(what), expected as u32);
         }
         assert_eq!(size(9), crate::RECORD_LIMIT as u32);
-        for what in [11, 12, 255, 256, u32::MAX] {
+        for what in [12, 13, 255, 256, u32::MAX] {
             assert_eq!(size(what), 0);
         }
     }

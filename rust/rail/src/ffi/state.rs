@@ -80,6 +80,10 @@ on_state! {
         const index, const bodies, const store, const journal,
         out: *mut u8, out_length: usize
     ) -> u32;
+    fn rail_figure(
+        const index, const bodies, const store, const journal,
+        out: *mut u8, out_length: usize
+    ) -> u32;
     fn rail_run(
         mut index, mut bodies, mut store, mut journal,
         script: *const u8, script_length: usize, out: *mut u8, out_length: usize
@@ -194,6 +198,11 @@ pub(crate) fn shared(
 pub(crate) fn record_write(view: View<'_>, out: &mut [u8]) -> u32 {
     // SAFETY: as `window`.
     unsafe { call!(rail_record_write, view by as_ptr, out.as_mut_ptr(), out.len()) }
+}
+
+pub(crate) fn figure(view: View<'_>, out: &mut [u8]) -> u32 {
+    // SAFETY: as `window`.
+    unsafe { call!(rail_figure, view by as_ptr, out.as_mut_ptr(), out.len()) }
 }
 
 pub(crate) fn run(lent: &mut LentSession<'_>, script: &[u8], out: &mut [u8]) -> u64 {

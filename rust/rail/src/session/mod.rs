@@ -8,6 +8,7 @@ use alloc::collections::BTreeSet;
 use alloc::vec::Vec;
 
 use crate::answer::{Refusal, Standing};
+use crate::figure::Figure;
 use crate::ids::{NotifyIconId, WindowId};
 use crate::memory::{Memory, FEWEST_PLACES, MOST_PLACES};
 use crate::order::{orders, Change, Changed};
@@ -335,6 +336,26 @@ impl Session {
     /// The desktop state.
     pub fn desktop(&self) -> Desktop {
         granted(self.memory.view().desktop()).record
+    }
+
+    /// How much was visible at the checkpoint: orders since then do not count.
+    ///
+    /// ```
+    /// use rail::{Figure, Refusal, Session};
+    ///
+    /// let mut session = Session::new();
+    /// // A window, shown, with the visibility rectangles 0,0,10,10 and 5,5,15,15.
+    /// session.deliver(&[
+    ///     0x2E, 30, 0, 0x10, 2, 0, 0x11, 1, 0, 0, 0, 5, // show state 5
+    ///     2, 0, 0, 0, 0, 0, 10, 0, 10, 0, 5, 0, 5, 0, 15, 0, 15, 0,
+    /// ])?;
+    /// assert_eq!(session.figure(), Figure { windows: 0, pixels: 0 });
+    /// session.checkpoint();
+    /// assert_eq!(session.figure(), Figure { windows: 1, pixels: 175 });
+    /// # Ok::<(), Refusal>(())
+    /// ```
+    pub fn figure(&self) -> Figure {
+        granted(self.memory.view().figure()).record
     }
 
     /// The ids of all windows, each once and ascending.

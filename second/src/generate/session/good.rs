@@ -21,6 +21,17 @@ pub struct Maker<'a> {
 }
 
 impl Maker<'_> {
+    /// An order of any sort: half of them fit for the table, others at limits, refused on
+    /// purpose or damaged.
+    pub fn any(&mut self) -> Vec<u8> {
+        match self.random.below(100) {
+            0..=51 => self.good(),
+            52..=71 => self.at_edge(),
+            72..=93 => self.refused(),
+            _ => self.damaged(),
+        }
+    }
+
     /// An order of any kind, fit for the table.
     pub fn good(&mut self) -> Vec<u8> {
         let draft = match self.random.below(100) {

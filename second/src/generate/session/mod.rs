@@ -11,7 +11,7 @@ mod slot;
 mod store;
 mod updates;
 
-use good::Maker;
+pub(super) use good::Maker;
 pub use pair::{may_change_places, pair, pair_for_one};
 use slot::{pool_icon_id, pool_id};
 
@@ -202,14 +202,7 @@ impl Writer<'_> {
     }
 
     fn order(&mut self) -> Vec<u8> {
-        let sort = self.random.below(100);
-        let mut maker = self.maker();
-        match sort {
-            0..=51 => maker.good(),
-            52..=71 => maker.at_edge(),
-            72..=93 => maker.refused(),
-            _ => maker.damaged(),
-        }
+        self.maker().any()
     }
 
     fn maker(&mut self) -> Maker<'_> {

@@ -23,6 +23,7 @@ rail-size-spec =
     (λ c. search needs)
     (λ c. search needs)
     (λ c. search needs)
+    (λ c. search needs)
     (λ c. size-at 0 (c .match .keys1) refl)  -- returns
     (λ c. size-at 1 (c .match .keys2) refl)  -- returns-2
     (λ c. size-at 2 (c .match .keys3) refl)  -- returns-3
@@ -34,4 +35,5 @@ rail-size-spec =
     (λ c. size-at 8 (c .match .keys9) refl)  -- returns-9
     (λ c. size-at 9 (c .match .keys10) refl)  -- returns-10
     (λ c. size-at 10 (c .match .keys11) refl)  -- returns-11
-    (λ c. size-past (c .before .args .what) (c .match .rest)))  -- returns-12
+    (λ c. size-at 11 (c .match .keys12) refl)  -- returns-12
+    (λ c. size-past (c .before .args .what) (c .match .rest)))  -- returns-13

@@ -1,0 +1,108 @@
+//! The figure at the mark: instructions beyond the validation of the memory, by
+//! callgrind.
+//!
+//! A call that finds no room validates the memory and ends there, so that what a granted
+//! one takes more is the counting.
+
+use std::env;
+use std::hint::black_box;
+
+use rail::{Figure, Memory};
+
+use crate::callgrind;
+
+/// Calls that are counted together.
+const CALLS: u64 = 200;
+/// What 32 windows with 4 disjoint rectangles each may cost beyond the validation.
+const AIM: u64 = 12_000;
+
+/// Windows, rectangles of each, and how these lie.
+const SORTS: [(usize, usize, &str); 8] = [
+    (0, 0, "apart"),
+    (1, 1, "apart"),
+    (1, 2, "stairs"),
+    (32, 0, "apart"),
+    (32, 1, "apart"),
+    (32, 4, "apart"),
+    (32, 16, "apart"),
+    (32, 16, "stairs"),
+];
+
+/// Prints the table. It fails where the aim is missed.
+pub fn run() -> Result<(), String> {
+    println!("| Windows | Rectangles of each | | Validation, and 14 | Counted | More (32 windows with 4 apart: aim {AIM}) |");
+    println!("|---:|---:|---|---:|---:|---:|");
+    let mut is_missed = false;
+    for (windows, rectangles, lie) in SORTS {
+        let [refused, counted] =
+            ["refused", "counted"].map(|what| instructions(windows, rectangles, lie, what));
+        let (refused, counted) = (refused?, counted?);
+        let more = counted - refused;
+        println!("| {windows} | {rectangles} | {lie} | {refused} | {counted} | {more} |");
+        is_missed |= (windows, rectangles) == (32, 4) && more > AIM;
+    }
+    println!();
+    println!("Instructions per call, counted by callgrind inside the entry point with all that it calls.");
+    if is_missed {
+        return Err("the aim is missed".into());
+    }
+    Ok(())
+}
+
+fn instructions(windows: usize, rectangles: usize, lie: &str, what: &str) -> Result<u64, String> {
+    let program = env::current_exe().map_err(|error| format!("own program: {error}"))?;
+    let [windows, rectangles, calls] =
+        [windows as u64, rectangles as u64, CALLS].map(|n| n.to_string());
+    let words = ["figure-one", &windows, &rectangles, lie, what, &calls];
+    Ok(callgrind::count_within("rail_figure", &program, &words)?.total / CALLS)
+}
+
+/// A new window, shown, with so many rectangles: apart in rows of 4, or each over the one
+/// before it.
+fn window(id: u8, rectangles: usize, lie: &str) -> Vec<u8> {
+    let size = 14 + 8 * rectangles as u8;
+    let mut order = vec![0x2E, size, 0, 0x10, 2, 0, 0x11, id, 0, 0, 0, 5];
+    order.extend([rectangles as u8, 0]);
+    for index in 0..rectangles as u16 {
+        let (left, top, side) = match lie {
+            "apart" => (20 * (index % 4), 20 * (index / 4), 10),
+            _ => (5 * index, 5 * index, 10),
+        };
+        for number in [left, top, left + side, top + side] {
+            order.extend(number.to_le_bytes());
+        }
+    }
+    order
+}
+
+/// `bench figure-one`: the calls that callgrind counts.
+pub fn one(
+    windows: &str,
+    rectangles: &str,
+    lie: &str,
+    what: &str,
+    calls: &str,
+) -> Result<(), String> {
+    let number = |text: &str| {
+        text.parse::<usize>()
+            .map_err(|_| format!("`{text}` is no number"))
+    };
+    let (windows, rectangles, calls) = (number(windows)?, number(rectangles)?, number(calls)?);
+    let mut memory = Memory::new();
+    let mut lent = memory.lend();
+    lent.reset().map_err(|refusal| refusal.to_string())?;
+    for id in 0..windows {
+        let done = lent.deliver(&window(id as u8, rectangles, lie));
+        done.map_err(|refusal| refusal.to_string())?;
+    }
+    lent.checkpoint().map_err(|refusal| refusal.to_string())?;
+    let view = memory.view();
+    let mut out = vec![0; if what == "refused" { 1 } else { Figure::SIZE }];
+    for _ in 0..calls {
+        let is_granted = black_box(view).figure_bytes(&mut out).is_ok();
+        if black_box(is_granted) == (what == "refused") {
+            return Err(format!("`{what}` was answered otherwise"));
+        }
+    }
+    Ok(())
+}

@@ -1,0 +1,4 @@
+pub mod TableFigure
+pub mod OutcomeBytes
+pub mod OutcomeAnswers
+pub mod Examples

@@ -1,0 +1,2 @@
+pub mod TableFigure
+pub mod Outcome
