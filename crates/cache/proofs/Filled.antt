@@ -8,13 +8,13 @@ use lib.Dec.{leb}
 use lib.ListN.{length, take, drop}
 use lib.Seq.{drop-drop}
 use borrow.Author.Tests.{leb-true, leb-false, le-leb}
-use Rattle.wire.specs.Tests.{pick}
+use Rattle.wire.specs.Tests.{pick, both}
 use Rattle.wire.specs.Numbers.{numAt}
 use Rattle.wire.specs.Parts.{slice, splice}
 use Rattle.wire.proofs.Parts.{length-splice, length-slice, slice-take, slice-last, slice-splice, slice-splice-before, slice-splice-after}
 use Rattle.wire.proofs.Numbers.{num-slice, num-in}
 use Rattle.order.specs.declared.IconParts.{IconParts}
-use Rattle.order.specs.Icons.{tabled, partsFrom, partsOf}
+use Rattle.order.specs.Icons.{tabled, partsFrom, partsOf, bitsOk, sideOk}
 use Rattle.order.proofs.Accepted.{AnIcon}
 use Rattle.cache.specs.Cells.{cellOf, pictureOf, numbersOk, cellOk, carriedPicture, fillOf, putOf}
 
@@ -159,7 +159,22 @@ module _ (one : List ℕ) (s : List ℕ) (icon : ℕ) (long : length one ≡ 424
 
 -- ---- for the functions
 
-pub ok-join : (cell : List ℕ) {bits width height : ℕ} {p : IconParts} {r : Bool} → r ≡ numbersOk bits width height (p .end - p .mask) → bits ≡ numAt 1 cell 3
-    → width ≡ numAt 2 cell 4 → height ≡ numAt 2 cell 6 → p ≡ partsOf cell 0 → r ≡ cellOk cell
+pub bits-bad : (bits width height n : ℕ) → bitsOk bits ≡ false → false ≡ numbersOk bits width height n
+bits-bad bits width height n h = rw h
+
+pub bits-fine : (bits width height n : ℕ) → bitsOk bits ≡ true → both (both (sideOk width) (sideOk height)) (leb n 4224) ≡ numbersOk bits width height n
+bits-fine bits width height n h = rw h
+
+module _ (cell : List ℕ) {bits a b : ℕ} {t : Bool} (e : bits ≡ numAt 1 cell 3) (f : t ≡ tabled bits) (x : a ≡ numAt 2 cell 8) (y : b ≡ numAt 2 cell 10) where
+  pub runs-tabled : {c : ℕ} → t ≡ true → c ≡ numAt 2 cell 12 → a + b + c ≡ partsOf cell 0 .end - partsOf cell 0 .mask
+  unfolding partsOf
+  runs-tabled h z = rw (← e, sym f ∙ h, ← x, ← y, ← z) (omega arith)
+
+  pub runs-plain : t ≡ false → a + b ≡ partsOf cell 0 .end - partsOf cell 0 .mask
+  unfolding partsOf
+  runs-plain h = rw (← e, sym f ∙ h, ← x, ← y) (omega arith)
+
+pub ok-join : (cell : List ℕ) {bits width height n : ℕ} {r : Bool} → r ≡ numbersOk bits width height n → bits ≡ numAt 1 cell 3
+    → width ≡ numAt 2 cell 4 → height ≡ numAt 2 cell 6 → n ≡ partsOf cell 0 .end - partsOf cell 0 .mask → r ≡ cellOk cell
 unfolding cellOk
 ok-join cell e a b c d = rw (← a, ← b, ← c, ← d) e

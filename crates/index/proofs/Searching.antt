@@ -8,7 +8,7 @@ use borrow.Author.Tests.{eqb-true, eqb-false}
 use Rattle.wire.specs.Tests.{pick}
 use Rattle.wire.proofs.Tests.{both-left, both-right}
 use Rattle.places.specs.declared.Found.the-variants.{At, Nothing}
-use Rattle.places.specs.Counts.{firstFrom}
+use Rattle.places.specs.Counts.{firstFrom, onFound}
 use Rattle.index.specs.Sound.{eachFrom}
 
 -- where each in the range fails, nothing is found
@@ -18,6 +18,19 @@ first-none zero i test f = refl
 first-none (suc n) i test f =
     let h : test i ≡ false = f i (omega arith) (omega arith) in
     rw (h, first-none n (i + 1) test (λ j l u. f j (omega arith) (omega arith)))
+
+-- a search of m + n is one of m and, where that finds nothing, one of the n after them
+pub first-parts : (m n i : ℕ) (test : ℕ → Bool) → firstFrom (m + n) i test ≡ onFound (firstFrom m i test) (firstFrom n (i + m) test) At
+unfolding firstFrom
+first-parts zero n i test = let e : i + 0 ≡ i = omega arith in let f : 0 + n ≡ n = omega arith in rw (e, f)
+first-parts (suc m) n i test =
+    let e : suc m + n ≡ suc (m + n) = omega arith in
+    let f : i + suc m ≡ i + 1 + m = omega arith in
+    rw (e, f, first-parts m n (i + 1) test) (go (test i))
+  where
+    go : (t : Bool) → pick t (At i) (onFound (firstFrom m (i + 1) test) (firstFrom n (i + 1 + m) test) At) ≡ onFound (pick t (At i) (firstFrom m (i + 1) test)) (firstFrom n (i + 1 + m) test) At
+    go true = refl
+    go false = refl
 
 -- one that passes, and before which none does, is found
 pub first-is : (n i : ℕ) (test : ℕ → Bool) (k : ℕ) → i ≤ k → k < i + n → test k ≡ true → ((j : ℕ) → i ≤ j → j < k → test j ≡ false) → firstFrom n i test ≡ At k

@@ -4,14 +4,15 @@ use mathlib.Core.Bool.{Bool, true, false, not}
 use mathlib.Core.List.{List, [], _∷_}
 use Prim.Native.Nat.{ℕ, suc, _+_, _*_, _-_, _≤_, _<_}
 use native.Mathlib.Omega.{arith}
-use lib.Dec.{eqb, leb}
+use lib.Dec.{eqb, leb, ltb}
 use lib.Bits.{bitAnd}
 use lib.ListN.{length, getD, take, drop, replicate}
-use borrow.Author.Tests.{eq-eqb, ne-eqb, le-leb, lt-leb, le-ltb, lt-ltb}
+use borrow.Author.Tests.{eq-eqb, ne-eqb, leb-true, le-leb, lt-leb, ltb-true, le-ltb, lt-ltb}
 use Rattle.wire.specs.Tests.{pick, both, has}
 use Rattle.wire.specs.Numbers.{numAt, bytesOf}
 use Rattle.wire.specs.Parts.{slice, splice}
-use Rattle.wire.proofs.Numbers.{num1-is, num-slice}
+use Rattle.wire.proofs.Tests.{both-left, both-right}
+use Rattle.wire.proofs.Numbers.{num1-is, num-past, num-slice}
 use Rattle.protocol.specs.Flags.{desktopNone, flagBigIcon, flagCachedIcon, flagIcon, flagNew, flagsIcon}
 use Rattle.order.specs.declared.Judged.{Judged}
 use Rattle.order.specs.declared.Judged.the-variants.{Window, Notification, Desktop, Refused}
@@ -28,6 +29,7 @@ use Rattle.places.specs.Counts.{firstFrom, onFound}
 use Rattle.places.specs.Memory.{pointerAt, valid}
 use Rattle.places.specs.Changes.{pointAll, freePlace, shareOf, releaseOf, releaseRecordsOf}
 use Rattle.places.proofs.Bytes.{inside}
+use Rattle.places.proofs.Counting.{found}
 use Rattle.index.specs.declared.Searched.{Searched}
 use Rattle.index.specs.declared.RecordOrder.{RecordOrder}
 use Rattle.index.specs.declared.Place.{Place}
@@ -35,13 +37,14 @@ use Rattle.index.specs.declared.Place.the-variants.{Slot, Not}
 use Rattle.index.specs.declared.Change.{Change}
 use Rattle.index.specs.declared.Plan.{Plan}
 use Rattle.index.specs.declared.Plan.the-variants.{ChangeRecord, ChangeDesktop, Refuse}
-use Rattle.index.specs.Families.{start, capacity}
+use Rattle.index.specs.Families.{start, capacity, isWithin}
 use Rattle.index.specs.Slots.{usedAt, firstId, secondId, isUsed, isFree, isAt, slotOf, freeOf, searchFrom, searchOf, slotHas}
 use Rattle.index.specs.Orders.{isNew, isDelete, cellAt, whichOf}
 use Rattle.index.specs.Plans.{slotFor, lacksPicture, pointerFor, besideOf, cellFor, changeOf, planAt, planRecord, planOf}
 use Rattle.index.specs.Changes.{listedOf, freedOf, removedOf, picturedOf, changedOf, clearedOf, emptiedOf, appliedOf, Fits, FitsPlan}
 use Rattle.index.specs.Sound.{eachFrom, noPointers, soundIndex, familyOk}
-use Rattle.index.proofs.Soundness.{never, within-slots, found-within, free-within, sound-has}
+use Rattle.index.proofs.Searching.{first-parts}
+use Rattle.index.proofs.Soundness.{Within, never, within-slots, found-within, free-within, sound-has, one-slot}
 
 -- ---- a slot
 
@@ -133,7 +136,68 @@ pub found-is : (test : ℕ → Bool) (first count : ℕ) {r : Searched} {w : Fou
 unfolding searchFrom
 found-is test first count e g = sym (ap (λ (r : Searched). r .found) e) ∙ g
 
+-- a search looks at no more slots than it is asked to
+pub looked-most : (test : ℕ → Bool) (first count : ℕ) {r : Searched} → r ≡ searchFrom count first test → r .looked ≤ count
+unfolding searchFrom
+looked-most test first count e = rw e (go (firstFrom count first test) refl)
+  where
+    go : (w : Found) → firstFrom count first test ≡ w → onFound w count (λ j. j - first + 1) ≤ count
+    go (At j) u = let s = found count first test j u in omega (arith, s .0, s .1)
+    go Nothing u = omega arith
+
+-- in two halves
+module _ (test : ℕ → Bool) {f : Searched} (e : f ≡ searchFrom 16 0 test) where
+  pub half-found : {j : ℕ} → f .found ≡ At j → f ≡ searchFrom 32 0 test
+  unfolding searchFrom
+  half-found {j} h =
+      let k : firstFrom 16 0 test ≡ At j = found-is test 0 16 e h in
+      let w : firstFrom 32 0 test ≡ At j = first-parts 16 16 0 test ∙ ap (λ (v : Found). onFound v (firstFrom 16 16 test) At) k in
+      e ∙ rw (k, w)
+
+  pub half-none : {g : Searched} → f .found ≡ Nothing → g ≡ searchFrom 16 16 test → record { found = g .found; looked = 16 + g .looked } ≡ searchFrom 32 0 test
+  unfolding searchFrom
+  half-none {g} h d =
+      let k : firstFrom 16 0 test ≡ Nothing = found-is test 0 16 e h in
+      let w : firstFrom 32 0 test ≡ firstFrom 16 16 test = first-parts 16 16 0 test ∙ ap (λ (v : Found). onFound v (firstFrom 16 16 test) At) k in
+      rw (d, w) (go (firstFrom 16 16 test) refl)
+    where
+      go : (v : Found) → firstFrom 16 16 test ≡ v
+          → _≡_ {A = Searched} (record { found = v; looked = 16 + onFound v 16 (λ j. j - 16 + 1) }) (record { found = v; looked = onFound v 32 (λ j. j - 0 + 1) })
+      go (At j) u =
+          let r = found 16 16 test j u in
+          let n : 16 + (j - 16 + 1) ≡ j - 0 + 1 = omega (arith, r .0) in
+          rw n
+      go Nothing u = refl
+
+-- ---- a slot that is looked at first
+
+pub within-window : (f : Family) (i : ℕ) → f ≡ Windows → ltb i 32 ≡ isWithin f i
+within-window f i e = rw e (sym (ap (λ (t : Bool). both t (ltb i 32)) (le-leb 0 i (omega arith))))
+
+pub within-notification : (f : Family) (i : ℕ) → f ≡ Notifications → both (leb 32 i) (ltb i 48) ≡ isWithin f i
+within-notification f i e = rw e
+
+pub record-outside : (f : Family) (i : ℕ) (t : Bool) {w : Bool} → w ≡ isWithin f i → w ≡ false → false ≡ both (isWithin f i) t
+record-outside f i t e h = rw (← e, h)
+
+pub record-inside : (f : Family) (i : ℕ) (t : Bool) {w u : Bool} → w ≡ isWithin f i → w ≡ true → u ≡ t → u ≡ both (isWithin f i) t
+record-inside f i t e h k = rw (← e, h) k
+
+pub near-is : (x : List ℕ) → soundIndex x ≡ true → (f : Family) (a b i : ℕ) {t : Bool} → t ≡ both (isWithin f i) (isAt x a b i) → t ≡ true → At i ≡ slotOf x f a b
+near-is x s f a b i e h =
+    let l = leb (start f) i in
+    let u = ltb i (start f + capacity f) in
+    let q = isAt x a b i in
+    let g : both (both l u) q ≡ true = sym e ∙ h in
+    let w : both l u ≡ true = both-left (both l u) q g in
+    let within : Within f i = record { low = leb-true (start f) i (both-left l u w); high = ltb-true i (start f + capacity f) (both-right l u w) } in
+    sym (one-slot x (sound-has x s) f a b i within (both-right (both l u) q g))
+
 -- ---- 11
+
+pub cell-past : (s : List ℕ) (icon : ℕ) → length s ≤ icon → (0 ≡ cellAt s icon) × (0 < 67073)
+unfolding cellAt
+cell-past s icon h = (rw (num-past 1 s (icon + 2) (omega arith), num-past 2 s icon h), omega arith)
 
 pub cell-of : (s : List ℕ) (icon : ℕ) {c n : ℕ} → c ≡ numAt 1 s (icon + 2) → n ≡ numAt 2 s icon → 6 * c + n ≡ cellAt s icon
 unfolding cellAt
@@ -177,30 +241,30 @@ module _ (x : List ℕ) (flags c : ℕ) where
 
 -- ---- 9 and 10
 
-module _ (x : List ℕ) (o : RecordOrder) {t : Bool} (e : t ≡ isNew (o .family) (o .flags)) {r : Searched}
-    (f : r ≡ searchOf x (o .family) (o .window .id) (o .notify .id)) where
-  module _ {i : ℕ} (g : r .found ≡ At i) where
+module _ (x : List ℕ) (o : RecordOrder) {t : Bool} (e : t ≡ isNew (o .family) (o .flags)) {r : Found}
+    (f : r ≡ slotOf x (o .family) (o .window .id) (o .notify .id)) where
+  module _ {i : ℕ} (g : r ≡ At i) where
     pub slot-listed : t ≡ true → Not 9 ≡ slotFor x o
     unfolding slotFor
-    slot-listed h = rw (found-is (isAt x (o .window .id) (o .notify .id)) (start (o .family)) (capacity (o .family)) f g, ← e, h)
+    slot-listed h = rw (← f, g, ← e, h)
 
     pub slot-own : t ≡ false → Slot i ≡ slotFor x o
     unfolding slotFor
-    slot-own h = rw (found-is (isAt x (o .window .id) (o .notify .id)) (start (o .family)) (capacity (o .family)) f g, ← e, h)
+    slot-own h = rw (← f, g, ← e, h)
 
-  module _ (g : r .found ≡ Nothing) where
+  module _ (g : r ≡ Nothing) where
     pub slot-absent : t ≡ false → Not 9 ≡ slotFor x o
     unfolding slotFor
-    slot-absent h = rw (found-is (isAt x (o .window .id) (o .notify .id)) (start (o .family)) (capacity (o .family)) f g, ← e, h)
+    slot-absent h = rw (← f, g, ← e, h)
 
     module _ (h : t ≡ true) {w : Found} (k : w ≡ freeOf x (o .family)) where
       pub slot-full : w ≡ Nothing → Not 10 ≡ slotFor x o
       unfolding slotFor
-      slot-full m = rw (found-is (isAt x (o .window .id) (o .notify .id)) (start (o .family)) (capacity (o .family)) f g, ← e, h, ← k, m)
+      slot-full m = rw (← f, g, ← e, h, ← k, m)
 
       pub slot-new : {i : ℕ} → w ≡ At i → Slot i ≡ slotFor x o
       unfolding slotFor
-      slot-new m = rw (found-is (isAt x (o .window .id) (o .notify .id)) (start (o .family)) (capacity (o .family)) f g, ← e, h, ← k, m)
+      slot-new m = rw (← f, g, ← e, h, ← k, m)
 
 -- a slot that is found is one of 48
 pub slot-small : (x : List ℕ) (o : RecordOrder) {p : Place} {i : ℕ} → p ≡ slotFor x o → p ≡ Slot i → i < 48

@@ -1,7 +1,7 @@
 -- The two families of records that are listed by ids, and the sizes of the index. Assumes nothing.
 use Prim.Native.Nat.{ℕ, _+_, _*_}
 use mathlib.Core.Bool.{Bool}
-use lib.Dec.{eqb}
+use lib.Dec.{eqb, leb, ltb}
 use Rattle.wire.specs.Tests.{both}
 use Rattle.places.specs.declared.Family.{Family}
 use Rattle.places.specs.declared.Family.the-variants.{Windows, Notifications}
@@ -16,6 +16,10 @@ start Notifications = 32
 abbrev pub capacity : Family → ℕ
 capacity Windows = 32
 capacity Notifications = 16
+
+-- slot i is one of a family's
+abbrev pub isWithin : Family → ℕ → Bool
+isWithin f i = both (leb (start f) i) (ltb i (start f + capacity f))
 
 -- the highest second id: a window has none, and 0 stands for it
 abbrev pub highest : Family → ℕ

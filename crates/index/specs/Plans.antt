@@ -5,7 +5,7 @@ use mathlib.Core.List.{List, [], _∷_}
 use lib.Dec.{eqb, leb}
 use Rattle.wire.specs.Tests.{pick, both, either}
 use Rattle.order.specs.Judge.{judgeOf}
-use Rattle.places.specs.Sizes.{cellCount}
+use Rattle.places.specs.Sizes.{cellCount, slotCount}
 use Rattle.places.specs.Counts.{onFound}
 use Rattle.places.specs.Memory.{pointerAt}
 use Rattle.places.specs.Changes.{freePlace}
@@ -81,3 +81,9 @@ abbrev pub planNumber : Plan → ℕ
 planNumber (ChangeRecord c) = 0
 planNumber (ChangeDesktop flags) = 0
 planNumber (Refuse n) = n
+
+-- the slot of the record that a plan changes; past the last where it changes none
+abbrev pub planSlot : Plan → ℕ
+planSlot (ChangeRecord c) = c .slot
+planSlot (ChangeDesktop flags) = slotCount
+planSlot (Refuse n) = slotCount

@@ -8,7 +8,7 @@ ghost use lib.ListN.{length};
 ghost use Rattle.places.specs.Sizes.{holderCount, slotCount};
 ghost use Rattle.index.specs.Families.{indexLength};
 ghost use Rattle.index.specs.Orders.{isNew, cellAt, whichOf};
-ghost use Rattle.index.specs.Plans.{besideOf, lacksPicture, slotFor, changeOf, planAt, planRecord, planOf, planNumber};
+ghost use Rattle.index.specs.Plans.{besideOf, lacksPicture, slotFor, changeOf, planAt, planRecord, planOf, planNumber, planSlot};
 ghost use Rattle.index.specs.Changes.{appliedOf};
 ghost use Rattle.index.specs.Sound.{soundIndex};
 use order::Judged;
@@ -75,6 +75,9 @@ fn cell(s: &[u8], icon: u32) -> usize
     ensures { λ r. ⌜ (r ≡ cellAt (now (s .entry)) icon) × (r < 67073) ⌝ }
 {
     let at = icon as usize;
+    if s.len() <= at {
+        return 0;
+    }
     let entry = wire::read_u16(s, at) as usize;
     let cache = wire::read_u8(s, at + 2) as usize;
     6 * cache + entry
@@ -123,15 +126,14 @@ fn is_new(family: Family, flags: u32) -> bool
     }
 }
 
-// 9, 10, or the slot of the record that an order changes.
-fn slot_for(index: &[u8], o: RecordOrder) -> Place
-    requires { ⌜ indexLength ≤ length (now index) ⌝ }
+// 9, 10, or the slot of the record that an order changes; slot near is looked at before a search.
+fn slot_for(index: &[u8], o: RecordOrder, near: usize) -> Place
+    requires { ⌜ soundIndex (now index) ≡ true ⌝ }
     ensures { λ r. ⌜ r ≡ slotFor (now (index .entry)) o ⌝ }
 {
     let family = o.family;
     let fresh = is_new(family, o.flags);
-    let f = slots::find(index, family, o.window, o.notify);
-    let w = f.found;
+    let w = slots::find_near(index, family, o.window, o.notify, near);
     match w {
         Found::At(i) => {
             if fresh {
@@ -204,11 +206,11 @@ fn plan_at(index: &[u8], s: &[u8], o: RecordOrder, i: usize) -> Plan
 }
 
 // 9, 10, 11 and 17, or the change of a record.
-fn plan_record(index: &[u8], s: &[u8], o: RecordOrder) -> Plan
+fn plan_record(index: &[u8], s: &[u8], o: RecordOrder, near: usize) -> Plan
     requires { ⌜ soundIndex (now index) ≡ true ⌝ }
     ensures { λ r. ⌜ r ≡ planRecord (now (index .entry)) (now (s .entry)) o ⌝ }
 {
-    let p = slot_for(index, o);
+    let p = slot_for(index, o, near);
     match p {
         Place::Not(n) => Plan::Refuse(n),
         Place::Slot(i) => {
@@ -221,27 +223,27 @@ fn plan_record(index: &[u8], s: &[u8], o: RecordOrder) -> Plan
     }
 }
 
-// The first of the numbers 2 to 11 and 17 that applies to an order, or what it changes.
-pub fn judge(index: &[u8], s: &[u8]) -> Plan
+// The first of the numbers 2 to 11 and 17 that applies to an order, or what it changes. Slot near is looked at for its record before
+// a search.
+pub fn judge_near(index: &[u8], s: &[u8], near: usize) -> Plan
     requires { ⌜ soundIndex (now index) ≡ true ⌝ }
     ensures { λ r. ⌜ r ≡ planOf (now (index .entry)) (now (s .entry)) ⌝ }
 {
     let j = order::judge(s);
-    match j {
+    let r = match j {
         Judged::Window(o) => {
             let family = Family::Windows;
             let window = o.window;
             let notify = NotifyIconId { id: 0 };
             let flags = o.flags;
             let icon = o.icon;
-            let r = RecordOrder {
+            RecordOrder {
                 family,
                 window,
                 notify,
                 flags,
                 icon,
-            };
-            plan_record(index, s, r)
+            }
         }
         Judged::Notification(o) => {
             let family = Family::Notifications;
@@ -249,18 +251,30 @@ pub fn judge(index: &[u8], s: &[u8]) -> Plan
             let notify = o.notify;
             let flags = o.flags;
             let icon = o.icon;
-            let r = RecordOrder {
+            RecordOrder {
                 family,
                 window,
                 notify,
                 flags,
                 icon,
-            };
-            plan_record(index, s, r)
+            }
         }
-        Judged::Desktop(o) => Plan::ChangeDesktop(o.flags),
-        Judged::Refused(r) => Plan::Refuse(r.number),
-    }
+        Judged::Desktop(o) => {
+            return Plan::ChangeDesktop(o.flags);
+        }
+        Judged::Refused(r) => {
+            return Plan::Refuse(r.number);
+        }
+    };
+    plan_record(index, s, r, near)
+}
+
+// The same with no slot known.
+pub fn judge(index: &[u8], s: &[u8]) -> Plan
+    requires { ⌜ soundIndex (now index) ≡ true ⌝ }
+    ensures { λ r. ⌜ r ≡ planOf (now (index .entry)) (now (s .entry)) ⌝ }
+{
+    judge_near(index, s, slots::COUNT)
 }
 
 // The number of a plan.
@@ -271,6 +285,17 @@ pub fn number(p: Plan) -> u8
         Plan::ChangeRecord(_) => 0,
         Plan::ChangeDesktop(_) => 0,
         Plan::Refuse(n) => n,
+    }
+}
+
+// The slot of the record that a plan changes, past the last where it changes none.
+pub fn slot(p: Plan) -> usize
+    ensures { λ r. ⌜ r ≡ planSlot p ⌝ }
+{
+    match p {
+        Plan::ChangeRecord(c) => c.slot,
+        Plan::ChangeDesktop(_) => slots::COUNT,
+        Plan::Refuse(_) => slots::COUNT,
     }
 }
 

@@ -1,11 +1,14 @@
 // The slots of the index, 9 bytes each (used 1, window id 4, notify-icon id 4): 32 of windows, then 16 of notification icons.
 ghost use mathlib.Core.Path.{_≡_};
-ghost use Prim.Native.Nat.{_+_, _≤_};
+ghost use mathlib.Core.Bool.{true};
+ghost use Prim.Native.Nat.{_+_, _<_, _≤_};
 ghost use lib.ListN.{length};
+ghost use Rattle.wire.specs.Tests.{both};
 ghost use Rattle.places.specs.Sizes.{slotCount};
-ghost use Rattle.index.specs.Families.{indexLength};
+ghost use Rattle.index.specs.Families.{indexLength, isWithin};
 ghost use Rattle.places.specs.Counts.{firstFrom};
-ghost use Rattle.index.specs.Slots.{isFree, isAt, slotHas, freeOf, searchFrom, searchOf};
+ghost use Rattle.index.specs.Slots.{isFree, isAt, slotHas, slotOf, freeOf, searchFrom, searchOf};
+ghost use Rattle.index.specs.Sound.{soundIndex};
 use crate::Searched;
 use places::Family;
 use places::Found;
@@ -15,6 +18,12 @@ use protocol::WindowId;
 pub const WINDOWS: usize = 32;
 
 pub const NOTIFICATIONS: usize = 16;
+
+// All of them; as the number of a slot, none.
+pub const COUNT: usize = WINDOWS + NOTIFICATIONS;
+
+// Half of the slots of windows.
+const HALF: usize = 16;
 
 pub const SLOT: usize = 9;
 
@@ -31,6 +40,16 @@ fn has_ids(slot: &[u8], a: u32, b: u32) -> bool
     wire::read_u32(slot, 5) == b
 }
 
+// Slot i has the record of the ids a and b.
+fn is_at(index: &[u8], i: usize, a: u32, b: u32) -> bool
+    requires { ⌜ (i < slotCount) × (indexLength ≤ length (now index)) ⌝ }
+    ensures { λ r. ⌜ r ≡ isAt (now (index .entry)) a b i ⌝ }
+{
+    let base = places::LENGTH + SLOT * i;
+    let past = base + SLOT;
+    has_ids(&index[base..past], a, b)
+}
+
 // The first of count slots that has the record of the ids a and b, and how many slots were looked at.
 pub fn search(index: &[u8], first: usize, count: usize, a: u32, b: u32) -> Searched
     requires { ⌜ (first + count ≤ slotCount) × (indexLength ≤ length (now index)) ⌝ }
@@ -39,9 +58,7 @@ pub fn search(index: &[u8], first: usize, count: usize, a: u32, b: u32) -> Searc
     let end = first + count;
     let mut i = first;
     while i < end {
-        let base = places::LENGTH + SLOT * i;
-        let past = base + SLOT;
-        if has_ids(&index[base..past], a, b) {
+        if is_at(index, i, a, b) {
             return Searched {
                 found: Found::At(i),
                 looked: i - first + 1,
@@ -71,15 +88,82 @@ fn unused(index: &[u8], first: usize, count: usize) -> Found
     Found::Nothing
 }
 
+// The same of the slots of windows, in two halves: a search of 16 slots from one that is known takes two instructions a slot, as
+// the compiler writes each out.
+fn search_windows(index: &[u8], a: u32, b: u32) -> Searched
+    requires { ⌜ indexLength ≤ length (now index) ⌝ }
+    ensures { λ r. ⌜ r ≡ searchFrom 32 0 (isAt (now (index .entry)) a b) ⌝ }
+{
+    let f = search(index, 0, HALF, a, b);
+    let w = f.found;
+    match w {
+        Found::At(_) => f,
+        Found::Nothing => {
+            let g = search(index, HALF, HALF, a, b);
+            let found = g.found;
+            Searched {
+                found,
+                looked: HALF + g.looked,
+            }
+        }
+    }
+}
+
 // The slot of a record, and how many slots the search looked at.
 pub fn find(index: &[u8], family: Family, window: WindowId, notify: NotifyIconId) -> Searched
     requires { ⌜ indexLength ≤ length (now index) ⌝ }
     ensures { λ r. ⌜ r ≡ searchOf (now (index .entry)) family (window .id) (notify .id) ⌝ }
 {
     match family {
-        Family::Windows => search(index, 0, WINDOWS, window.id, notify.id),
+        Family::Windows => search_windows(index, window.id, notify.id),
         Family::Notifications => search(index, WINDOWS, NOTIFICATIONS, window.id, notify.id),
     }
+}
+
+// Slot i is one of a family's and has the record of the ids.
+fn has_record(
+    index: &[u8],
+    family: Family,
+    window: WindowId,
+    notify: NotifyIconId,
+    i: usize,
+) -> bool
+    requires { ⌜ indexLength ≤ length (now index) ⌝ }
+    ensures { λ r. ⌜ r ≡ both (isWithin family i) (isAt (now (index .entry)) (window .id) (notify .id) i) ⌝ }
+{
+    match family {
+        Family::Windows => {
+            if WINDOWS <= i {
+                return false;
+            }
+            is_at(index, i, window.id, notify.id)
+        }
+        Family::Notifications => {
+            if !((WINDOWS <= i) & (i < COUNT)) {
+                return false;
+            }
+            is_at(index, i, window.id, notify.id)
+        }
+    }
+}
+
+// The slot of a record whose slot may be known: near, where that has the ids, as no other slot of a sound index has them; else the
+// one that the search finds.
+pub fn find_near(
+    index: &[u8],
+    family: Family,
+    window: WindowId,
+    notify: NotifyIconId,
+    near: usize,
+) -> Found
+    requires { ⌜ soundIndex (now index) ≡ true ⌝ }
+    ensures { λ r. ⌜ r ≡ slotOf (now (index .entry)) family (window .id) (notify .id) ⌝ }
+{
+    if has_record(index, family, window, notify, near) {
+        return Found::At(near);
+    }
+    let f = find(index, family, window, notify);
+    f.found
 }
 
 // The first slot of a family that has no record.

@@ -12,7 +12,7 @@ use Rattle.wire.proofs.Numbers.{Bytes, bytes-slice}
 use Rattle.places.specs.Memory.{placesOf}
 use Rattle.index.specs.declared.Plan.{Plan}
 use Rattle.index.specs.Families.{indexLength}
-use Rattle.index.specs.Plans.{planOf, planNumber}
+use Rattle.index.specs.Plans.{planOf, planNumber, planSlot}
 use Rattle.index.specs.Changes.{appliedOf, FitsPlan}
 use Rattle.index.specs.Sound.{soundIndex}
 use Rattle.index.proofs.After.{plan-sound, length-plan, judged-fits}
@@ -58,10 +58,10 @@ module _ (want : Want) (q : ℕ) (d m s : List ℕ) {p : Plan} (judged : p ≡ p
   pub change-asks : Bytes s → soundIndex d ≡ true → (indexLength ≤ length d) × FitsPlan p
   change-asks bytes h = (sound-long d h, judged-fits d s h bytes judged)
 
-  pub order-gives : {r : ℕ} {d' m' : List ℕ} → r ≡ planNumber p → d' ≡ appliedOf d p → m' ≡ followedOf want q s p m
-      → (r ≡ planNumber (planOf d s)) × ((d' ≡ indexAfter d s) × (m' ≡ followedAfter want q d s m))
-  order-gives says makes follows =
-      (says ∙ ap planNumber judged, (makes ∙ ap (appliedOf d) judged, follows ∙ ap (λ (g : Plan). followedOf want q s g m) judged))
+  pub order-gives : {r i : ℕ} {d' m' : List ℕ} → r ≡ planNumber p → i ≡ planSlot p → d' ≡ appliedOf d p → m' ≡ followedOf want q s p m
+      → ((r ≡ planNumber (planOf d s)) × (i ≡ planSlot (planOf d s))) × ((d' ≡ indexAfter d s) × (m' ≡ followedAfter want q d s m))
+  order-gives says stands makes follows =
+      ((says ∙ ap planNumber judged, stands ∙ ap planSlot judged), (makes ∙ ap (appliedOf d) judged, follows ∙ ap (λ (g : Plan). followedOf want q s g m) judged))
 
 -- ---- the replay
 

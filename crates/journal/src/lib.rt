@@ -6,7 +6,7 @@ ghost use mathlib.Core.List.{[]};
 ghost use Prim.Native.Nat.{_≤_, _<_};
 ghost use lib.ListN.{length};
 ghost use Rattle.index.specs.Families.{indexLength};
-ghost use Rattle.index.specs.Plans.{planOf, planNumber};
+ghost use Rattle.index.specs.Plans.{planOf, planNumber, planSlot};
 ghost use Rattle.index.specs.Sound.{soundIndex};
 ghost use Rattle.store.specs.Store.{placesIn, five};
 ghost use Rattle.follow.specs.declared.Want.the-variants.{Nothing};
@@ -44,18 +44,26 @@ pub fn too_short(index: &[u8], bodies: &[u8], lent: usize, journal: &[u8]) -> bo
         | (journal.len() < LENGTH)
 }
 
+// The number of an order that is replayed, and the slot of its record.
+struct Step {
+    number: u8,
+    slot: usize,
+}
+
 // Judges an order, which stands at index q of the journal, on an index, follows what is looked up and applies the order's plan to
-// the index. Its number.
-fn replay_order(d: &mut [u8], m: &mut [u8], s: &[u8], q: u16, want: Want) -> u8
+// the index. Slot near is looked at for its record before a search: many an order is for the record of the one before it.
+fn replay_order(d: &mut [u8], m: &mut [u8], s: &[u8], q: u16, want: Want, near: usize) -> Step
     requires { ⌜ (soundIndex (now d) ≡ true) × (length (now m) ≡ roomFor want) ⌝ }
-    ensures { λ r. ⌜ r ≡ planNumber (planOf (now (d .entry)) (now (s .entry))) ⌝ }
+    ensures { λ r. ⌜ (r .number ≡ planNumber (planOf (now (d .entry)) (now (s .entry)))) × (r .slot ≡ planSlot (planOf (now (d .entry)) (now (s .entry)))) ⌝ }
     ensures { λ r. ⌜ now (d .exit) ≡ indexAfter (now (d .entry)) (now (s .entry)) ⌝ }
     ensures { λ r. ⌜ now (m .exit) ≡ followedAfter want q (now (d .entry)) (now (s .entry)) (now (m .entry)) ⌝ }
 {
-    let p = index::judge(d, s);
+    let p = index::judge_near(d, s, near);
     follow::follow(m, s, p, q, want);
     index::changes::apply(d, p);
-    index::number(p)
+    let number = index::number(p);
+    let slot = index::slot(p);
+    Step { number, slot }
 }
 
 // Replays count orders of the journal. Where they end, or 0 where one is cut or refused.
@@ -64,6 +72,7 @@ fn replay(d: &mut [u8], m: &mut [u8], journal: &[u8], count: usize, want: Want) 
     ensures { λ r. ⌜ Replayed (replayFrom want count logStart (now (journal .entry)) (now (d .entry)) (now (m .entry))) r (now (d .exit)) (now (m .exit)) ⌝ }
 {
     let mut p = START;
+    let mut near = index::slots::COUNT;
     let mut i = 0;
     while i < count {
         let size = wire::read_u16(journal, p + 1) as usize;
@@ -71,10 +80,11 @@ fn replay(d: &mut [u8], m: &mut [u8], journal: &[u8], count: usize, want: Want) 
             return 0;
         }
         let end = p + size;
-        let number = replay_order(d, m, &journal[p..end], p as u16, want);
-        if number != 0 {
+        let step = replay_order(d, m, &journal[p..end], p as u16, want, near);
+        if step.number != 0 {
             return 0;
         }
+        near = step.slot;
         p = end;
         i += 1;
     }

@@ -1,4 +1,5 @@
 pub mod LayoutsWritten
+pub mod LayoutsJoined
 pub mod LayoutsLossless
 pub mod ValidMemory
 pub mod Examples

@@ -5,7 +5,7 @@ use mathlib.Core.List.{List, [], _∷_, _++_, append-nil}
 use Prim.Native.Nat.{ℕ, suc, _+_, _-_, _≤_, _<_}
 use native.Mathlib.Omega.{arith}
 use lib.Dec.{eqb, ltb}
-use lib.ListN.{length, getD, set, drop, replicate, length-set, length-replicate, List·getD-eq-default}
+use lib.ListN.{length, getD, set, take, drop, replicate, length-set, length-replicate, List·getD-eq-default}
 use lib.Seq.{getD-set-same, getD-set-other, drop-length}
 use borrow.Author.Tests.{eqb-true, eqb-false, eq-eqb, ne-eqb, ltb-true, ltb-false}
 use Rattle.wire.specs.Tests.{pick}
@@ -86,6 +86,18 @@ module _ (b : List ℕ) (long : 157 ≤ length b) where
           let n = length-slice b 1 156 (omega arith) in
           let m = ltb-false k 156 e in
           List·getD-eq-default (slice b 1 156) 0 (omega arith)
+
+  -- all of it lent
+  pub lent-small : valid b ≡ true → (h : ℕ) → getD (take 156 (drop 1 b)) h 0 < 65
+  unfolding slice
+  lent-small ok h =
+      let v = valid-has b ok in
+      let s : getD (slice b 1 156) h 0 ≡ pointerAt b h = ap (λ (f : ℕ → ℕ). f h) pointers in
+      omega (arith, s, v .within h, v .many)
+
+  pub lent-marked : (ms : List ℕ) → Marked (λ h. getD (take 156 (drop 1 b)) h 0) (length (take 156 (drop 1 b))) ms → Marked (pointerAt b) 156 ms
+  unfolding slice
+  lent-marked ms marked v l = marked v l ∙ rw (length-slice b 1 156 (omega arith), pointers)
 
   -- all of it copied into an array of zeros
   pub copied : {x : List ℕ} → x ≡ splice (replicate 156 0) 0 (slice b 1 156) → x ≡ slice b 1 156

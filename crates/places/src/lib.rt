@@ -38,7 +38,7 @@ pub const FEWEST: u8 = 12;
 pub const MOST: u8 = 64;
 
 // Pointers that there may be: none, or one of the places.
-const POINTERS: usize = 65;
+pub const POINTERS: usize = 65;
 
 // The records that have icons.
 pub enum Family {
@@ -64,6 +64,14 @@ fn marks_of(pointers: &[u8]) -> [u8; POINTERS]
         h += 1;
     }
     marks
+}
+
+// A mark for each pointer that a holder has.
+pub fn marks(bytes: &[u8]) -> [u8; POINTERS]
+    requires { ⌜ valid (now bytes) ≡ true ⌝ }
+    ensures { λ r. ⌜ Marked (pointerAt (now (bytes .entry))) holderCount r ⌝ }
+{
+    marks_of(&bytes[1..LENGTH])
 }
 
 // The first of n places whose pointer has no mark.

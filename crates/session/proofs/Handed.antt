@@ -126,6 +126,16 @@ icon-in x f a b w e l is = omega (arith, is, go (slotOf x f a b) refl e)
     go Nothing s e = no e
     go (At i) s e = let h = slot-below x f a b i s in rw (lt-ltb w 3 l) (omega arith)
 
+-- the second icon of a record follows its first
+icon-next : (x : List ℕ) (f : Family) (a b : ℕ) → indexOf x .listed f a b ≡ true → {n : ℕ} → n ≡ numberOf (slotOf x) (icon f a b 0) → n + 1 ≡ numberOf (slotOf x) (icon f a b 1)
+unfolding indexOf numberOf
+icon-next x f a b e is = ap (λ (k : ℕ). k + 1) is ∙ go (slotOf x f a b) e
+  where
+    go : (r : Found) → onFound r false (λ i. true) ≡ true
+        → onFound r holderCount (λ i. pick (ltb 0 3) (iconNumber i 0) holderCount) + 1 ≡ onFound r holderCount (λ i. pick (ltb 1 3) (iconNumber i 1) holderCount)
+    go Nothing e = no e
+    go (At i) e = omega arith
+
 module _ (x : List ℕ) (c : ℕ) (listed : indexOf x .sharing .shares (cell c) (cell c) ≡ true) where
   abbrev pointer : ℕ
   pointer = pointerAt x (numberOf (slotOf x) (cell c))
@@ -173,16 +183,19 @@ module _ {x bodies : List ℕ} {store : List (List ℕ)} {journal m out : List �
     unfolding wantOf
     window-size = h .size
 
-    pub window-asks : ((1 ≤ 15) × (15 ≤ 24) × (2 + roomAll windowFields ≤ length out) × (2 + roomAll windowFields ≤ length (heldSlot m)))
-        × (fieldsOk windowFields 2 (heldSlot m) ≡ true)
-    unfolding roomAll validHeld
+    pub window-asks : ((windowSize ≤ length out) × (windowSize ≤ length (heldSlot m))) × (fieldsOk windowFields 2 (heldSlot m) ≡ true)
+    unfolding validHeld
     window-asks =
         let n = length-slice m 0 916 (omega (arith, window-size)) in
-        ((omega arith, omega arith, omega (arith, h .room), omega (arith, n)), h .valid)
+        ((omega (arith, h .room), omega (arith, n)), h .valid)
 
     pub window-icon : (i : ℕ) → i < 3 → {n : ℕ} → n ≡ numberOf (slotOf x) (icon family.Windows (w .id) 0 i) → n < holderCount
     unfolding listedIn
     window-icon i l e = icon-in x family.Windows (w .id) 0 i (h .listed) l e
+
+    pub window-big : {n : ℕ} → n ≡ numberOf (slotOf x) (icon family.Windows (w .id) 0 0) → n + 1 ≡ numberOf (slotOf x) (icon family.Windows (w .id) 0 1)
+    unfolding listedIn
+    window-big e = icon-next x family.Windows (w .id) 0 (h .listed) e
 
     pub window-ready : Ready x bodies store journal (slice m 916 128)
     unfolding ReadyFor

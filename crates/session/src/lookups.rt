@@ -170,9 +170,9 @@ fn window(
 {
     let none = NotifyIconId { id: 0 };
     let small = icon_number(x, Family::Windows, w, none, 0);
-    let big = icon_number(x, Family::Windows, w, none, 1);
+    let big = small + 1;
     let origins = &m[body::SLOT..follow::RECORD];
-    layout::record(out, &m[0..body::SLOT], 1, 15);
+    layout::window(out, &m[0..body::SLOT]);
     let s = shown::holder(
         out,
         layout::WINDOW,

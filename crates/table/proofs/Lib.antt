@@ -13,4 +13,5 @@ pub mod Changed
 pub mod Joined
 pub mod Sounded
 pub mod Delivered
+pub mod HeadsOnce
 pub mod Ways

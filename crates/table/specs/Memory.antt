@@ -1,11 +1,11 @@
 -- The table that a memory describes: its index, the bodies of 48 records and of the desktop state (slot 48) with the heads of the
 -- pictures behind them, and the store of pictures; and the rule that it describes one. Assumes nothing.
-use Prim.Native.Nat.{ℕ, _-_}
+use Prim.Native.Nat.{ℕ, _+_, _-_}
 use mathlib.Core.Bool.{Bool, true, false, not}
 use mathlib.Core.List.{List, []}
 use mathlib.Core.Option.{Option}
 use lib.Dec.{eqb, ltb}
-use lib.ListN.{length, drop}
+use lib.ListN.{length, getD, drop}
 use Rattle.wire.specs.Tests.{pick}
 use Rattle.order.specs.declared.Row.{Row}
 use Rattle.places.specs.declared.Family.{Family}
@@ -78,3 +78,9 @@ soundTable index bodies lent =
     (pick (not (recordsOk Notifications index bodies)) false
     (pick (not (bodyOk desktopFields 1 1 (slotOf bodies 48))) false
     (eachBelow holderCount (holderOk index bodies)))))))
+
+-- ---- for the contracts
+
+-- the head of place p is in its sets, where the pointer at it has a mark
+unfoldable pub markedOk : List ℕ → List ℕ → ℕ → Bool
+markedOk marks bodies p = pick (eqb (getD marks (p + 1) 0) 0) true (headOk (headsOf bodies) p)

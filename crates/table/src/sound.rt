@@ -3,12 +3,12 @@ ghost use mathlib.Core.Path.{_≡_};
 ghost use Prim.Native.Nat.{_+_, _<_, _≤_};
 ghost use lib.ListN.{length};
 ghost use Rattle.order.specs.Rows.{rowsFrom};
-ghost use Rattle.places.specs.Sizes.{slotCount, holderCount};
+ghost use Rattle.places.specs.Sizes.{slotCount, holderCount, mostPlaces};
 ghost use Rattle.places.specs.Counts.{eachBelow};
 ghost use Rattle.index.specs.Families.{indexLength};
 ghost use Rattle.index.specs.Sound.{eachFrom, soundIndex};
 ghost use Rattle.body.specs.Bodies.{slotOf, bodyOk};
-ghost use Rattle.table.specs.Memory.{bodiesLength, recordOk, holderOk, soundTable};
+ghost use Rattle.table.specs.Memory.{bodiesLength, recordOk, holderOk, markedOk, soundTable};
 ghost use mathlib.Core.Bool.{true};
 use index::slots;
 
@@ -56,31 +56,41 @@ fn records_ok(
     true
 }
 
-// Whether the head of the place that holder h points at is in its sets.
-fn holder_ok(index: &[u8], bodies: &[u8], h: usize) -> bool
-    requires { ⌜ (soundIndex (now index) ≡ true) × (bodiesLength ≤ length (now bodies)) × (h < holderCount) ⌝ }
-    ensures { λ r. ⌜ r ≡ holderOk (now (index .entry)) (now (bodies .entry)) h ⌝ }
+// Whether the head of place p is in its sets, where a holder points at it.
+fn place_ok(marks: &[u8; places::POINTERS], bodies: &[u8], p: usize) -> bool
+    requires { ⌜ (bodiesLength ≤ length (now bodies)) × (p < mostPlaces) ⌝ }
+    ensures { λ r. ⌜ r ≡ markedOk (now (marks .entry)) (now (bodies .entry)) p ⌝ }
 {
-    let p = index[h + 1];
-    if p == 0 {
+    if marks[p + 1] == 0 {
         return true;
     }
-    picture::is_ok(&bodies[crate::HEADS..], (p - 1) as usize)
+    picture::is_ok(&bodies[crate::HEADS..], p)
 }
 
-// So it is of every holder.
+// So it is of every place.
+fn places_ok(marks: &[u8; places::POINTERS], bodies: &[u8]) -> bool
+    requires { ⌜ bodiesLength ≤ length (now bodies) ⌝ }
+    ensures { λ r. ⌜ r ≡ eachBelow mostPlaces (markedOk (now (marks .entry)) (now (bodies .entry))) ⌝ }
+{
+    let end = places::MOST as usize;
+    let mut p = 0;
+    while p < end {
+        if !place_ok(marks, bodies, p) {
+            return false;
+        }
+        p += 1;
+    }
+    true
+}
+
+// Whether the head of the place that a holder points at is in its sets, for every holder: each place is tested once, however many
+// point at it.
 fn holders_ok(index: &[u8], bodies: &[u8]) -> bool
     requires { ⌜ (soundIndex (now index) ≡ true) × (bodiesLength ≤ length (now bodies)) ⌝ }
     ensures { λ r. ⌜ r ≡ eachBelow holderCount (holderOk (now (index .entry)) (now (bodies .entry))) ⌝ }
 {
-    let mut h = 0;
-    while h < places::HOLDERS {
-        if !holder_ok(index, bodies, h) {
-            return false;
-        }
-        h += 1;
-    }
-    true
+    let marks = places::marks(index);
+    places_ok(&marks, bodies)
 }
 
 // Whether the memories describe a table, with so many places lent.

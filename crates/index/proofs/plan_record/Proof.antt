@@ -9,8 +9,7 @@ pub plan-record-spec : {M : Type 1} → statement M
 plan-record-spec =
     tie.close
     (tie.spec
-    (λ c κs.  -- slot-for-requires
-    sound-long (now (c .before .before .args .index)) (c .before .before .pre))
+    (λ c κs. search needs)
     (λ c. search needs)
     (λ c. search needs)
     (λ c κs. search needs)

@@ -9,10 +9,10 @@ use Rattle.journal.proofs.replay.Tie as tie
 
 -- The replay of the orders left, from the memories so far, is the replay of all of them from the first memories.
 abbrev Inv-loop : tie.InvT-loop
-Inv-loop d₀ m₀ journal count want p₀ i₀ d m p i = ReplayInv want d₀ m₀ journal count d m p i
+Inv-loop d₀ m₀ journal count want p₀ near₀ i₀ d m p near i = ReplayInv want d₀ m₀ journal count d m p i
 
 abbrev μ-loop : tie.MeasureT-loop
-μ-loop d₀ m₀ journal count want p₀ i₀ d m p i = count - i
+μ-loop d₀ m₀ journal count want p₀ near₀ i₀ d m p near i = count - i
 
 abbrev start : tie.After-shared-slice-known Inv-loop μ-loop → tie.Start Inv-loop μ-loop
 start v = v .before .before .before
@@ -52,21 +52,21 @@ replay-spec =
     (λ c. search needs)
     (λ c. search needs)
     (λ c.  -- returns-2
-    let s = c .before .before .before .before .before in
+    let s = c .before .before .before .before .before .before in
     let f = s .before .before .before .before in
     let w = f .before .before .before in
     let u = start (w .before) in
     replay-refused (u .args .want) (now (u .args .d)) (now (u .args .m)) (now (u .args .journal)) (bytes (w .before)) (w .loop .inv) (f .before .before .loop-test .taken)
-    (f .before .read-u16 .ensures) (f .if1 .left) (s .replay-order .ensures .0) (s .replay-order .ensures .1 .0) (s .replay-order .ensures .1 .1) (c .if2 .taken))
+    (f .before .read-u16 .ensures) (f .if1 .left) (s .replay-order .ensures .0 .0) (s .replay-order .ensures .1 .0) (s .replay-order .ensures .1 .1) (c .if2 .taken))
     (λ c. search needs)
-    (λ c. omega (arith, c .before .before .before .before .before .before .before .before .before .before .before .loop-test .taken))  -- loop-less
+    (λ c. omega (arith, c .before .before .before .before .before .before .before .before .before .before .before .before .loop-test .taken))  -- loop-less
     (λ c.  -- loop-again
-    let s = c .before .before .before .before .before in
+    let s = c .before .before .before .before .before .before in
     let f = s .before .before .before .before in
     let w = f .before .before .before in
     let u = start (w .before) in
     replay-next (u .args .want) (now (u .args .d)) (now (u .args .m)) (now (u .args .journal)) (bytes (w .before)) (w .loop .inv) (f .before .before .loop-test .taken)
-    (f .before .read-u16 .ensures) (f .if1 .left) (s .replay-order .ensures .0) (s .replay-order .ensures .1 .0) (s .replay-order .ensures .1 .1) (c .if2 .left))
+    (f .before .read-u16 .ensures) (f .if1 .left) (s .replay-order .ensures .0 .0) (s .replay-order .ensures .1 .0) (s .replay-order .ensures .1 .1) (c .if2 .left))
     (λ c. c .before .loop .inv .long)  -- same-length-5
     (λ c. c .before .loop .inv .same)  -- same-length-6
     (λ c.  -- returns-3

@@ -21,19 +21,20 @@ replay-order-spec =
     (λ c κs.  -- follow-requires
     let v = c .before .before .before in
     let u = start v in
-    order-asks (u .args .want) (u .args .q) (now (u .args .d)) (now (u .args .m)) (now (u .args .s)) (c .before .judge .ensures) (bytes v) (u .pre .0) (u .pre .1))
+    order-asks (u .args .want) (u .args .q) (now (u .args .d)) (now (u .args .m)) (now (u .args .s)) (c .before .judge-near .ensures) (bytes v) (u .pre .0) (u .pre .1))
     (λ c κs.  -- apply-requires
     let j = c .before .before .before .before .before in
     let v = j .before .before in
     let u = start v in
-    change-asks (u .args .want) (u .args .q) (now (u .args .d)) (now (u .args .m)) (now (u .args .s)) (j .judge .ensures) (bytes v) (u .pre .0))
+    change-asks (u .args .want) (u .args .q) (now (u .args .d)) (now (u .args .m)) (now (u .args .s)) (j .judge-near .ensures) (bytes v) (u .pre .0))
+    (λ c κs. search needs)
     (λ c κs. search needs)
     (λ c. search needs)
     (λ c. search needs)
     (λ c.  -- returns
-    let n = c .before .before .before in
+    let n = c .before .before .before .before in
     let f = n .before .before .before .before in
     let j = f .before .before in
     let u = start (j .before .before) in
-    order-gives (u .args .want) (u .args .q) (now (u .args .d)) (now (u .args .m)) (now (u .args .s)) (j .judge .ensures) (c .number .ensures) (n .apply .ensures)
+    order-gives (u .args .want) (u .args .q) (now (u .args .d)) (now (u .args .m)) (now (u .args .s)) (j .judge-near .ensures) (c .before .number .ensures) (c .slot .ensures) (n .apply .ensures)
     (f .follow .ensures)))

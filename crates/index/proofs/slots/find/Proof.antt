@@ -16,7 +16,7 @@ find-spec =
     (λ c κs. search needs)
     (λ c.  -- returns
     let a = c .before .before .before .before .args in
-    find-family (now (a .index)) (a .family) Windows (a .window .id) (a .notify .id) (c .before .enum-told .given .1) (c .search .ensures))
+    find-family (now (a .index)) (a .family) Windows (a .window .id) (a .notify .id) (c .before .enum-told .given .1) (c .search-windows .ensures))
     (λ c.  -- returns-2
     let a = c .before .before .before .before .args in
-    find-family (now (a .index)) (a .family) Notifications (a .window .id) (a .notify .id) (c .before .enum-told2 .given .1) (c .search2 .ensures)))
+    find-family (now (a .index)) (a .family) Notifications (a .window .id) (a .notify .id) (c .before .enum-told2 .given .1) (c .search .ensures)))

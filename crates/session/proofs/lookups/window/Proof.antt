@@ -4,7 +4,7 @@ use Rattle.wire.specs.Parts.{slice}
 use Rattle.store.specs.Store.{five}
 use Rattle.session.specs.Handing.{HandsOut}
 use Rattle.session.specs.declared.LookupTarget.the-variants.{Window}
-use Rattle.session.proofs.Handed.{window-size, window-asks, window-icon, window-ready, window-handed}
+use Rattle.session.proofs.Handed.{window-size, window-asks, window-icon, window-big, window-ready, window-handed}
 use borrow.Author.Needs.{needs}
 use Rattle.session.proofs.lookups.window.Statement.{statement}
 use Rattle.session.proofs.lookups.window.Tie as tie
@@ -24,27 +24,29 @@ window-spec =
     tie.close
     (tie.spec
     (λ c κs. (hands (c .before .before .before .before .before .before .before .before .before .before) .long, omega arith))
-    (λ c κs. (hands (c .before .before .before .before .before .before .before .before .before .before .before) .long, omega arith))
+    (λ c. omega (arith, window-icon (hands (c .before .before .before .before .before .before .before .before .before .before .before)) 0 (omega arith) (c .icon-number .ensures)))  -- add-big
     (λ c. search needs)
-    (λ c. omega (arith, window-size (hands (c .before .before .before .before .before .before .before .before .before .before .before .before))))
-    (λ c. omega (arith, window-size (hands (c .before .before .before .before .before .before .before .before .before .before .before .before))))
+    (λ c. omega (arith, window-size (hands (c .before .before .before .before .before .before .before .before .before .before .before))))
+    (λ c. omega (arith, window-size (hands (c .before .before .before .before .before .before .before .before .before .before .before))))
     (λ c. search needs)
-    (λ c. omega (arith, window-size (hands (c .before .before .before .before .before .before .before .before .before .before .before .before .before .before))))
-    (λ c. omega (arith, window-size (hands (c .before .before .before .before .before .before .before .before .before .before .before .before .before .before))))
-    (λ c κs. window-asks (hands (c .before .before .before .before .before .before .before .before .before .before .before .before .before .before .before)))  -- record-requires
+    (λ c. omega (arith, window-size (hands (c .before .before .before .before .before .before .before .before .before .before .before .before .before))))
+    (λ c. omega (arith, window-size (hands (c .before .before .before .before .before .before .before .before .before .before .before .before .before))))
+    (λ c κs. window-asks (hands (c .before .before .before .before .before .before .before .before .before .before .before .before .before .before)))  -- window-requires
     (λ c κs.  -- holder-requires
-    let h = hands (c .before .before .before .before .before .before .before .before .before .before .before .before .before .before .before .before .before .before .before) in
-    ((omega (arith, h .room, c .before .before .before .«record» .kept .0), window-icon h 0 (omega arith) (c .before .before .before .before .before .before .before .before .icon-number .ensures)), window-ready h))
+    let h = hands (c .before .before .before .before .before .before .before .before .before .before .before .before .before .before .before .before .before .before) in
+    ((omega (arith, h .room, c .before .before .before .window .kept .0), window-icon h 0 (omega arith) (c .before .before .before .before .before .before .before .icon-number .ensures)), window-ready h))
     (λ c. search needs)
     (λ c κs.  -- holder-requires-2
-    let h = hands (c .before .before .before .before .before .before .before .before .before .before .before .before .before .before .before .before .before .before .before .before .before .before .before) in
-    ((omega (arith, h .room, c .before .before .before .before .before .before .before .«record» .kept .0, c .before .before .before .holder .kept .0), window-icon h 1 (omega arith) (c .before .before .before .before .before .before .before .before .before .before .before .icon-number2 .ensures)), window-ready h))
+    let h = hands (c .before .before .before .before .before .before .before .before .before .before .before .before .before .before .before .before .before .before .before .before .before .before) in
+    ((omega (arith, h .room, c .before .before .before .before .before .before .before .window .kept .0, c .before .before .before .holder .kept .0), window-icon h 1 (omega arith) (window-big h (c .before .before .before .before .before .before .before .before .before .before .before .icon-number .ensures))), window-ready h))
     (λ c. search needs)
-    (λ c κs. omega (arith, hands (c .before .before .before .before .before .before .before .before .before .before .before .before .before .before .before .before .before .before .before .before .before .before .before .before .before .before .before) .room, c .before .before .before .before .before .before .before .before .before .before .before .«record» .kept .0, c .before .before .before .before .before .before .before .holder .kept .0, c .before .before .before .holder2 .kept .0))
+    (λ c κs. omega (arith, hands (c .before .before .before .before .before .before .before .before .before .before .before .before .before .before .before .before .before .before .before .before .before .before .before .before .before .before) .room, c .before .before .before .before .before .before .before .before .before .before .before .window .kept .0, c .before .before .before .before .before .before .before .holder .kept .0, c .before .before .before .holder2 .kept .0))
     (λ c. search needs)
-    (λ c κs. omega (arith, hands (c .before .before .before .before .before .before .before .before .before .before .before .before .before .before .before .before .before .before .before .before .before .before .before .before .before .before .before .before .before .before .before) .room, c .before .before .before .before .before .before .before .before .before .before .before .before .before .before .before .«record» .kept .0, c .before .before .before .before .before .before .before .before .before .before .before .holder .kept .0, c .before .before .before .before .before .before .before .holder2 .kept .0, c .before .before .before .write-u8 .kept .0))
+    (λ c κs. omega (arith, hands (c .before .before .before .before .before .before .before .before .before .before .before .before .before .before .before .before .before .before .before .before .before .before .before .before .before .before .before .before .before .before) .room, c .before .before .before .before .before .before .before .before .before .before .before .before .before .before .before .window .kept .0, c .before .before .before .before .before .before .before .before .before .before .before .holder .kept .0, c .before .before .before .before .before .before .before .holder2 .kept .0, c .before .before .before .write-u8 .kept .0))
     (λ c. search needs)
     (λ c.  -- returns
+    let h = hands (c .before .before .before .before .before .before .before .before .before .before .before .before .before .before .before .before .before .before .before .before .before .before .before .before .before .before .before .before .before .before .before .before .before) in
+    let small = c .before .before .before .before .before .before .before .before .before .before .before .before .before .before .before .before .before .before .before .before .before .before .icon-number .ensures in
     let p = c .before .before .before .before .before .before .before .before .before .before .before .before .before .before .holder .ensures in
     let q = c .before .before .before .before .before .before .before .before .before .before .holder2 .ensures in
-    window-handed (hands (c .before .before .before .before .before .before .before .before .before .before .before .before .before .before .before .before .before .before .before .before .before .before .before .before .before .before .before .before .before .before .before .before .before .before)) (c .before .before .before .before .before .before .before .before .before .before .before .before .before .before .before .before .before .before .before .before .before .before .before .icon-number .ensures) (c .before .before .before .before .before .before .before .before .before .before .before .before .before .before .before .before .before .before .before .before .before .before .icon-number2 .ensures) (c .before .before .before .before .before .before .before .before .before .before .before .before .before .before .before .before .before .before .«record» .ensures) (p .0) (p .1) (q .0) (q .1) (c .before .before .before .before .before .before .write-u8 .ensures) (c .before .before .write-u82 .ensures)))
+    window-handed h small (window-big h small) (c .before .before .before .before .before .before .before .before .before .before .before .before .before .before .before .before .before .before .window .ensures) (p .0) (p .1) (q .0) (q .1) (c .before .before .before .before .before .before .write-u8 .ensures) (c .before .before .write-u82 .ensures)))
