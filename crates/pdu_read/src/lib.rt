@@ -370,22 +370,24 @@ pub fn read_words(message: &[u8], words: &mut [u32; 12]) -> u32
         return 3;
     }
     let kind = wire::read_u16(message, 0);
+    // a copy of the slice: the readers' calls take its address, and message itself stays in registers
+    let whole = message;
     match kind {
-        0x01 => read_execute(message, words),
-        0x02 => read_activate(message, words),
-        0x04 => read_system_command(message, words),
-        0x05 => read_handshake(message, words),
-        0x06 => read_notify_event(message, words),
-        0x08 => read_window_move(message, words),
-        0x09 => read_move_size(message, words),
-        0x0A => read_min_max_info(message, words),
-        0x0B => read_client_information(message, words),
-        0x0C => read_system_menu(message, words),
-        0x0E => read_get_application_id(message, words),
-        0x0F => read_application_id_response(message, words),
-        0x03 => read_system_parameters(message, words),
-        0x13 => read_handshake_ex(message, words),
-        0x80 => read_execute_result(message, words),
+        0x01 => read_execute(whole, words),
+        0x02 => read_activate(whole, words),
+        0x04 => read_system_command(whole, words),
+        0x05 => read_handshake(whole, words),
+        0x06 => read_notify_event(whole, words),
+        0x08 => read_window_move(whole, words),
+        0x09 => read_move_size(whole, words),
+        0x0A => read_min_max_info(whole, words),
+        0x0B => read_client_information(whole, words),
+        0x0C => read_system_menu(whole, words),
+        0x0E => read_get_application_id(whole, words),
+        0x0F => read_application_id_response(whole, words),
+        0x03 => read_system_parameters(whole, words),
+        0x13 => read_handshake_ex(whole, words),
+        0x80 => read_execute_result(whole, words),
         _ => 4,
     }
 }
