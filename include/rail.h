@@ -276,6 +276,7 @@ uint32_t rail_pdu_write(const uint32_t words[12], const uint8_t *strings, size_t
 
 #include "rail/chunk.h"
 #include "rail/counter.h"
+#include "rail/explain.h"
 #include "rail/figure.h"
 #include "rail/session_record.h"
 #undef RAIL_READ

@@ -64,6 +64,11 @@ static inline uint64_t rail_state_update(struct rail_state *s, uint32_t limit, c
     return rail_update(RAIL_STATE_PARTS(s), limit, update_size != 0 ? update : s->index, update_size);
 }
 
+/* What rail_state_deliver would answer to the order, and where the fault is. `order` may be NULL where `order_size` is 0. */
+static inline uint32_t rail_state_explain(const struct rail_state *s, const uint8_t *order, size_t order_size) {
+    return rail_explain(RAIL_STATE_PARTS(s), order_size != 0 ? order : s->index, order_size);
+}
+
 static inline uint32_t rail_state_checkpoint(struct rail_state *s) {
     return rail_checkpoint(RAIL_STATE_PARTS(s));
 }

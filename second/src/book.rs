@@ -3,7 +3,7 @@
 
 use crate::ids::{NotifyIconId, WindowId};
 use crate::number::{ROOM_PASSED, TOO_MANY_STEPS, WRONG_ID};
-use crate::order::{judge, CellPlace};
+use crate::order::{judge, CellPlace, Order};
 use crate::table::{brings_icon, number, Cell, Desktop, Holder, NotificationIcon, Table, Window};
 
 /// The most orders after the mark.
@@ -62,8 +62,20 @@ impl Book {
         self.at_mark.store().used() > 0 || self.after_mark.iter().any(brings)
     }
 
-    /// Delivers an order, which joins the end if it is granted.
-    pub fn deliver(&mut self, order: &[u8]) -> Result<(), u8> {
+    /// A book with this table at the mark and these orders after it, if each of them is
+    /// granted in its turn.
+    pub fn from_mark(table: Table, orders: &[&[u8]]) -> Option<Self> {
+        let mut book = Self {
+            at_mark: table.clone(),
+            table,
+            ..Self::default()
+        };
+        let granted = orders.iter().all(|order| book.deliver(order).is_ok());
+        granted.then_some(book)
+    }
+
+    /// The order judged, if it would be granted, else the number that it would get.
+    fn granted<'a>(&self, order: &'a [u8]) -> Result<Order<'a>, u8> {
         let judged = judge(order)?;
         match number(&self.table, &judged) {
             0 => {}
@@ -72,6 +84,17 @@ impl Book {
         if self.after_mark.len() + 1 > ORDERS_ROOM || self.bytes + order.len() > BYTES_ROOM {
             return Err(ROOM_PASSED);
         }
+        Ok(judged)
+    }
+
+    /// The number that delivery of an order would get.
+    pub fn number(&self, order: &[u8]) -> u8 {
+        self.granted(order).err().unwrap_or(0)
+    }
+
+    /// Delivers an order, which joins the end if it is granted.
+    pub fn deliver(&mut self, order: &[u8]) -> Result<(), u8> {
+        let judged = self.granted(order)?;
         self.table.apply(&judged);
         self.after_mark.push(order.to_vec());
         self.bytes += order.len();
@@ -140,6 +163,11 @@ impl Book {
     /// The orders after the mark.
     pub fn orders(&self) -> &[Vec<u8>] {
         &self.after_mark
+    }
+
+    /// The table at the mark.
+    pub fn at_mark(&self) -> &Table {
+        &self.at_mark
     }
 
     /// The table that the standing orders make.

@@ -5,12 +5,12 @@ use std::io::{self, BufWriter, Read, Write};
 use std::path::Path;
 use std::process::ExitCode;
 
-use second::compare::{compare, Items, Scripts};
+use second::compare::{self, compare, Items, Scripts};
 use second::coverage::{self, Facts};
 use second::fault::{chunk_fault_run, fault_run, Tally};
 use second::script::parts::Parts;
 use second::script::End;
-use second::{generate, hex, report, script, support};
+use second::{generate, hex, memory, pairs, report, script, support, why};
 
 const HELP: &str = "\
 The independent second program for RDP Remote Programs (RAIL).
@@ -36,6 +36,7 @@ usage:
   second coverage-pdu FROM TO ITEMS
   second coverage-session FROM TO ITEMS
   second coverage-report FROM TO ITEMS
+  second coverage-explain FROM TO ITEMS
       Runs the generated scripts of the seeds FROM to TO, prints how often each
       call, kind and number was met, also at each limit, and then what is missing.
       The status is 0 only if nothing is missing.
@@ -46,6 +47,15 @@ usage:
       Of an item Z the size is compared, and those bytes with the Z before that no call
       between them may change. The status is 0 only if scripts were compared and none
       differs.
+  second compare-explain PROGRAM FROM TO ITEMS [--states SESSION]
+      The same for a program that tells why an order is refused, on that many pairs of a
+      state and an order for each seed, which PROGRAM is given as files. The states are
+      written here, whole and cut, with too much and with bytes that break a rule; or with
+      --states they are those that SESSION prints (Z) on the way of a script of state calls,
+      which must also be read here as the book that the script leads to.
+  second gen-explain SEED ITEMS FOLDER
+      Writes such pairs to a folder: NUMBER.state, NUMBER.order and what is to be printed,
+      NUMBER.expected. A file that cannot be read is left out.
   second fault-pdu PROGRAM FROM TO ITEMS
       The same with scripts of control messages and faults in the memory of chunks.
       Once a first chunk is taken, a message is whole or 16 is answered, what is begun
@@ -76,6 +86,14 @@ usage:
       that it gets when all are delivered in turn, its kind, ids and flags. They are
       delivered to an emptied state, or with --after to the one that SCRIPT leaves,
       with a mark at its end. A refused record is told on standard error, status 1.
+  second explain STATE ORDER
+      Tells why an order is refused. STATE is a file of state memory as an item Z prints
+      it (its parts end to end, then its places), ORDER one with the bytes of the order; one
+      that cannot be read is empty. Prints a line each: the number that delivery would give,
+      its words, and the offset of the field at fault, which an accepted order has not. A
+      state with a pointer that no call sets is told on standard error, status 3.
+  second state < output > file
+      Writes the memory of the last item Z in what rail_session printed, as such a file.
   second explain SCRIPT < output
       Tells what a session script asked and what was answered, in words: refusals by
       document 01's conditions, orders by their fields, titles as text. `output` is
@@ -134,9 +152,32 @@ fn dispatch(arguments: &[&str]) -> Result<ExitCode, String> {
             number(to)?,
             count(items)?,
         )),
+        ["coverage-explain", from, to, items] => print_facts(&coverage::explain::of_seeds(
+            number(from)?,
+            number(to)?,
+            count(items)?,
+        )),
         ["compare-report", program, from, to, items] => {
             compare_report(program, number(from)?, number(to)?, count(items)?)
         }
+        ["compare-explain", program, from, to, items, options @ ..] => {
+            let states = match options {
+                [] => None,
+                ["--states", session] => Some(*session),
+                _ => return Err("unknown arguments, see --help".into()),
+            };
+            let seeds = [number(from)?, number(to)?];
+            compare_explain(program, states, seeds, count(items)?)
+        }
+        ["gen-explain", seed, items, folder] => {
+            gen_explain(number(seed)?, count(items)?, Path::new(folder))
+        }
+        ["state"] => {
+            let output = input()?;
+            let file = script::dump::last_memory(&output).ok_or("no line of an item Z")?;
+            print(&file)
+        }
+        ["explain", state, order] => explain_files(Path::new(state), Path::new(order)),
         ["compare-pdu", program, from, to, items] => {
             compare_pdu(program, number(from)?, number(to)?, count(items)?)
         }
@@ -241,6 +282,23 @@ fn explain(script: &str) -> Result<ExitCode, String> {
     print(text.as_bytes())
 }
 
+fn explain_files(state: &Path, order: &Path) -> Result<ExitCode, String> {
+    let state = why::contents(state, memory::FILE_LIMIT);
+    let order = why::contents(order, why::ORDER_LIMIT);
+    match why::on_file(&state, &order) {
+        Some(told) => print(told.lines().as_bytes()),
+        None => {
+            eprintln!("second: the state has a pointer that no call sets");
+            Ok(ExitCode::from(3))
+        }
+    }
+}
+
+fn gen_explain(seed: u64, items: usize, folder: &Path) -> Result<ExitCode, String> {
+    pairs::write(seed, items, folder).map_err(|fault| format!("{}: {fault}", folder.display()))?;
+    Ok(ExitCode::SUCCESS)
+}
+
 fn run_session(parts: &Parts) -> Result<ExitCode, String> {
     let script = input()?;
     let end = to_output(|out| script::session::run(&script, parts, out))?;
@@ -338,6 +396,33 @@ fn written<T>(run: impl FnOnce(&mut dyn Write) -> io::Result<T>) -> Vec<u8> {
     output
 }
 
+fn compare_explain(
+    program: &str,
+    states: Option<&str>,
+    seeds: [u64; 2],
+    items: usize,
+) -> Result<ExitCode, String> {
+    let report = |text: &str| println!("{text}");
+    let tally = pairs::compare(
+        Path::new(program),
+        states.map(Path::new),
+        seeds,
+        items,
+        report,
+    )
+    .map_err(|fault| format!("{program}: {fault}"))?;
+    Ok(compared(&tally))
+}
+
+/// Prints what a comparison came to.
+fn compared(tally: &compare::Tally) -> ExitCode {
+    println!(
+        "compared {} scripts, {} items: {} differences",
+        tally.scripts, tally.items, tally.differences
+    );
+    ExitCode::from(u8::from(!tally.agrees()))
+}
+
 fn compare_scripts(
     program: &str,
     from: u64,
@@ -347,11 +432,7 @@ fn compare_scripts(
     let report = |text: &str| println!("{text}");
     let tally = compare(Path::new(program), from, to, scripts, report)
         .map_err(|fault| format!("{program}: {fault}"))?;
-    println!(
-        "compared {} scripts, {} items: {} differences",
-        tally.scripts, tally.items, tally.differences
-    );
-    Ok(ExitCode::from(u8::from(!tally.agrees())))
+    Ok(compared(&tally))
 }
 
 fn fault_session(

@@ -78,6 +78,7 @@ void test_writing(void);
 void test_counter(void);
 void test_chunks(void);
 void test_session_record(void);
+void test_explanations(void);
 void test_lists(void);
 void test_figure(void);
 void test_script(void);

@@ -198,6 +198,7 @@ int main(void) {
     test_counter();
     test_chunks();
     test_session_record();
+    test_explanations();
     test_lists();
     test_figure();
     test_script();

@@ -1,7 +1,7 @@
 /* Every number that a state call can answer, and that a refusal changes no byte. */
 #include "check.h"
 
-#define CALLS 11
+#define CALLS 12
 #define STATE_PARTS (3 + RAIL_STORE_PARTS)
 #define OUT_SIZE RAIL_WINDOW_SIZE /* the longest record */
 
@@ -25,6 +25,7 @@ static uint32_t call(int which, const size_t size[STATE_PARTS], uint8_t *out) {
     case 7: return rail_windows(SIZED, out, OUT_SIZE);
     case 8: return rail_notifications(SIZED, out, OUT_SIZE);
     case 9: return rail_shared(SIZED, RAIL_HOLDER_CELL, 0, 0, RAIL_HOLDER_SMALL_ICON, 7, 0, out, OUT_SIZE);
+    case 10: return rail_explain(SIZED, order.at, order.size);
     default: return rail_desktop(SIZED, out, OUT_SIZE);
     }
 }
@@ -132,7 +133,9 @@ void test_longer_parts(void) {
     CHECK(call(0, longer, out) == RAIL_DONE);
     CHECK(call(1, longer, out) == 65536 * 11 + 256);
     for (which = 3; which < CALLS; which++)
-        CHECK(call(which, longer, out) == (which == 5 || which == 6 || which == 9 ? RAIL_UNKNOWN_ID : 65536 * 11 + 256));
+        if (which != 10)
+            CHECK(call(which, longer, out) == (which == 5 || which == 6 || which == 9 ? RAIL_UNKNOWN_ID : 65536 * 11 + 256));
+    CHECK(call(10, longer, out) == RAIL_UNKNOWN_ID + 65536 * 7); /* the window is listed by now */
     CHECK(call(2, longer, out) == RAIL_DONE);
     CHECK(call(4, longer, out) == RAIL_DONE);
     CHECK(filled(now.index + RAIL_INDEX_SIZE, 999, 0xEE) && filled(now.bodies + RAIL_BODIES_SIZE, 999, 0xEE));

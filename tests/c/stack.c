@@ -9,7 +9,7 @@
 #define STACK 524288
 #define OUT_SIZE 65536
 #define STACK_MAX 16384 /* rail.h says so */
-#define CALLS 21
+#define CALLS 22
 
 static uint8_t *out;
 /* A window with an icon, both lookups of it, whether they share, and a mark. */
@@ -45,6 +45,7 @@ static void *call(void *argument) {
     case 17: rail_shared(NOW, RAIL_HOLDER_CELL, 1, 2, RAIL_HOLDER_SMALL_ICON, 7, 0, out, OUT_SIZE); break;
     case 18: rail_run(NOW, script, sizeof script, out, OUT_SIZE); break;
     case 19: rail_figure(NOW, out, OUT_SIZE); break;
+    case 20: rail_explain(NOW, order.at, order.size); break;
     default: rail_pdu_write(handshake, order.at, 0, out, OUT_SIZE);
     }
     return NULL;

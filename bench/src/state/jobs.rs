@@ -14,6 +14,8 @@ const UNLISTED: u32 = 0x0002_0058;
 /// A state call.
 pub enum Call {
     Deliver(Order),
+    /// Why an order would be refused.
+    Explain(Order),
     Undo,
     Checkpoint,
     Window(u32),
@@ -31,6 +33,7 @@ impl Call {
     pub fn entry(&self) -> &'static str {
         match self {
             Call::Deliver(_) => "deliver",
+            Call::Explain(_) => "explain",
             Call::Undo => "undo",
             Call::Checkpoint => "checkpoint",
             Call::Window(_) => "window",
@@ -122,7 +125,7 @@ impl Job {
     /// The bytes of an order that is delivered.
     pub fn bytes(&self) -> Option<usize> {
         match &self.call {
-            Call::Deliver(order) => Some(order.len()),
+            Call::Deliver(order) | Call::Explain(order) => Some(order.len()),
             _ => None,
         }
     }
@@ -160,6 +163,16 @@ pub fn all(listing: &Listing) -> Vec<Job> {
         call,
         refused: None,
     }));
+    let mut order = update(listing);
+    order[7..11].copy_from_slice(&UNLISTED.to_le_bytes());
+    jobs.push(Job {
+        name: "explain".into(),
+        label: "Explanation: an update of a window that is not listed".into(),
+        at_mark,
+        after_mark: After::Updates(update(listing)),
+        call: Call::Explain(order),
+        refused: Some(9),
+    });
     jobs
 }
 

@@ -23,6 +23,11 @@ const OUT: usize = 9_320;
 /// The orders that stand after the mark and their bytes, or the number of a refusal.
 type Answer = Result<(usize, usize), u8>;
 
+/// The offset that an explanation tells, where a lookup's record would stand.
+fn put_offset(out: &mut [u8], offset: usize) {
+    out[..2].copy_from_slice(&(offset as u16).to_le_bytes());
+}
+
 /// A table with its history.
 trait State {
     /// Makes a call.
@@ -339,7 +344,7 @@ mod tests {
     #[test]
     fn names_are_found_again() {
         let jobs = every_job();
-        assert_eq!(jobs.len(), 5 * (16 + 9) + 3 * 4);
+        assert_eq!(jobs.len(), 5 * (16 + 10) + 3 * 4);
         for (listing, job) in jobs {
             let found = jobs::named(&listing, &job.name).expect("a name");
             assert_eq!(found.label, job.label);

@@ -4,6 +4,7 @@ use second::book::Book;
 use second::ids::{NotifyIconId, WindowId};
 use second::order::CellPlace;
 use second::table::{Cell, Holder, Rect, Window};
+use second::why::on_book;
 
 use super::jobs::{Call, Job};
 use super::{Answer, State};
@@ -46,6 +47,7 @@ impl State for Plain {
         let book = &mut self.book;
         match *call {
             Call::Deliver(ref order) => plain_deliver(book, order),
+            Call::Explain(ref order) => plain_explain(book, order, out),
             Call::Undo => plain_undo(book, 1),
             Call::Checkpoint => plain_checkpoint(book),
             Call::Window(id) => plain_window(book, id, out),
@@ -73,6 +75,16 @@ impl State for Plain {
 pub fn plain_deliver(book: &mut Book, order: &[u8]) -> Answer {
     let done = book.deliver(order);
     answer(book, done)
+}
+
+#[no_mangle]
+#[inline(never)]
+pub fn plain_explain(book: &Book, order: &[u8], out: &mut [u8]) -> Answer {
+    let told = on_book(book, order);
+    told.at.map_or(Ok((0, 0)), |at| {
+        super::put_offset(out, at);
+        Err(told.number)
+    })
 }
 
 #[no_mangle]

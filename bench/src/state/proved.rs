@@ -38,6 +38,13 @@ impl State for Proved {
     fn call(&mut self, call: &Call, out: &mut [u8]) -> Answer {
         let view = self.memory.view();
         let standing = match *call {
+            Call::Explain(ref order) => {
+                let refused = view.explain(order).refused();
+                return refused.map_or(Ok((0, 0)), |order| {
+                    super::put_offset(out, order.offset);
+                    Err(order.refusal.number())
+                });
+            }
             Call::Deliver(ref order) => self.memory.lend().deliver(order),
             Call::Undo => self.memory.lend().undo(1),
             Call::Checkpoint => self.memory.lend().checkpoint(),

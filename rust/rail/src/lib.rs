@@ -2,10 +2,11 @@
 //!
 //! A [`Session`] takes the windowing orders of a server as they come and keeps what
 //! they make: windows, notification icons, the icon cache and the desktop. An order
-//! is used whole or refused whole, and a [`Refusal`] says why. Orders since the last
-//! checkpoint can be taken back. A [`Message`] is one of the 15 control messages,
-//! read from bytes and written to bytes, in the counter profile where a [`Profile`] says so;
-//! a [`Channel`] hands them out of the chunks that they arrive in.
+//! is used whole or refused whole, and a [`Refusal`] says why ([`Session::explain`]: at
+//! which byte). Orders since the last checkpoint can be taken back. A [`Message`] is one
+//! of the 15 control messages, read from bytes and written to bytes, in the counter profile
+//! where a [`Profile`] says so; a [`Channel`] hands them out of the chunks that they arrive
+//! in.
 //!
 //! ```
 //! use rail::{Refusal, Session, WindowId};
@@ -46,6 +47,7 @@ extern crate alloc;
 
 mod answer;
 mod channel;
+mod explain;
 mod ffi;
 mod figure;
 mod ids;
@@ -64,6 +66,7 @@ mod view;
 
 pub use answer::{Found, Refusal, Standing, UnknownNumber};
 pub use channel::{Channel, CHUNK_SIZE};
+pub use explain::{Explanation, RefusedOrder};
 pub use figure::Figure;
 pub use ids::{NotifyIconId, WindowId};
 pub use memory::{

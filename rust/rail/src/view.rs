@@ -4,6 +4,7 @@ use alloc::vec::Vec;
 use core::fmt;
 
 use crate::answer::{state_answer, Found, Refusal, Standing};
+use crate::explain::Explanation;
 use crate::ffi;
 use crate::figure::Figure;
 use crate::ids::{NotifyIconId, WindowId};
@@ -67,6 +68,12 @@ impl<'a> View<'a> {
     /// [`RECORD_LIMIT`]: crate::RECORD_LIMIT
     pub fn record_bytes(self, out: &mut [u8]) -> Result<Standing, Refusal> {
         state_answer(ffi::record_write(self, out))
+    }
+
+    /// What delivery of an order to this memory would give; memory that is no state is told
+    /// as [`Refusal::UnfitMemory`].
+    pub fn explain(self, order: &[u8]) -> Explanation {
+        Explanation::of(ffi::explain(self, order))
     }
 
     /// Looks up a notification icon by its two ids, with the picture that it shows.

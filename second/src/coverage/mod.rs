@@ -1,5 +1,6 @@
 //! What generated scripts reach: facts met, and those that were expected.
 
+pub mod explain;
 mod order;
 pub mod pdu;
 pub mod report;

@@ -1,6 +1,7 @@
 //! Seeded generators: the same seed and count give the same bytes everywhere.
 
 pub mod chunk_fault;
+pub mod explain;
 pub mod fault;
 pub mod pdu;
 pub mod random;

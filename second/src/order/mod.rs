@@ -2,6 +2,7 @@
 //!
 //! Strings, rectangles and lists are parts of the order's bytes.
 
+pub mod fields;
 pub mod flags;
 mod read;
 pub mod rules;

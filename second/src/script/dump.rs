@@ -26,6 +26,12 @@ pub fn memory(line: &[u8]) -> Option<Vec<u8>> {
         .then(|| hex::bytes(digits).ok())?
 }
 
+/// The bytes of the last line of a `Z` in an output, if there is one.
+pub fn last_memory(output: &[u8]) -> Option<Vec<u8>> {
+    let mut lines = output.split_inclusive(|&byte| byte == b'\n');
+    lines.rfind(|line| line.starts_with(b"Z ")).and_then(memory)
+}
+
 /// An output in which each line of a `Z` tells its size, as a run here prints it. Where a
 /// byte is not as the `Z` before had it and nothing may have changed it since, the line
 /// says so:

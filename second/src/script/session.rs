@@ -171,6 +171,7 @@ enum Short {
 }
 
 /// A run of calls on a book.
+#[derive(Clone)]
 pub struct Session {
     book: Book,
     lengths: StoreLengths,

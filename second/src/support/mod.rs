@@ -11,3 +11,4 @@ mod unfit;
 mod words;
 
 pub use unfit::{pdu as unfit_pdu, session as unfit_session};
+pub use words::condition;

@@ -112,6 +112,27 @@ impl Table {
         }
     }
 
+    /// A table put together of its parts; each picture with those that point at it.
+    pub(crate) fn of_parts(
+        places: usize,
+        windows: BTreeMap<WindowId, Window>,
+        icons: BTreeMap<(WindowId, NotifyIconId), NotificationIcon>,
+        pictures: Vec<(Vec<Holder>, Cell)>,
+        desktop: Desktop,
+    ) -> Self {
+        let mut store = Store::default();
+        for (holders, picture) in pictures {
+            store.take(&holders, picture);
+        }
+        Self {
+            windows,
+            icons,
+            store,
+            places,
+            desktop,
+        }
+    }
+
     /// How many places its pictures have.
     pub fn places(&self) -> usize {
         self.places

@@ -68,6 +68,11 @@ impl Store {
         self.0.iter().flat_map(|kept| kept.holders.iter().copied())
     }
 
+    /// The pictures, each with all that hold it.
+    pub fn pictures(&self) -> impl Iterator<Item = (&BTreeSet<Holder>, &Cell)> {
+        self.0.iter().map(|kept| (&kept.holders, &kept.picture))
+    }
+
     /// How many places are pointed at.
     pub fn used(&self) -> usize {
         self.0.len()

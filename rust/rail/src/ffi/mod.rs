@@ -9,8 +9,8 @@
 mod state;
 
 pub(crate) use state::{
-    cell, checkpoint, deliver, desktop, figure, notification, notifications, record_write, reset,
-    run, shared, undo, update, window, windows,
+    cell, checkpoint, deliver, desktop, explain, figure, notification, notifications, record_write,
+    reset, run, shared, undo, update, window, windows,
 };
 
 /// A record's fields as numbers: the type, then the fields in carried order, a string

@@ -80,6 +80,10 @@ on_state! {
         const index, const bodies, const store, const journal,
         out: *mut u8, out_length: usize
     ) -> u32;
+    fn rail_explain(
+        const index, const bodies, const store, const journal,
+        order: *const u8, order_length: usize
+    ) -> u32;
     fn rail_figure(
         const index, const bodies, const store, const journal,
         out: *mut u8, out_length: usize
@@ -198,6 +202,11 @@ pub(crate) fn shared(
 pub(crate) fn record_write(view: View<'_>, out: &mut [u8]) -> u32 {
     // SAFETY: as `window`.
     unsafe { call!(rail_record_write, view by as_ptr, out.as_mut_ptr(), out.len()) }
+}
+
+pub(crate) fn explain(view: View<'_>, order: &[u8]) -> u32 {
+    // SAFETY: nothing is written, and each part has its own length.
+    unsafe { call!(rail_explain, view by as_ptr, order.as_ptr(), order.len()) }
 }
 
 pub(crate) fn figure(view: View<'_>, out: &mut [u8]) -> u32 {

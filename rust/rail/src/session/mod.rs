@@ -8,6 +8,7 @@ use alloc::collections::BTreeSet;
 use alloc::vec::Vec;
 
 use crate::answer::{Refusal, Standing};
+use crate::explain::{Explanation, RefusedOrder};
 use crate::figure::Figure;
 use crate::ids::{NotifyIconId, WindowId};
 use crate::memory::{Memory, FEWEST_PLACES, MOST_PLACES};
@@ -120,6 +121,50 @@ impl Session {
     pub fn deliver(&mut self, order: &[u8]) -> Result<Standing, Refusal> {
         self.standing = self.memory.lend().deliver(order)?;
         Ok(self.standing)
+    }
+
+    /// What delivery of an order would give: whether it would be granted, else why not and
+    /// which of its bytes is at fault. Nothing changes.
+    pub fn explain(&self, order: &[u8]) -> Explanation {
+        self.memory.view().explain(order)
+    }
+
+    /// Delivers an order as [`deliver`](Self::deliver) does; where it is refused, a second
+    /// call tells which of its bytes is at fault.
+    ///
+    /// ```
+    /// use rail::{Refusal, Session};
+    ///
+    /// let mut session = Session::new();
+    /// session.deliver(&[0x2E, 11, 0, 0, 0, 0, 0x11, 1, 0, 0, 0])?;
+    /// // Show state 1, which is not one.
+    /// let refused = session.deliver_explained(&[0x2E, 12, 0, 0x10, 0, 0, 0x01, 1, 0, 0, 0, 1]);
+    /// let refused = refused.unwrap_err();
+    /// assert_eq!((refused.refusal, refused.offset), (Refusal::OutsideSet, 11));
+    /// # Ok::<(), Refusal>(())
+    /// ```
+    ///
+    /// # Errors
+    /// As [`deliver`](Self::deliver).
+    ///
+    /// # Panics
+    /// If the library explains a refused order otherwise, which it is proved not to do.
+    pub fn deliver_explained(&mut self, order: &[u8]) -> Result<Standing, RefusedOrder> {
+        self.deliver(order).map_err(|refusal| {
+            let explained = self.explain(order).refused();
+            explained
+                .filter(|order| order.refusal == refusal)
+                .expect("a refused order is explained by its own refusal")
+        })
+    }
+
+    /// The state memory as a file for support: its parts end to end, then its places, as the
+    /// program `rail_explain` takes it. It has all that the session shows, and what stood in
+    /// the memory before: titles, tips, pictures.
+    pub fn state_file(&self) -> Vec<u8> {
+        let view = self.memory.view();
+        let [a, b, c, d, e] = view.store;
+        [view.index, view.bodies, view.journal, a, b, c, d, e].concat()
     }
 
     /// Delivers the orders of a whole update, which stand in it back to back, one by one

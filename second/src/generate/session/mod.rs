@@ -1,13 +1,13 @@
 //! Scripts of state calls, made beside a book so that most calls are granted and
 //! refusals come on purpose.
 
-mod draft;
+pub(super) mod draft;
 mod faults;
 mod good;
 mod pair;
 mod pictures;
 mod records;
-mod slot;
+pub(super) mod slot;
 mod store;
 mod updates;
 

@@ -1,0 +1,9 @@
+pub mod Walks
+pub mod RowFields
+pub mod IconFields
+pub mod Judging
+pub mod Offsets
+pub mod Answers
+pub mod Named
+pub mod OneFile
+pub mod Small

@@ -1,0 +1,5 @@
+pub mod Fields
+pub mod Explain
+pub mod Conditions
+pub mod Steps
+pub mod OneFile

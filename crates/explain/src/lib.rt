@@ -1,0 +1,92 @@
+// Why an order would be refused: the number that delivery would give, and the byte offset of the field at fault.
+ghost use mathlib.Core.Path.{_≡_};
+ghost use Rattle.journal.specs.View.{memory, InEachStore};
+ghost use Rattle.explain.specs.Explain.{explain};
+ghost use Rattle.explain.specs.Steps.{Judgeable, onTable, onState};
+ghost use Rattle.explain.specs.OneFile.{memoryIn};
+use journal::JournalExtent;
+use order::Judged;
+
+pub struct Explanation {
+    pub number: u8,
+    pub at: u32,
+}
+
+// Where a field is at fault that no offset of the order's bytes tells: its first byte after the header.
+const AFTER_FLAGS: u32 = 7;
+
+// 9, 10, 11, 17 and 12 of an order that passes 2 to 8, on the index d of the present table and the extent w of the journal.
+fn on_table(d: &[u8], s: &[u8], w: JournalExtent) -> Explanation
+    requires { ⌜ Judgeable (now d) w ⌝ }
+    ensures { λ r. ⌜ r ≡ onTable (now (d .entry)) (now (s .entry)) w ⌝ }
+{
+    let p = index::judge(d, s);
+    let number = index::number(p);
+    if number != 0 {
+        return Explanation {
+            number,
+            at: AFTER_FLAGS,
+        };
+    }
+    if (journal::MOST_ORDERS < w.count + 1)
+        | (journal::MOST_BYTES < w.end - journal::START + s.len())
+    {
+        return Explanation {
+            number: 12,
+            at: AFTER_FLAGS,
+        };
+    }
+    Explanation { number: 0, at: 0 }
+}
+
+// Explains an order on the index d of the present table and the extent w of the journal.
+fn on_state(d: &[u8], s: &[u8], w: JournalExtent) -> Explanation
+    requires { ⌜ Judgeable (now d) w ⌝ }
+    ensures { λ r. ⌜ r ≡ onState (now (d .entry)) (now (s .entry)) w ⌝ }
+{
+    let j = order::judge(s);
+    match j {
+        Judged::Window(_) => on_table(d, s, w),
+        Judged::Notification(_) => on_table(d, s, w),
+        Judged::Desktop(_) => on_table(d, s, w),
+        Judged::Refused(r) => Explanation {
+            number: r.number,
+            at: r.at,
+        },
+    }
+}
+
+pub fn explain(index: &[u8], bodies: &[u8], lent: usize, journal: &[u8], s: &[u8]) -> Explanation
+    ensures { λ r. ⌜ InEachStore lent (λ store. r ≡ explain (now (s .entry)) (memory (now (index .entry)) (now (bodies .entry)) store (now (journal .entry)))) ⌝ }
+{
+    let mut d = [0u8; session::INDEX];
+    let w = journal::extent(index, bodies, lent, journal, &mut d);
+    if w.end == 0 {
+        return Explanation { number: 1, at: 0 };
+    }
+    on_state(&d, s, w)
+}
+
+// The parts of the state one after the other, then its places: where the bodies, the journal and the places begin.
+const BODIES_AT: usize = session::INDEX;
+
+const JOURNAL_AT: usize = BODIES_AT + session::BODIES;
+
+pub const PLACES_AT: usize = JOURNAL_AT + session::JOURNAL;
+
+// Explains an order on a state whose parts stand end to end, then its places.
+pub fn in_one(state: &[u8], s: &[u8]) -> Explanation
+    ensures { λ r. ⌜ r ≡ explain (now (s .entry)) (memoryIn (now (state .entry))) ⌝ }
+{
+    if state.len() < PLACES_AT {
+        return Explanation { number: 1, at: 0 };
+    }
+    let lent = (state.len() - PLACES_AT) / store::PLACE;
+    explain(
+        &state[0..BODIES_AT],
+        &state[BODIES_AT..JOURNAL_AT],
+        lent,
+        &state[JOURNAL_AT..PLACES_AT],
+        s,
+    )
+}
