@@ -184,6 +184,9 @@ fn print_aims(met: &[Measured]) {
             .map(|one| one.further)
             .collect(),
     );
+    // in this listing a window shows pictures
+    let in_store = of_call("window").filter(|one| one.listing == "store");
+    let two_pictures = most(in_store.map(|one| one.with_8).collect());
     println!("| Aim, in instructions | At most | Measured |");
     println!("|---|---:|---:|");
     for (what, aim, figure) in [
@@ -193,11 +196,7 @@ fn print_aims(met: &[Measured]) {
             10_500.0,
             with_8("deliver", true),
         ),
-        (
-            "a window lookup, with two pictures",
-            13_000.0,
-            with_8("window", false),
-        ),
+        ("a window lookup, with two pictures", 13_000.0, two_pictures),
         ("a cell lookup", 11_500.0, with_8("cell", false)),
         ("each further order, at a delivery", 330.0, further),
     ] {
