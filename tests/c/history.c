@@ -198,7 +198,7 @@ static void decode_any(uint8_t *w, uint8_t *n, uint8_t *d, uint8_t *p) {
     CHECK(window.small_icon.present == 1 && window.big_icon.present == 1 && window.overlay_icon.present == 1);
     CHECK(window.small_icon.bits_color + window.small_icon.cb_bits_color <= w + RAIL_WINDOW_AT_BIG_PICTURE);
     CHECK(window.big_icon.bits_color + window.big_icon.cb_bits_color <= w + RAIL_WINDOW_AT_OVERLAY_ICON);
-    CHECK(window.overlay_icon.bits_color + window.overlay_icon.cb_bits_color <= w + RAIL_WINDOW_SIZE);
+    CHECK(window.overlay_icon.bits_color + window.overlay_icon.cb_bits_color <= w + RAIL_WINDOW_AT_PIXELS);
     rail_notification_decode(&notification, n);
     CHECK(notification.tool_tip.bytes <= RAIL_TOOL_TIP_MAX && notification.info_tip_text.bytes <= RAIL_INFO_TIP_TEXT_MAX);
     CHECK(notification.title.bytes <= RAIL_INFO_TIP_TITLE_MAX);
