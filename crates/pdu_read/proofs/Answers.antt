@@ -31,7 +31,8 @@ use Rattle.pdu.proofs.WriteBack.{not-not, reading}
 use Rattle.pdu_words.specs.Words.{wordsOf}
 use Rattle.pdu_read.specs.Told.{wordsAfter, Told}
 use Rattle.pdu_words.specs.FromWords.{u8, u16, u32, stand, Stands, pduOf, fits}
-use Rattle.pdu_words.proofs.FromWords.{words-stand, words-back, word-most, setting-fits}
+use Rattle.pdu_words.proofs.FromWords.{words-stand, words-back}
+use Rattle.pdu_words.proofs.FromWordsFit.{word-most, setting-fits}
 use Rattle.pdu_read.specs.Answers.{Answerable, answerOf}
 
 -- ---- the numbers of a record that was read fit their fields
