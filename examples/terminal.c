@@ -99,6 +99,11 @@ static void print_window(uint32_t id) {
         printf(", %u visible rectangles", w.num_visibility_rects);
     print_icon("small", w.small_icon);
     print_icon("big", w.big_icon);
+    print_icon("overlay", w.overlay_icon);
+    if (w.overlay_description.bytes != 0) {
+        printf(", overlay described ");
+        print_string(w.overlay_description.at, w.overlay_description.bytes);
+    }
     putchar('\n');
 }
 

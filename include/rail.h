@@ -36,10 +36,10 @@
 /* ---- Measures, in bytes. A longer part is fine; what lies past the measure is never changed. rail_size tells them too. */
 
 #define RAIL_INDEX_SIZE 589       /* state memory: the index, */
-#define RAIL_BODIES_SIZE 45780    /* the bodies, */
+#define RAIL_BODIES_SIZE 61012    /* the bodies, */
 #define RAIL_PLACE_SIZE 4224      /* the store of pictures, of which this is one place, */
 #define RAIL_JOURNAL_SIZE 32770   /* and the journal */
-#define RAIL_WINDOW_SIZE 9320     /* records handed out by lookups: rail/records.h has their fields */
+#define RAIL_WINDOW_SIZE 14099    /* records handed out by lookups: rail/records.h has their fields */
 #define RAIL_NOTIFICATION_SIZE 5151
 #define RAIL_DESKTOP_SIZE 263
 #define RAIL_PICTURE_SIZE 4235
@@ -73,7 +73,8 @@ enum rail_measure {
 #define RAIL_PLACES_MAX 64
 #define RAIL_HISTORY_ORDERS_MAX 128
 #define RAIL_HISTORY_BYTES_MAX 32768
-#define RAIL_TITLE_MAX 520        /* bytes, as the three below */
+#define RAIL_TITLE_MAX 520        /* bytes, as the four below */
+#define RAIL_OVERLAY_DESCRIPTION_MAX 520
 #define RAIL_TOOL_TIP_MAX 256
 #define RAIL_INFO_TIP_TEXT_MAX 510
 #define RAIL_INFO_TIP_TITLE_MAX 126
@@ -152,11 +153,11 @@ static inline const char *rail_number_words(uint32_t number) {
  * its id, a notification icon by the id of its window and its own; the two kinds of ids are separate, and one never serves for the
  * other.
  *
- * Pictures. A window or notification icon keeps the picture it was given, small and big apart, until it is given another or is
- * removed: filling a cell again changes what no other shows. An icon takes a place that nothing but its cell and its pointer then
- * points at, and with cache id FF (sent once) nothing but its pointer, and no cell changes; a cached icon shares the place of its
- * cell. A place is used while a cell, window or notification icon points at it, and free again after. What steps back need is kept
- * in the journal and takes no place. */
+ * Pictures. A window or notification icon keeps the picture it was given, small, big and overlay apart, until it is given another or
+ * is removed, and the overlay icon until an order says that there is none: filling a cell again changes what no other shows. An icon
+ * takes a place that nothing but its cell and its pointer then points at, and with cache id FF (sent once) nothing but its pointer,
+ * and no cell changes; a cached icon shares the place of its cell. A place is used while a cell, window or notification icon points
+ * at it, and free again after. What steps back need is kept in the journal and takes no place. */
 
 /* The parameters of a part, read or written, and of those that most calls only read. Undefined again below. */
 #define RAIL_READ(part) const uint8_t *part, size_t part##_size
@@ -225,7 +226,8 @@ enum rail_holder_kind {
     RAIL_HOLDER_CELL = 0,         /* cache id, cache entry; so is every kind that is not listed */
     RAIL_HOLDER_SMALL_ICON = 1,   /* window id, 0 */
     RAIL_HOLDER_BIG_ICON = 2,     /* window id, 0 */
-    RAIL_HOLDER_NOTIFICATION = 3  /* window id, notify-icon id */
+    RAIL_HOLDER_NOTIFICATION = 3, /* window id, notify-icon id */
+    RAIL_HOLDER_OVERLAY_ICON = 4  /* window id, 0 */
 };
 uint32_t rail_shared(RAIL_READ_STATE, uint8_t kind, uint32_t first, uint32_t second, uint8_t other_kind, uint32_t other_first,
                      uint32_t other_second, RAIL_WRITE(out));

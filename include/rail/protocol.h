@@ -1,4 +1,4 @@
-/* Names and values of MS-RDPERP (v20130722), and of its later edition for Client Execute. Included by rail.h unless
+/* Names and values of MS-RDPERP (v20130722), and of its later editions for Client Execute and for newer servers' window fields. Included by rail.h unless
  * RAIL_NO_PROTOCOL_NAMES is defined.
  *
  * Beside FreeRDP's headers, before them or after: what both have as macros is spelled alike to the letter. TS_RAIL_ORDER_... and
@@ -48,6 +48,8 @@
 #define WINDOW_ORDER_FIELD_CLIENT_AREA_OFFSET 0x00004000 /* FreeRDP */
 #define WINDOW_ORDER_FIELD_CLIENTAREASIZE 0x00010000
 #define WINDOW_ORDER_FIELD_CLIENT_AREA_SIZE 0x00010000 /* FreeRDP */
+#define WINDOW_ORDER_FIELD_RESIZE_MARGIN_X 0x00000080 /* newer servers, as the next */
+#define WINDOW_ORDER_FIELD_RESIZE_MARGIN_Y 0x08000000
 #define WINDOW_ORDER_FIELD_RPCONTENT 0x00020000
 #define WINDOW_ORDER_FIELD_RP_CONTENT 0x00020000 /* FreeRDP */
 #define WINDOW_ORDER_FIELD_ROOTPARENT 0x00040000
@@ -63,7 +65,14 @@
 #define WINDOW_ORDER_FIELD_VISOFFSET 0x00001000
 #define WINDOW_ORDER_FIELD_VIS_OFFSET 0x00001000 /* FreeRDP */
 #define WINDOW_ORDER_FIELD_VISIBILITY 0x00000200
+#define WINDOW_ORDER_FIELD_OVERLAY_DESCRIPTION 0x00400000 /* newer servers, as the next four */
+#define WINDOW_ORDER_FIELD_TASKBAR_BUTTON 0x00800000
+#define WINDOW_ORDER_FIELD_ENFORCE_SERVER_ZORDER 0x00080000
+#define WINDOW_ORDER_FIELD_APPBAR_STATE 0x00000040
+#define WINDOW_ORDER_FIELD_APPBAR_EDGE 0x00000001
 #define WINDOW_ORDER_FIELD_ICON_BIG 0x00002000 /* beside an icon or cached icon: the big one */
+#define WINDOW_ORDER_FIELD_ICON_OVERLAY 0x00100000 /* newer servers, beside an icon or cached icon: the overlay icon */
+#define WINDOW_ORDER_FIELD_ICON_OVERLAY_NULL 0x00200000 /* newer servers, beside fields: no overlay icon */
 
 /* ShowState; the document gives the values and no names */
 #define RAIL_SHOW_HIDDEN 0x00

@@ -37,6 +37,19 @@
 #define RAIL_WINDOW_AT_VISIBILITY_RECTS 722   /* as WINDOW_RECTS */
 #define RAIL_WINDOW_AT_SMALL_PICTURE 850      /* RAIL_PICTURE_SIZE, zeros where there is none */
 #define RAIL_WINDOW_AT_BIG_PICTURE 5085       /* as above */
+/* Newer servers' fields stand behind all others, which are where they were before these. */
+#define RAIL_WINDOW_AT_OVERLAY_ICON 9320      /* 1, as SMALL_ICON; byte 9321 is 0 */
+#define RAIL_WINDOW_AT_LEFT_RESIZE_MARGIN 9322 /* 4 */
+#define RAIL_WINDOW_AT_RIGHT_RESIZE_MARGIN 9326 /* 4 */
+#define RAIL_WINDOW_AT_TOP_RESIZE_MARGIN 9330 /* 4 */
+#define RAIL_WINDOW_AT_BOTTOM_RESIZE_MARGIN 9334 /* 4 */
+#define RAIL_WINDOW_AT_OVERLAY_DESCRIPTION_BYTES 9338 /* 2 */
+#define RAIL_WINDOW_AT_OVERLAY_DESCRIPTION 9340 /* up to 520, as TITLE */
+#define RAIL_WINDOW_AT_TASKBAR_BUTTON 9860    /* 1: 0 or 1 */
+#define RAIL_WINDOW_AT_ENFORCE_SERVER_Z_ORDER 9861 /* 1: 0 or 1 */
+#define RAIL_WINDOW_AT_APP_BAR_STATE 9862     /* 1: 0 or 1 */
+#define RAIL_WINDOW_AT_APP_BAR_EDGE 9863      /* 1: 0 to 3 */
+#define RAIL_WINDOW_AT_OVERLAY_PICTURE 9864   /* as SMALL_PICTURE */
 #define RAIL_RECTANGLE_SIZE 8
 
 /* ---- Places: a notification icon (RAIL_NOTIFICATION_SIZE) */
@@ -115,6 +128,11 @@ struct rail_window {
     int32_t visible_offset_x, visible_offset_y;
     uint32_t num_visibility_rects;
     struct rail_rectangle visibility_rects[RAIL_RECTANGLES_MAX];
+    /* of newer servers */
+    struct rail_picture overlay_icon;
+    uint32_t left_resize_margin, right_resize_margin, top_resize_margin, bottom_resize_margin;
+    struct rail_string overlay_description;
+    uint8_t taskbar_button, enforce_server_z_order, app_bar_state, app_bar_edge;
 };
 
 struct rail_notification {
@@ -227,6 +245,10 @@ static inline struct rail_picture rail_window_big_icon(const uint8_t record[RAIL
     return rail_get_picture(record + RAIL_WINDOW_AT_BIG_ICON, record + RAIL_WINDOW_AT_BIG_PICTURE);
 }
 
+static inline struct rail_picture rail_window_overlay_icon(const uint8_t record[RAIL_WINDOW_SIZE]) {
+    return rail_get_picture(record + RAIL_WINDOW_AT_OVERLAY_ICON, record + RAIL_WINDOW_AT_OVERLAY_PICTURE);
+}
+
 static inline struct rail_picture rail_notification_icon(const uint8_t record[RAIL_NOTIFICATION_SIZE]) {
     return rail_get_picture(record + RAIL_NOTIFICATION_AT_ICON, record + RAIL_NOTIFICATION_AT_PICTURE);
 }
@@ -257,6 +279,16 @@ static inline void rail_window_decode(struct rail_window *w, const uint8_t recor
     w->visible_offset_x = rail_get_signed(record + RAIL_WINDOW_AT_VISIBLE_OFFSET_X);
     w->visible_offset_y = rail_get_signed(record + RAIL_WINDOW_AT_VISIBLE_OFFSET_Y);
     w->num_visibility_rects = rail_get_rectangles(record + RAIL_WINDOW_AT_NUM_VISIBILITY_RECTS, w->visibility_rects);
+    w->overlay_icon = rail_window_overlay_icon(record);
+    w->left_resize_margin = rail_get32(record + RAIL_WINDOW_AT_LEFT_RESIZE_MARGIN);
+    w->right_resize_margin = rail_get32(record + RAIL_WINDOW_AT_RIGHT_RESIZE_MARGIN);
+    w->top_resize_margin = rail_get32(record + RAIL_WINDOW_AT_TOP_RESIZE_MARGIN);
+    w->bottom_resize_margin = rail_get32(record + RAIL_WINDOW_AT_BOTTOM_RESIZE_MARGIN);
+    w->overlay_description = rail_get_string(record + RAIL_WINDOW_AT_OVERLAY_DESCRIPTION_BYTES, RAIL_OVERLAY_DESCRIPTION_MAX);
+    w->taskbar_button = record[RAIL_WINDOW_AT_TASKBAR_BUTTON];
+    w->enforce_server_z_order = record[RAIL_WINDOW_AT_ENFORCE_SERVER_Z_ORDER];
+    w->app_bar_state = record[RAIL_WINDOW_AT_APP_BAR_STATE];
+    w->app_bar_edge = record[RAIL_WINDOW_AT_APP_BAR_EDGE];
 }
 
 static inline void rail_notification_decode(struct rail_notification *n, const uint8_t record[RAIL_NOTIFICATION_SIZE]) {

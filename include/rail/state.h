@@ -1,5 +1,5 @@
 /* State memory in one struct, and the state calls on it: a caller gives the struct and what the call needs. Static or from the heap, it
- * is too big for a stack: 79,139 bytes and 4,224 for each place of the store, 349,475 with 64. rail_state_reset comes first: zeroed
+ * is too big for a stack: 94,371 bytes and 4,224 for each place of the store, 364,707 with 64. rail_state_reset comes first: zeroed
  * memory is no state. Included by rail.h. */
 #ifndef RAIL_STATE_H
 #define RAIL_STATE_H
@@ -145,6 +145,10 @@ static inline struct rail_holder rail_small_icon_holder(uint32_t window_id) {
 
 static inline struct rail_holder rail_big_icon_holder(uint32_t window_id) {
     return rail_holder_of(RAIL_HOLDER_BIG_ICON, window_id, 0);
+}
+
+static inline struct rail_holder rail_overlay_icon_holder(uint32_t window_id) {
+    return rail_holder_of(RAIL_HOLDER_OVERLAY_ICON, window_id, 0);
 }
 
 static inline struct rail_holder rail_notification_holder(uint32_t window_id, uint32_t notify_icon_id) {

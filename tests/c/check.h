@@ -62,6 +62,7 @@ void test_desktop(void);
 void test_pictures(void);
 void test_kept_pictures(void);
 void test_sent_once(void);
+void test_newer(void);
 void test_store(void);
 void test_lookups(void);
 void test_orders(void);

@@ -182,6 +182,7 @@ int main(void) {
     test_pictures();
     test_kept_pictures();
     test_sent_once();
+    test_newer();
     test_store();
     test_lookups();
     test_orders();

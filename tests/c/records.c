@@ -53,7 +53,7 @@ static struct field make_field(uint32_t flag, size_t at, size_t room, size_t len
     return f;
 }
 
-#define WINDOW_FIELDS 14
+#define WINDOW_FIELDS 21
 
 /* The fields of a window in carried order, with strings and lists that leave room or fill it. */
 static void window_fields(struct field f[WINDOW_FIELDS], size_t title, uint32_t rects, uint8_t show, uint8_t content) {
@@ -63,14 +63,21 @@ static void window_fields(struct field f[WINDOW_FIELDS], size_t title, uint32_t 
     f[3] = make_field(WINDOW_ORDER_FIELD_TITLE, RAIL_WINDOW_AT_TITLE_BYTES, 522, 2, (uint32_t)title, title, 0x41);
     f[4] = make_field(WINDOW_ORDER_FIELD_CLIENTAREAOFFSET, RAIL_WINDOW_AT_CLIENT_OFFSET_X, 8, 0, 0, 8, 0xA1);
     f[5] = make_field(WINDOW_ORDER_FIELD_CLIENTAREASIZE, RAIL_WINDOW_AT_CLIENT_AREA_WIDTH, 8, 0, 0, 8, 0xB1);
-    f[6] = make_field(WINDOW_ORDER_FIELD_RPCONTENT, RAIL_WINDOW_AT_RP_CONTENT, 1, 0, 0, 1, content);
-    f[7] = make_field(WINDOW_ORDER_FIELD_ROOTPARENT, RAIL_WINDOW_AT_ROOT_PARENT_HANDLE, 4, 0, 0, 4, 0xC1);
-    f[8] = make_field(WINDOW_ORDER_FIELD_WNDOFFSET, RAIL_WINDOW_AT_WINDOW_OFFSET_X, 8, 0, 0, 8, 0xD1);
-    f[9] = make_field(WINDOW_ORDER_FIELD_WNDCLIENTDELTA, RAIL_WINDOW_AT_CLIENT_DELTA_X, 8, 0, 0, 8, 0xE1);
-    f[10] = make_field(WINDOW_ORDER_FIELD_WNDSIZE, RAIL_WINDOW_AT_WINDOW_WIDTH, 8, 0, 0, 8, 0xF1);
-    f[11] = make_field(WINDOW_ORDER_FIELD_WNDRECTS, RAIL_WINDOW_AT_NUM_WINDOW_RECTS, 130, 2, rects, 8 * rects, 0x11);
-    f[12] = make_field(WINDOW_ORDER_FIELD_VISOFFSET, RAIL_WINDOW_AT_VISIBLE_OFFSET_X, 8, 0, 0, 8, 0x71);
-    f[13] = make_field(WINDOW_ORDER_FIELD_VISIBILITY, RAIL_WINDOW_AT_NUM_VISIBILITY_RECTS, 130, 2, rects, 8 * rects, 0x21);
+    f[6] = make_field(WINDOW_ORDER_FIELD_RESIZE_MARGIN_X, RAIL_WINDOW_AT_LEFT_RESIZE_MARGIN, 8, 0, 0, 8, 0x51);
+    f[7] = make_field(WINDOW_ORDER_FIELD_RESIZE_MARGIN_Y, RAIL_WINDOW_AT_TOP_RESIZE_MARGIN, 8, 0, 0, 8, 0x61);
+    f[8] = make_field(WINDOW_ORDER_FIELD_RPCONTENT, RAIL_WINDOW_AT_RP_CONTENT, 1, 0, 0, 1, content);
+    f[9] = make_field(WINDOW_ORDER_FIELD_ROOTPARENT, RAIL_WINDOW_AT_ROOT_PARENT_HANDLE, 4, 0, 0, 4, 0xC1);
+    f[10] = make_field(WINDOW_ORDER_FIELD_WNDOFFSET, RAIL_WINDOW_AT_WINDOW_OFFSET_X, 8, 0, 0, 8, 0xD1);
+    f[11] = make_field(WINDOW_ORDER_FIELD_WNDCLIENTDELTA, RAIL_WINDOW_AT_CLIENT_DELTA_X, 8, 0, 0, 8, 0xE1);
+    f[12] = make_field(WINDOW_ORDER_FIELD_WNDSIZE, RAIL_WINDOW_AT_WINDOW_WIDTH, 8, 0, 0, 8, 0xF1);
+    f[13] = make_field(WINDOW_ORDER_FIELD_WNDRECTS, RAIL_WINDOW_AT_NUM_WINDOW_RECTS, 130, 2, rects, 8 * rects, 0x11);
+    f[14] = make_field(WINDOW_ORDER_FIELD_VISOFFSET, RAIL_WINDOW_AT_VISIBLE_OFFSET_X, 8, 0, 0, 8, 0x71);
+    f[15] = make_field(WINDOW_ORDER_FIELD_VISIBILITY, RAIL_WINDOW_AT_NUM_VISIBILITY_RECTS, 130, 2, rects, 8 * rects, 0x21);
+    f[16] = make_field(WINDOW_ORDER_FIELD_OVERLAY_DESCRIPTION, RAIL_WINDOW_AT_OVERLAY_DESCRIPTION_BYTES, 522, 2, (uint32_t)title, title, 0x31);
+    f[17] = make_field(WINDOW_ORDER_FIELD_TASKBAR_BUTTON, RAIL_WINDOW_AT_TASKBAR_BUTTON, 1, 0, 0, 1, content);
+    f[18] = make_field(WINDOW_ORDER_FIELD_ENFORCE_SERVER_ZORDER, RAIL_WINDOW_AT_ENFORCE_SERVER_Z_ORDER, 1, 0, 0, 1, content);
+    f[19] = make_field(WINDOW_ORDER_FIELD_APPBAR_STATE, RAIL_WINDOW_AT_APP_BAR_STATE, 1, 0, 0, 1, content);
+    f[20] = make_field(WINDOW_ORDER_FIELD_APPBAR_EDGE, RAIL_WINDOW_AT_APP_BAR_EDGE, 1, 0, 0, 1, 3);
 }
 
 /* The struct has the numbers that the runs of window_fields spell. */
@@ -92,7 +99,11 @@ static void check_window_struct(const uint8_t *record, uint32_t title, uint32_t 
     CHECK(w.window_rects[0].right == 0x1615 && w.window_rects[0].bottom == 0x1817);
     CHECK(w.visibility_rects[rects - 1].left == (uint16_t)(0x2221 + 0x0808 * (rects - 1)));
     CHECK(w.visibility_rects[rects - 1].bottom == (uint16_t)(0x2827 + 0x0808 * (rects - 1)));
-    CHECK(!w.small_icon.present && !w.big_icon.present);
+    CHECK(!w.small_icon.present && !w.big_icon.present && !w.overlay_icon.present);
+    CHECK(w.left_resize_margin == 0x54535251u && w.right_resize_margin == 0x58575655u);
+    CHECK(w.top_resize_margin == 0x64636261u && w.bottom_resize_margin == 0x68676665u);
+    CHECK(w.overlay_description.at == record + RAIL_WINDOW_AT_OVERLAY_DESCRIPTION && w.overlay_description.bytes == title);
+    CHECK(w.taskbar_button == 1 && w.enforce_server_z_order == 1 && w.app_bar_state == 1 && w.app_bar_edge == 3);
 }
 
 /* One field after another brought by an update of its own. */
@@ -134,7 +145,7 @@ static int standing(const struct field f[WINDOW_FIELDS], const uint8_t *record) 
 void test_window(void) {
     static struct field f[WINDOW_FIELDS];
     uint8_t *one = fenced(RAIL_WINDOW_SIZE), *other = fenced(RAIL_WINDOW_SIZE);
-    const uint32_t flags = 0x0007DF1E; /* all 14 */
+    const uint32_t flags = 0x08CFDFDF; /* all 21 */
     empty_state();
     window_fields(f, 6, 3, RAIL_SHOW_NORMAL, 1);
     window_field_by_field(f, one, other);

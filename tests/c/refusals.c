@@ -61,7 +61,7 @@ static void unformed_index(uint8_t *out) {
 
 /* With pictures at the mark: two cells at one place, and a head outside its set where something points at its place. */
 static void unformed_pictures(uint8_t *out) {
-    uint8_t *heads = now.bodies + 49 * 916, *cells = now.index + 1;
+    uint8_t *heads = now.bodies + 32 * 1392 + 17 * 916, *cells = now.index + 1;
     uint32_t place;
     begin_window(WINDOW_ORDER_ICON, 7);
     put_icon(0, 0, 32, 1, 0, 1, 0);
@@ -178,8 +178,7 @@ static void refuse_headers(void) {
     begin_window(0, 7);
     order.at[6] = 0; /* no type bit */
     refuse(RAIL_UNKNOWN_TYPE);
-    refuse_window(0x00000001, RAIL_UNKNOWN_FLAG);
-    refuse_window(0x00080000, RAIL_UNKNOWN_FLAG);
+    refuse_window(0x00000020, RAIL_UNKNOWN_FLAG); /* the only bit, beside the type bits, that no window order has */
     refuse_desktop(WINDOW_ORDER_STATE_NEW, RAIL_UNKNOWN_FLAG);
     begin_notification(WINDOW_ORDER_FIELD_ICON_BIG, 7, 9);
     refuse(RAIL_UNKNOWN_FLAG);
@@ -187,8 +186,18 @@ static void refuse_headers(void) {
     refuse_window(WINDOW_ORDER_ICON | WINDOW_ORDER_CACHEDICON, RAIL_FLAGS_CLASH);
     refuse_window(WINDOW_ORDER_ICON | WINDOW_ORDER_FIELD_TITLE, RAIL_FLAGS_CLASH);
     refuse_window(WINDOW_ORDER_FIELD_ICON_BIG, RAIL_FLAGS_CLASH);
+    refuse_window(WINDOW_ORDER_FIELD_ICON_OVERLAY, RAIL_FLAGS_CLASH);
+    refuse_window(WINDOW_ORDER_ICON | WINDOW_ORDER_FIELD_ICON_OVERLAY | WINDOW_ORDER_FIELD_ICON_BIG, RAIL_FLAGS_CLASH);
+    refuse_window(WINDOW_ORDER_ICON | WINDOW_ORDER_FIELD_ICON_OVERLAY_NULL, RAIL_FLAGS_CLASH);
+    refuse_window(WINDOW_ORDER_STATE_DELETED | WINDOW_ORDER_FIELD_ICON_OVERLAY_NULL, RAIL_FLAGS_CLASH);
     refuse_desktop(WINDOW_ORDER_FIELD_DESKTOP_NONE | WINDOW_ORDER_FIELD_DESKTOP_HOOKED, RAIL_FLAGS_CLASH);
     refuse_desktop(WINDOW_ORDER_FIELD_DESKTOP_ARC_COMPLETED | WINDOW_ORDER_FIELD_DESKTOP_ARC_BEGAN, RAIL_FLAGS_CLASH);
+}
+
+static void refuse_byte(uint32_t flag, uint32_t number) {
+    begin_window(flag, 7);
+    put8(number);
+    refuse(RAIL_BAD_VALUE);
 }
 
 /* 8: a string, a list or a number that passes its limit by the least. */
@@ -205,8 +214,16 @@ static void refuse_values(void) {
     begin_window(WINDOW_ORDER_FIELD_VISIBILITY, 7);
     put_rectangles(RAIL_RECTANGLES_MAX + 1, 0);
     refuse(RAIL_BAD_VALUE);
-    begin_window(WINDOW_ORDER_FIELD_RPCONTENT, 7);
-    put8(2);
+    refuse_byte(WINDOW_ORDER_FIELD_RPCONTENT, 2);
+    refuse_byte(WINDOW_ORDER_FIELD_TASKBAR_BUTTON, 2);
+    refuse_byte(WINDOW_ORDER_FIELD_ENFORCE_SERVER_ZORDER, 2);
+    refuse_byte(WINDOW_ORDER_FIELD_APPBAR_STATE, 2);
+    refuse_byte(WINDOW_ORDER_FIELD_APPBAR_EDGE, 4);
+    begin_window(WINDOW_ORDER_FIELD_OVERLAY_DESCRIPTION, 7);
+    put_string(RAIL_OVERLAY_DESCRIPTION_MAX + 2, 0);
+    refuse(RAIL_BAD_VALUE);
+    begin_window(WINDOW_ORDER_FIELD_OVERLAY_DESCRIPTION, 7);
+    put_string(3, 0);
     refuse(RAIL_BAD_VALUE);
     begin_notification(WINDOW_ORDER_FIELD_NOTIFY_TIP, 7, 9);
     put_string(RAIL_TOOL_TIP_MAX + 2, 0);

@@ -73,7 +73,7 @@ pub fn nanoseconds(job: &Job, journal: &[Order]) -> Cost {
             let start = Instant::now();
             let answer = black_box(state.call(black_box(&job.call), &mut out));
             let taken = start.elapsed();
-            assert!(answer.is_ok(), "checked before");
+            assert_eq!(answer.err(), job.refused, "checked before");
             state.restore(&job.call);
             if turn >= WARMING {
                 times.push(taken);

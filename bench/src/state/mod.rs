@@ -18,7 +18,7 @@ use crate::kinds::{self, Order};
 use crate::table::Cost;
 
 /// Bytes of output memory, enough for every record.
-const OUT: usize = 9_320;
+const OUT: usize = 14_099;
 
 /// The orders that stand after the mark and their bytes, or the number of a refusal.
 type Answer = Result<(usize, usize), u8>;

@@ -106,8 +106,8 @@ pub fn plain_checkpoint(book: &mut Book) -> Answer {
 pub fn plain_window(book: &Book, id: u32, out: &mut [u8]) -> Answer {
     let id = WindowId(id);
     let done = book.window(id).map(|window| {
-        let pictures = [Holder::Small(id), Holder::Big(id)].map(|one| book.table().shown(one));
-        let mut to = Writer::new(&mut out[..9_320]);
+        let pictures = Holder::of_window(id).map(|one| book.table().shown(one));
+        let mut to = Writer::new(&mut out[..14_099]);
         put_window(&mut to, window, pictures);
     });
     answer(book, done)
@@ -197,8 +197,9 @@ fn answer(book: &Book, done: Result<(), u8>) -> Answer {
     Ok((standing.orders, standing.bytes))
 }
 
-fn put_window(to: &mut Writer<'_>, window: &Window, pictures: [Option<&Cell>; 2]) {
-    for picture in pictures {
+fn put_window(to: &mut Writer<'_>, window: &Window, pictures: [Option<&Cell>; 3]) {
+    let [small, big, overlay] = pictures;
+    for picture in [small, big] {
         to.u8(picture.is_some().into());
     }
     to.u32(window.owner.0);
@@ -216,9 +217,17 @@ fn put_window(to: &mut Writer<'_>, window: &Window, pictures: [Option<&Cell>; 2]
     to.rects(&window.window_rects);
     to.point(window.visible_offset);
     to.rects(&window.visibility_rects);
-    for picture in pictures {
-        to.picture(picture);
+    to.picture(small);
+    to.picture(big);
+    to.u8(overlay.is_some().into());
+    to.skip(1);
+    to.pair(window.margin_x);
+    to.pair(window.margin_y);
+    to.text(&window.overlay_text, 520);
+    for byte in [window.taskbar, window.server_z, window.app_bar, window.edge] {
+        to.u8(byte);
     }
+    to.picture(overlay);
 }
 
 /// The bytes of a picture that is handed out.

@@ -33,11 +33,11 @@ unfolding setFlagged emptyFields lenOf firstOf numAt slice
 set = refl
 
 -- in memory: the owner at index 2, the title after owner, styles and show state at 15
-stored : slice (storeOf windowFields 2 flags order 11 (replicate 916 0)) 0 22
+stored : slice (storeOf windowFields 2 flags order 11 (replicate 1392 0)) 0 22
     ≡ 0 ∷ 0 ∷ 0x00 ∷ 0x01 ∷ 0x02 ∷ 0x00 ∷ 0 ∷ 0 ∷ 0 ∷ 0 ∷ 0 ∷ 0 ∷ 0 ∷ 0 ∷ 0 ∷ 0x04 ∷ 0x00 ∷ 0x41 ∷ 0x00 ∷ 0x42 ∷ 0x00 ∷ 0 ∷ []
 unfolding storeOf stepOf fieldOf lenOf firstOf okOf numAt slice splice
 stored = refl
 
-read : fieldsOf windowFields 2 (storeOf windowFields 2 flags order 11 (replicate 916 0)) ≡ setFlagged windowFields flags order 11 (emptyFields windowFields)
+read : fieldsOf windowFields 2 (storeOf windowFields 2 flags order 11 (replicate 1392 0)) ≡ setFlagged windowFields flags order 11 (emptyFields windowFields)
 unfolding fieldsOf fieldIn storeOf setFlagged emptyFields stepOf fieldOf lenOf firstOf okOf numAt slice splice
 read = refl

@@ -78,27 +78,30 @@ mark-zero m slot i h l =
     let k : length (zeros m) ≡ m = length-replicate m 0 in
     rw (zero-add i) at (num-in 1 slot 0 (zeros m) (omega arith) i (omega arith)) ∙ num-zeros 1 m i
 
-module _ (rows : List Row) (slot : List ℕ) (long : 916 ≤ length slot) (room : 2 + roomAll rows ≤ 916) where
+module _ (rows : List Row) (slot : List ℕ) (room : 2 + roomAll rows ≤ length slot) where
+  all : length slot ≤ length slot
+  all = omega arith
+
   pub prepared-body : bodyOf rows (preparedOf true slot) ≡ emptyBody rows
   unfolding preparedOf emptyBody
   prepared-body =
-      body-is rows (splice slot 0 (zeros 916)) (mark-zero 916 slot 0 long (omega arith)) (mark-zero 916 slot 1 long (omega arith))
-      (fields-zeros 916 (splice slot 0 (zeros 916)) (cleared 916 slot long) rows 2 room)
+      body-is rows (splice slot 0 (zeros (length slot))) (mark-zero (length slot) slot 0 all (omega (arith, room))) (mark-zero (length slot) slot 1 all (omega (arith, room)))
+      (fields-zeros (length slot) (splice slot 0 (zeros (length slot))) (cleared (length slot) slot all) rows 2 room)
 
   pub prepared-ok : (m n : ℕ) → All Placed rows → bodyOk rows m n (preparedOf true slot) ≡ true
   unfolding preparedOf
   prepared-ok m n a =
-      fine-ok rows m n (splice slot 0 (zeros 916))
+      fine-ok rows m n (splice slot 0 (zeros (length slot)))
       (record {
-        first = omega (arith, mark-zero 916 slot 0 long (omega arith));
-        second = omega (arith, mark-zero 916 slot 1 long (omega arith));
-        fields = fields-ok-zeros 916 (splice slot 0 (zeros 916)) (cleared 916 slot long) rows 2 a room;
+        first = omega (arith, mark-zero (length slot) slot 0 all (omega (arith, room)));
+        second = omega (arith, mark-zero (length slot) slot 1 all (omega (arith, room)));
+        fields = fields-ok-zeros (length slot) (splice slot 0 (zeros (length slot))) (cleared (length slot) slot all) rows 2 a room;
       })
 
-pub length-prepared : (fresh : Bool) (slot : List ℕ) → 916 ≤ length slot → length (preparedOf fresh slot) ≡ length slot
+pub length-prepared : (fresh : Bool) (slot : List ℕ) → length (preparedOf fresh slot) ≡ length slot
 unfolding preparedOf
-length-prepared true slot h = length-splice slot 0 (zeros 916) (omega (arith, length-replicate {A = ℕ} 916 0))
-length-prepared false slot h = refl
+length-prepared true slot = length-splice slot 0 (zeros (length slot)) (omega (arith, length-replicate {A = ℕ} (length slot) 0))
+length-prepared false slot = refl
 
 pub prepared-kept : (slot : List ℕ) → preparedOf false slot ≡ slot
 unfolding preparedOf
@@ -106,7 +109,7 @@ prepared-kept slot = refl
 
 -- ---- the three kinds have room in a slot
 
-pub window-room : roomAll windowFields ≡ 848
+pub window-room : roomAll windowFields ≡ 1390
 unfolding roomAll
 window-room = refl
 

@@ -1,10 +1,10 @@
--- A record's body: two marks and the fields of its kind, each as an order carries it. In memory it has 916 bytes: the two
--- marks, then each field at its own place with room for the most that it may take. Assumes nothing.
-use Prim.Native.Nat.{ℕ, zero, suc, _+_, _*_, _<_}
+-- A record's body: two marks and the fields of its kind, each as an order carries it. In memory it has a slot: the two marks, then
+-- each field at its own place with room for the most that it may take. Assumes nothing.
+use Prim.Native.Nat.{ℕ, zero, suc, _+_, _*_, _-_, _<_}
 use mathlib.Core.Path.{_≡_}
 use mathlib.Core.Bool.{Bool, true}
 use mathlib.Core.List.{List, [], _∷_}
-use lib.Dec.{leb}
+use lib.Dec.{leb, ltb}
 use lib.ListN.{length, getD, take, replicate}
 use Rattle.wire.specs.Tests.{pick, both, hasAll}
 use Rattle.wire.specs.Numbers.{numAt}
@@ -14,13 +14,13 @@ use Rattle.order.specs.Rows.{noRow, rowsFrom, roomOf, lenOf, okOf}
 
 -- the fields of a kind in the one table of rows: the ids are the directory's
 abbrev pub windowFields : List Row
-windowFields = rowsFrom 1 15
+windowFields = rowsFrom 1 22
 
 abbrev pub notificationFields : List Row
-notificationFields = rowsFrom 16 22
+notificationFields = rowsFrom 23 29
 
 abbrev pub desktopFields : List Row
-desktopFields = rowsFrom 22 24
+desktopFields = rowsFrom 29 31
 
 -- The marks: of a window its small and its big icon, of a notification icon its icon and 0, of the desktop hooked and
 -- syncing. An icon is 0 for none, else the number of its cell and 1.
@@ -31,8 +31,22 @@ pub record Body : Type 0 where
 
 -- ---- in memory
 
+-- 32 slots of windows, then 16 of notification icons and one of the desktop state
+abbrev pub slotsInAll : ℕ
+slotsInAll = 49
+
+-- the bytes of slot k, where it begins, and where the last one ends
+unfoldable pub slotLength : ℕ → ℕ
+slotLength k = pick (ltb k 32) 1392 916
+
+unfoldable pub slotStart : ℕ → ℕ
+slotStart k = pick (ltb k 32) (1392 * k) (44544 + 916 * (k - 32))
+
+abbrev pub slotsEnd : ℕ
+slotsEnd = 60116
+
 unfoldable pub slotOf : List ℕ → ℕ → List ℕ
-slotOf bodies k = slice bodies (916 * k) 916
+slotOf bodies k = slice bodies (slotStart k) (slotLength k)
 
 -- a field in its place
 unfoldable pub fieldIn : Row → List ℕ → List ℕ

@@ -21,7 +21,7 @@ storeOf (r ∷ rs) off flags s at slot =
 
 -- a new record's slot: zeros
 unfoldable pub preparedOf : Bool → List ℕ → List ℕ
-preparedOf fresh slot = pick fresh (splice slot 0 (replicate 916 0)) slot
+preparedOf fresh slot = pick fresh (splice slot 0 (replicate (length slot) 0)) slot
 
 -- a mark set where an icon or cached icon is carried
 unfoldable pub pointedOf : ℕ → ℕ → ℕ → List ℕ → List ℕ
@@ -48,7 +48,7 @@ pub record EndsWell (rows : List Row) (flags : ℕ) (s : List ℕ) (at : ℕ) : 
 
 -- one turn of a store of the window's fields: row k is put at index off, and the next row begins at index q
 pub record Turned (k off flags : ℕ) (s : List ℕ) (at : ℕ) (slot : List ℕ) (q : ℕ) (after : List ℕ) : Type 0 where
-  pub stored : storeOf (rowsFrom k 15) off flags s at slot ≡ storeOf (rowsFrom (k + 1) 15) (off + roomOf (getD allRows k noRow)) flags s q after
+  pub stored : storeOf (rowsFrom k 22) off flags s at slot ≡ storeOf (rowsFrom (k + 1) 22) (off + roomOf (getD allRows k noRow)) flags s q after
   pub on : at ≤ q
   pub within : q ≤ length s
-  pub well : EndsWell (rowsFrom (k + 1) 15) flags s q
+  pub well : EndsWell (rowsFrom (k + 1) 22) flags s q

@@ -74,6 +74,8 @@ windowA =
     ∷ (0x02 ∷ 0x00 ∷ 0x41 ∷ 0x00 ∷ [])
     ∷ eight
     ∷ eight
+    ∷ eight
+    ∷ eight
     ∷ (0 ∷ [])
     ∷ four
     ∷ eight
@@ -82,6 +84,11 @@ windowA =
     ∷ (0 ∷ 0 ∷ [])
     ∷ eight
     ∷ (0 ∷ 0 ∷ [])
+    ∷ (0 ∷ 0 ∷ [])
+    ∷ (0 ∷ [])
+    ∷ (0 ∷ [])
+    ∷ (0 ∷ [])
+    ∷ (0 ∷ [])
     ∷ []
 
 -- a desktop state with no active window and no stacking list, neither hooked nor syncing
@@ -107,9 +114,9 @@ tableA =
 abbrev pub standing : List (List ℕ) → Book
 standing os = record { places = places; old = []; new = os }
 
--- what a lookup of the window hands out: its fields, and no picture for either icon
+-- what a lookup of the window hands out: its fields, and no picture for any of its icons
 abbrev pub windowShown : Payload
-windowShown = listed family.Windows windowA (none ∷ none ∷ [])
+windowShown = listed family.Windows windowA (none ∷ none ∷ none ∷ [])
 
 -- the window of cases 4 and 5 looked up
 abbrev pub lookA : Call
@@ -147,10 +154,10 @@ cases =
       answer = judgedAs (Desktop (record { flags = 0x04000001 }));
     }
     ∷ record { question = judgeOrder (0x2E ∷ 0x07 ∷ 0x00 ∷ 0x01 ∷ 0x00 ∷ 0x00 ∷ 0x05 ∷ []); answer = judgedAs (refuse 4 3) }
-    -- 7: case 4 with flags byte 84
+    -- 7: case 4 with flags byte 84; 5 before request No. 12, since when this bit carries resize margins
     ∷ record {
       question = judgeOrder (0x2E ∷ 0x0F ∷ 0x00 ∷ 0x84 ∷ 0x00 ∷ 0x00 ∷ 0x11 ∷ 0x58 ∷ 0x00 ∷ 0x01 ∷ 0x00 ∷ 0x02 ∷ 0x00 ∷ 0x41 ∷ 0x00 ∷ []);
-      answer = judgedAs (refuse 5 3);
+      answer = judgedAs (refuse 7 15);
     }
     -- 4 on an emptied state: one window, title "A"; delivered again: 9, nothing changed
     ∷ record { question = endOf (deliver newA ∷ []); answer = left (standing (newA ∷ [])) tableA }
@@ -175,7 +182,7 @@ cases =
     ∷ record {
       question =
           askBook (deliver (0x2E ∷ 0x0F ∷ 0x00 ∷ 0x84 ∷ 0x00 ∷ 0x00 ∷ 0x11 ∷ 0x58 ∷ 0x00 ∷ 0x01 ∷ 0x00 ∷ 0x02 ∷ 0x00 ∷ 0x41 ∷ 0x00 ∷ []) ∷ []);
-      answer = bookSays (refused 5 ∷ []);
+      answer = bookSays (refused 7 ∷ []);
     }
     ∷ []
 

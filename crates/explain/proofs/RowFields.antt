@@ -13,7 +13,7 @@ use Rattle.order.specs.declared.Row.{Row}
 use Rattle.order.specs.declared.Fit.{Fit}
 use Rattle.order.specs.declared.Fit.the-variants.{Ends, Short}
 use Rattle.order.specs.Flags.{isWindow, isNotification}
-use Rattle.order.specs.Rows.{numbersRow, showRow, switchRow, textRow, rectanglesRow, idsRow, windowRows, notificationRows, desktopRows, kindRows, firstOf, lenOf, okOf, cutOf, firstBad, fieldOf, stepOf, onFit, walkOf}
+use Rattle.order.specs.Rows.{numbersRow, showRow, switchRow, textRow, rectanglesRow, idsRow, edgeRow, windowRows, notificationRows, desktopRows, kindRows, firstOf, lenOf, okOf, cutOf, firstBad, fieldOf, stepOf, onFit, walkOf}
 use Rattle.order.proofs.Fields.{bad-zero}
 use Rattle.explain.specs.Fields.{Field, anyNumber, run, laterFields, rowFields, rowsFields}
 use Rattle.explain.proofs.Walks.{leb-same, fitOf, fit-append}
@@ -177,8 +177,11 @@ rectangles f = numbers (omega arith) refl by2 (λ v. omega arith)
 ids : (f : ℕ) → Later (idsRow f)
 ids f = numbers (omega arith) refl by4 (λ v. omega arith)
 
+edge : (f : ℕ) → Later (edgeRow f)
+edge f = numbers (omega arith) refl by1 (λ v. omega arith)
+
 windows : AllLater windowRows
-windows = (four 0, (four 0x00000002, (eight 0x00000008, (show 0x00000010, (text 0x00000004 520, (eight 0x00004000, (eight 0x00010000, (switch 0x00020000, (four 0x00040000, (eight 0x00000800, (eight 0x00008000, (eight 0x00000400, (rectangles 0x00000100, (eight 0x00001000, (rectangles 0x00000200, tt)))))))))))))))
+windows = (four 0, (four 0x00000002, (eight 0x00000008, (show 0x00000010, (text 0x00000004 520, (eight 0x00004000, (eight 0x00010000, (eight 0x00000080, (eight 0x08000000, (switch 0x00020000, (four 0x00040000, (eight 0x00000800, (eight 0x00008000, (eight 0x00000400, (rectangles 0x00000100, (eight 0x00001000, (rectangles 0x00000200, (text 0x00400000 520, (switch 0x00800000, (switch 0x00080000, (switch 0x00000040, (edge 0x00000001, tt))))))))))))))))))))))
 
 notifications : AllLater notificationRows
 notifications = (eight 0, (four 0x00000008, (text 0x00000001 256, (eight 0x00000002, (text 0x00000002 510, (text 0x00000002 126, (four 0x00000004, tt)))))))

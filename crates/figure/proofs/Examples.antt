@@ -11,7 +11,7 @@ use Rattle.figure.specs.Figure.{fieldWith, isShown, pixelsOf}
 -- with this show state and the rectangles 0, 0, 10, 10 and 5, 5, 15, 15
 abbrev window : ℕ → Body
 window state =
-    record { first = 0; second = 0; fields = [] ∷ [] ∷ (state ∷ []) ∷ [] ∷ [] ∷ [] ∷ [] ∷ [] ∷ [] ∷ [] ∷ [] ∷ [] ∷ [] ∷ two ∷ [] }
+    record { first = 0; second = 0; fields = [] ∷ [] ∷ (state ∷ []) ∷ [] ∷ [] ∷ [] ∷ [] ∷ [] ∷ [] ∷ [] ∷ [] ∷ [] ∷ [] ∷ [] ∷ [] ∷ two ∷ [] }
 
 shown : map (λ (state : ℕ). one (isShown (window state))) (5 ∷ 3 ∷ 2 ∷ 0 ∷ []) ≡ 1 ∷ 1 ∷ 1 ∷ 0 ∷ []
 unfolding isShown fieldWith numAt

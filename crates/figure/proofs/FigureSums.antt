@@ -2,7 +2,7 @@
 use mathlib.Core.Path.{_≡_, refl, sym, ap, _∙_}
 use mathlib.Core.Bool.{Bool, true, false, not}
 use mathlib.Core.List.{List}
-use Prim.Native.Nat.{ℕ, _+_, _*_, _≤_}
+use Prim.Native.Nat.{ℕ, _+_, _*_, _≤_, _<_}
 use native.Mathlib.Numerals.{add-one}
 use native.Mathlib.Omega.{arith}
 use lib.Dec.{eqb}
@@ -22,9 +22,9 @@ use Rattle.figure.proofs.FigureFields.{shown-by, pixels-by}
 
 -- ---- one slot
 
-pub shown-is : (index bodies : List ℕ) (i : ℕ) → both (eqb (getD index (157 + 9 * i) 0) 1) (not (eqb (getD bodies (916 * i + 14) 0) 0)) ≡ shownAt index bodies i
+pub shown-is : (index bodies : List ℕ) (i : ℕ) → i < 32 → both (eqb (getD index (157 + 9 * i) 0) 1) (not (eqb (getD bodies (1392 * i + 14) 0) 0)) ≡ shownAt index bodies i
 unfolding isUsed
-shown-is index bodies i = rw (used-lent index i, shown-by bodies i)
+shown-is index bodies i l = rw (used-lent index i, shown-by bodies i l)
 
 none-visible : (index bodies : List ℕ) (i : ℕ) → shownAt index bodies i ≡ false → 0 ≡ pixelsAt index bodies i
 unfolding pixelsOf
@@ -62,12 +62,12 @@ hidden index bodies i {shown} e h = (none-visible index bodies i (sym e ∙ go s
     go true k = let z : _≡_ {A = ℕ} 0 1 = cc in absurd (omega arith)
     go false k = refl
 
-pub visible : (index bodies : List ℕ) (i from n : ℕ) {shown : Bool} {z : ℕ} → shown ≡ shownAt index bodies i → not shown ≡ false
-    → from ≡ 916 * i + 720 → n ≡ 130 → z ≡ areaOf (take n (drop from bodies)) → Pixels z (pixelsAt index bodies i)
-visible index bodies i from n {shown} {z} e h ef en ez =
-    let part : z ≡ areaOf (slice bodies (916 * i + 720) 130) = unfold slice in rw (ez, ef, en) in
-    let all : z ≡ pixelsAt index bodies i = part ∙ pixels-by bodies i ∙ some-visible index bodies i (sym e ∙ go shown h) in
-    (all, omega (arith, part, area-at-most (slice bodies (916 * i + 720) 130)))
+pub visible : (index bodies : List ℕ) (i from n : ℕ) → i < 32 → {shown : Bool} {z : ℕ} → shown ≡ shownAt index bodies i → not shown ≡ false
+    → from ≡ 1392 * i + 736 → n ≡ 130 → z ≡ areaOf (take n (drop from bodies)) → Pixels z (pixelsAt index bodies i)
+visible index bodies i from n l {shown} {z} e h ef en ez =
+    let part : z ≡ areaOf (slice bodies (1392 * i + 736) 130) = unfold slice in rw (ez, ef, en) in
+    let all : z ≡ pixelsAt index bodies i = part ∙ pixels-by bodies i l ∙ some-visible index bodies i (sym e ∙ go shown h) in
+    (all, omega (arith, part, area-at-most (slice bodies (1392 * i + 736) 130)))
   where
     go : (t : Bool) → not t ≡ false → t ≡ true
     go true k = refl

@@ -54,9 +54,9 @@ shownAt index bodies i = both (isUsed index i) (isShown (windowAt bodies i))
 abbrev pub pixelsAt : List ℕ → List ℕ → ℕ → ℕ
 pixelsAt index bodies i = pick (isUsed index i) (pixelsOf (windowAt bodies i)) 0
 
--- the bytes of the windows' bodies: 32 times 916
+-- the bytes of the windows' bodies: 32 times 1392
 abbrev pub windowsLength : ℕ
-windowsLength = 29312
+windowsLength = 44544
 
 -- how many are shown, and their pixels added up
 unfoldable pub figureOf : List ℕ → List ℕ → Figure

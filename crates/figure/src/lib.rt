@@ -17,7 +17,7 @@ pub struct Figure {
 // Where the show state and the visibility rectangles of a window stand in its slot, and the room of these.
 const SHOW_STATE: usize = 14;
 
-const VISIBILITY: usize = 720;
+const VISIBILITY: usize = 736;
 
 const VISIBILITY_ROOM: usize = 130;
 
@@ -27,7 +27,7 @@ fn is_shown(index: &[u8], bodies: &[u8], i: usize) -> bool
     ensures { λ r. ⌜ r ≡ shownAt (now (index .entry)) (now (bodies .entry)) i ⌝ }
 {
     let used = index[places::LENGTH + slots::SLOT * i] == 1;
-    used & (bodies[body::SLOT * i + SHOW_STATE] != 0)
+    used & (bodies[body::WINDOW * i + SHOW_STATE] != 0)
 }
 
 // The pixels of the window in slot i, which is shown or not.
@@ -38,7 +38,7 @@ fn pixels_at(index: &[u8], bodies: &[u8], i: usize, shown: bool) -> u64
     if !shown {
         return 0;
     }
-    let from = body::SLOT * i + VISIBILITY;
+    let from = body::WINDOW * i + VISIBILITY;
     let to = from + VISIBILITY_ROOM;
     area::area(&bodies[from..to])
 }

@@ -31,7 +31,7 @@ use Rattle.table.proofs.Bodied.{desktop-length}
 use Rattle.table.proofs.Rule.{table-has}
 use Rattle.follow.specs.declared.Want.{Want}
 use Rattle.follow.specs.declared.Want.the-variants.{Nothing, Window, Notification, Pictures, Desktop}
-use Rattle.follow.specs.Follow.{roomFor, heldOrigins, originAt, carriedBy, beginOf, slotFollowed, originsFollowed, recordFollowed, picturesFollowed, desktopFollowed, followedOf, PicturesHeld, RecordHeld, Holds}
+use Rattle.follow.specs.Follow.{slotRoom, recordRoom, roomFor, heldOrigins, originAt, carriedBy, beginOf, slotFollowed, originsFollowed, recordFollowed, picturesFollowed, desktopFollowed, followedOf, PicturesHeld, RecordHeld, Holds}
 use Rattle.follow.proofs.Origins.{no-origins, origin-cleared, putsAt, length-followed, followed-before, origin-followed}
 use Rattle.follow.proofs.Pictured.{pictures-then}
 use Rattle.follow.proofs.Recorded.{slot-followed-length, slot-followed-origins, record-then, record-stays, desktop-then}
@@ -43,16 +43,16 @@ use Rattle.follow.proofs.Begun as begun
 pub begin-origins : (want : Want) (x b m : List ℕ) → length m ≡ roomFor want → (k : ℕ) → originAt (heldOrigins want (beginOf want x b m)) k ≡ 0
 unfolding beginOf
 begin-origins Nothing x b m long k = no-origins k
-begin-origins (Window w) x b m long k = record-origins b m long (slots.slotOf x Windows (w .id) 0) k
-begin-origins (Notification w n) x b m long k = record-origins b m long (slots.slotOf x Notifications (w .id) (n .id)) k
+begin-origins (Window w) x b m long k = record-origins Windows b m long (slots.slotOf x Windows (w .id) 0) k
+begin-origins (Notification w n) x b m long k = record-origins Notifications b m long (slots.slotOf x Notifications (w .id) (n .id)) k
 begin-origins Pictures x b m long k = origin-cleared m 0 (omega arith) k
 begin-origins Desktop x b m long k = no-origins k
 
 pub begin-length : (want : Want) (x b : List ℕ) (lent : ℕ) (m : List ℕ) → soundTable x b lent ≡ true → length m ≡ roomFor want → length (beginOf want x b m) ≡ roomFor want
 unfolding beginOf
 begin-length Nothing x b lent m sound long = long
-begin-length (Window w) x b lent m sound long = record-length b m long (slots.slotOf x Windows (w .id) 0)
-begin-length (Notification w n) x b lent m sound long = record-length b m long (slots.slotOf x Notifications (w .id) (n .id))
+begin-length (Window w) x b lent m sound long = record-length Windows b m long (slots.slotOf x Windows (w .id) 0)
+begin-length (Notification w n) x b lent m sound long = record-length Notifications b m long (slots.slotOf x Notifications (w .id) (n .id))
 begin-length Pictures x b lent m sound long = let e = length-zeros 128 in length-splice m 0 (replicate 128 0) (omega arith) ∙ long
 begin-length Desktop x b lent m sound long = begun.desktop-length b m (table-has x b lent sound .big) long
 
@@ -67,8 +67,8 @@ begin-holds want x b p lent m since sound long = go want long
 
     go : (want : Want) → length m ≡ roomFor want → Holds want (decode x b p) x (beginOf want x b m) (pictureAt (headsOf b) p) since (headOk (headsOf b))
     go Nothing long = tt
-    go (Window w) long = (record-begun x b p lent m (table-has x b lent sound) long Windows (w .id) 0, pictured (Window w) long)
-    go (Notification w n) long = (record-begun x b p lent m (table-has x b lent sound) long Notifications (w .id) (n .id), pictured (Notification w n) long)
+    go (Window w) long = (record-begun x b p lent m (table-has x b lent sound) Windows long (w .id) 0, pictured (Window w) long)
+    go (Notification w n) long = (record-begun x b p lent m (table-has x b lent sound) Notifications long (w .id) (n .id), pictured (Notification w n) long)
     go Pictures long = pictured Pictures long
     go Desktop long =
         let g = table-has x b lent sound in
@@ -78,26 +78,26 @@ begin-holds want x b p lent m since sound long = go want long
 -- ---- one order: the memory's length and the origins in it, by the plan
 
 module _ (s : List ℕ) (q : ℕ) (p : Plan) (a : Follows s p) where
-  module _ (f : Family) (x y : ℕ) (m : List ℕ) (long : length m ≡ 1044) where
-    record-long : length (recordFollowed f x y q s p m) ≡ 1044
+  module _ (f : Family) (x y : ℕ) (m : List ℕ) (long : length m ≡ recordRoom f) where
+    record-long : length (recordFollowed f x y q s p m) ≡ recordRoom f
     unfolding Follows recordFollowed
     record-long = go p a
       where
-        go : (p : Plan) → Follows s p → length (recordFollowed f x y q s p m) ≡ 1044
+        go : (p : Plan) → Follows s p → length (recordFollowed f x y q s p m) ≡ recordRoom f
         go (ChangeRecord c) a =
             let e = slot-followed-length f x y s c m long a in
-            length-followed 916 q c (slotFollowed f x y s c m) (omega arith) (a .place) ∙ e
+            length-followed (slotRoom f) q c (slotFollowed f x y s c m) (omega arith) (a .place) ∙ e
         go (ChangeDesktop flags) a = long
         go (Refuse n) a = long
 
-    record-puts : q < 65536 → (k : ℕ) → originAt (slice (recordFollowed f x y q s p m) 916 128) k ≡ pick (putsAt p k) q (originAt (slice m 916 128) k)
+    record-puts : q < 65536 → (k : ℕ) → originAt (slice (recordFollowed f x y q s p m) (slotRoom f) 128) k ≡ pick (putsAt p k) q (originAt (slice m (slotRoom f) 128) k)
     unfolding Follows recordFollowed
     record-puts small k = go p a
       where
-        go : (p : Plan) → Follows s p → originAt (slice (recordFollowed f x y q s p m) 916 128) k ≡ pick (putsAt p k) q (originAt (slice m 916 128) k)
+        go : (p : Plan) → Follows s p → originAt (slice (recordFollowed f x y q s p m) (slotRoom f) 128) k ≡ pick (putsAt p k) q (originAt (slice m (slotRoom f) 128) k)
         go (ChangeRecord c) a =
             let e = slot-followed-length f x y s c m long a in
-            origin-followed 916 q c (slotFollowed f x y s c m) (omega arith) (a .place) small k
+            origin-followed (slotRoom f) q c (slotFollowed f x y s c m) (omega arith) (a .place) small k
             ∙ ap (λ (r : List ℕ). pick (putsAt (ChangeRecord c) k) q (originAt r k)) (slot-followed-origins f x y s c m long a)
         go (ChangeDesktop flags) a = refl
         go (Refuse n) a = refl
@@ -162,16 +162,16 @@ follow-origins want d s m q bytes sound long small P were new k = go want long w
     go : (want : Want) → length m ≡ roomFor want → ((k : ℕ) → P (originAt (heldOrigins want m) k)) → P (originAt (heldOrigins want (followedOf want q s (planOf d s) m)) k)
     go Nothing long were = were k
     go (Window w) long were =
-        by (slice (recordFollowed Windows (w .id) 0 q s (planOf d s) m) 916 128) (slice m 916 128) (record-puts s q (planOf d s) a Windows (w .id) 0 m long small k) (were k)
+        by (slice (recordFollowed Windows (w .id) 0 q s (planOf d s) m) (slotRoom Windows) 128) (slice m (slotRoom Windows) 128) (record-puts s q (planOf d s) a Windows (w .id) 0 m long small k) (were k)
     go (Notification w n) long were =
-        by (slice (recordFollowed Notifications (w .id) (n .id) q s (planOf d s) m) 916 128) (slice m 916 128) (record-puts s q (planOf d s) a Notifications (w .id) (n .id) m long small k) (were k)
+        by (slice (recordFollowed Notifications (w .id) (n .id) q s (planOf d s) m) (slotRoom Notifications) 128) (slice m (slotRoom Notifications) 128) (record-puts s q (planOf d s) a Notifications (w .id) (n .id) m long small k) (were k)
     go Pictures long were = by (slice (picturesFollowed q (planOf d s) m) 0 128) (slice m 0 128) (pictures-puts s q (planOf d s) a m long small k) (were k)
     go Desktop long were = were k
 
 -- ---- what it then holds
 
 module _ (t : Table) (d s : List ℕ) (q : ℕ) (bytes : Bytes s) (sound : soundIndex d ≡ true) (same : t .index ≡ indexOf d) where
-  record-holds : (f : Family) (x y : ℕ) (m : List ℕ) → length m ≡ 1044 → RecordHeld t f x y m → RecordHeld (after t s) f x y (recordFollowed f x y q s (planOf d s) m)
+  record-holds : (f : Family) (x y : ℕ) (m : List ℕ) → length m ≡ recordRoom f → RecordHeld t f x y m → RecordHeld (after t s) f x y (recordFollowed f x y q s (planOf d s) m)
   unfolding recordFollowed
   record-holds f x y m long h = go (planOf d s) (planning d s sound bytes)
     where
@@ -181,8 +181,8 @@ module _ (t : Table) (d s : List ℕ) (q : ℕ) (bytes : Bytes s) (sound : sound
           let z = changeOf s o i place in
           let n = slotFollowed f x y s z m in
           let l = slot-followed-length f x y s z m long a in
-          subst (λ (u : Table). RecordHeld u f x y (originsFollowed 916 q z n)) (sym (e t same))
-          (record-then t d s o i place same p a f x y m (originsFollowed 916 q z n) long (followed-before 916 q z n (omega arith) (a .place) 916 (omega arith)) h)
+          subst (λ (u : Table). RecordHeld u f x y (originsFollowed (slotRoom f) q z n)) (sym (e t same))
+          (record-then t d s o i place same p a f x y m (originsFollowed (slotRoom f) q z n) long (followed-before (slotRoom f) q z n (omega arith) (a .place) (slotRoom f) (omega arith)) h)
       go (ChangeDesktop flags) (changes-desktop n k) = subst (λ (u : Table). RecordHeld u f x y m) (sym (k .changed t)) (record-stays t s flags f x y m h)
       go (Refuse n) (changes-none k e) = subst (λ (u : Table). RecordHeld u f x y m) (sym (e t same)) h
 
@@ -212,10 +212,10 @@ follow-holds want t d s m q marked since ok bytes sound same long ne small carri
     a : Follows s (planOf d s)
     a = plan-follows d s bytes sound
 
-    of-record : (f : Family) (x y : ℕ) → length m ≡ 1044 → PicturesHeld t d (slice m 916 128) marked since ok
-        → PicturesHeld (after t s) (appliedOf d (planOf d s)) (slice (recordFollowed f x y q s (planOf d s) m) 916 128) marked since ok
+    of-record : (f : Family) (x y : ℕ) → length m ≡ recordRoom f → PicturesHeld t d (slice m (slotRoom f) 128) marked since ok
+        → PicturesHeld (after t s) (appliedOf d (planOf d s)) (slice (recordFollowed f x y q s (planOf d s) m) (slotRoom f) 128) marked since ok
     of-record f x y long h =
-        pictures-then t d s q marked since ok bytes sound same ne carried (slice m 916 128) (slice (recordFollowed f x y q s (planOf d s) m) 916 128)
+        pictures-then t d s q marked since ok bytes sound same ne carried (slice m (slotRoom f) 128) (slice (recordFollowed f x y q s (planOf d s) m) (slotRoom f) 128)
         (record-puts s q (planOf d s) a f x y m long small) h
 
     go : (want : Want) → length m ≡ roomFor want → Holds want t d m marked since ok

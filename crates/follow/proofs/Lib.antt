@@ -1,3 +1,4 @@
+pub mod Rooms
 pub mod Origins
 pub mod Pictured
 pub mod Recorded

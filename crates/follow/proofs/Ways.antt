@@ -1,5 +1,5 @@
 -- What each function that follows does, by its tests: one law for each way out. Assumes nothing.
-use mathlib.Core.Path.{_≡_, refl, sym, ap, _∙_}
+use mathlib.Core.Path.{_≡_, refl, sym, ap, subst, _∙_}
 use mathlib.Core.Bool.{Bool, true, false, not, _&&_}
 use mathlib.Core.List.{List, [], _∷_, _++_}
 use mathlib.Core.Logic.{inl, inr}
@@ -18,6 +18,7 @@ use Rattle.protocol.specs.Flags.{flagIcon}
 use Rattle.places.specs.declared.Family.{Family}
 use Rattle.places.specs.declared.Found.the-variants.{At, Nothing}
 use Rattle.places.specs.Holder.{sameFamily}
+use Rattle.places.proofs.Named.{same-record}
 use Rattle.index.specs.declared.Change.{Change}
 use Rattle.index.specs.declared.Plan.{Plan}
 use Rattle.index.specs.declared.Plan.the-variants.{ChangeRecord, ChangeDesktop, Refuse}
@@ -27,9 +28,12 @@ use Rattle.index.specs.Slots.{isAt, slotOf, searchOf}
 use Rattle.index.proofs.Plan.{the-type}
 use Rattle.index.proofs.Soundness.{never, family-same, within-slots, found-within}
 use Rattle.index.proofs.Ways.{found-is}
-use Rattle.body.specs.Bodies as bodies
+use Rattle.body.specs.Bodies.{slotStart}
+use Rattle.body.specs.Stores.{roomAll}
+use Rattle.table.specs.Table.{fieldRows}
 use Rattle.table.specs.Changes.{slotAfter, desktopSlot}
-use Rattle.follow.specs.Follow.{beginSlot, isFor, slotFollowed, originsFollowed, recordFollowed, picturesFollowed, desktopFollowed}
+use Rattle.follow.specs.Follow.{slotRoom, beginSlot, isFor, slotFollowed, originsFollowed, recordFollowed, picturesFollowed, desktopFollowed}
+use Rattle.follow.proofs.Rooms.{room-within, family-fits}
 
 -- ---- the beginning
 
@@ -41,12 +45,16 @@ module _ (x : List ℕ) (f : Family) (a b : ℕ) {s : Searched} (h : s ≡ searc
   slot-below i e = within-slots f i (found-within f x a b i (slot-is e))
 
   module _ (records m : List ℕ) where
-    pub begun-nothing : s .found ≡ Nothing → m ≡ beginSlot (slotOf x f a b) records m
+    pub begun-nothing : s .found ≡ Nothing → m ≡ beginSlot f (slotOf x f a b) records m
     begun-nothing e = rw (slot-is e)
 
-    pub begun-slot : (i : ℕ) {y : List ℕ} → s .found ≡ At i → y ≡ splice m 0 (slice records (916 * i) 916) → y ≡ beginSlot (slotOf x f a b) records m
-    unfolding bodies.slotOf
-    begun-slot i e k = rw (slot-is e) k
+    pub begun-slot : (i : ℕ) {base n : ℕ} {y : List ℕ} → s .found ≡ At i → base ≡ slotStart i → n ≡ slotRoom f → y ≡ splice m 0 (slice records base n)
+        → y ≡ beginSlot f (slotOf x f a b) records m
+    begun-slot i {base} {n} e eb en k =
+        rw (slot-is e) (k ∙ ap (λ (v : ℕ). splice m 0 (slice records v n)) eb ∙ ap (λ (v : ℕ). splice m 0 (slice records (slotStart i) v)) en)
+
+    pub slot-found : (i : ℕ) {base n : ℕ} → s .found ≡ At i → base ≡ slotStart i → n ≡ slotRoom f → 61012 ≤ length records → base + n ≤ length records
+    slot-found i e eb en big = omega (arith, eb, en, room-within f records i (found-within f x a b i (slot-is e)) big)
 
 -- ---- whose change it is
 
@@ -83,16 +91,27 @@ module _ (f : Family) (a b : ℕ) (s : List ℕ) (c : Change) (m : List ℕ) {r 
   unfolding slotFollowed
   slot-deleted e = go (isFor f a b c) (c .deleted) e
     where
-      go : (t d : Bool) → d ≡ true → m ≡ pick (both t (not d)) (splice m 0 (slotAfter s c (slice m 0 916))) m
+      go : (t d : Bool) → d ≡ true → m ≡ pick (both t (not d)) (splice m 0 (slotAfter s c (slice m 0 (slotRoom f)))) m
       go true true e = refl
       go true false e = never e
       go false d e = refl
 
-  pub slot-changed : (x : List ℕ) → not r ≡ false → c .deleted ≡ false → 916 ≤ length m → length x ≡ length (slice m 0 916) → x ≡ slotAfter s c (slice m 0 916) → x ++ drop 916 m ≡ slotFollowed f a b s c m
+  -- a change for the record is of its family
+  pub slot-fits : {n k : ℕ} → not r ≡ false → n ≡ slotRoom f → k ≡ n → 2 + roomAll (fieldRows (c .family)) ≤ k
+  slot-fits {n} {k} e en ek =
+      subst (λ (g : Family). 2 + roomAll (fieldRows g) ≤ k) (same-record f (c .family) a (c .window .id) b (c .notify .id) (sym h ∙ not-false r e) .0)
+      (omega (arith, family-fits f, en, ek))
+
+  pub slot-changed : (x : List ℕ) {n : ℕ} → not r ≡ false → c .deleted ≡ false → n ≡ slotRoom f → n ≤ length m → length x ≡ length (slice m 0 n) → x ≡ slotAfter s c (slice m 0 n)
+      → x ++ drop n m ≡ slotFollowed f a b s c m
   unfolding slotFollowed
-  slot-changed x e d long l k = part-back m x 0 916 (l ∙ length-slice m 0 916 (omega arith)) ∙ ap (splice m 0) k ∙ go (isFor f a b c) (c .deleted) (sym h ∙ not-false r e) d
+  slot-changed x {n} e d en long l k =
+      part-back m x 0 n (l ∙ length-slice m 0 n (omega (arith, long)))
+      ∙ ap (splice m 0) k
+      ∙ ap (λ (v : ℕ). splice m 0 (slotAfter s c (slice m 0 v))) en
+      ∙ go (isFor f a b c) (c .deleted) (sym h ∙ not-false r e) d
     where
-      go : (t d : Bool) → t ≡ true → d ≡ false → splice m 0 (slotAfter s c (slice m 0 916)) ≡ pick (both t (not d)) (splice m 0 (slotAfter s c (slice m 0 916))) m
+      go : (t d : Bool) → t ≡ true → d ≡ false → splice m 0 (slotAfter s c (slice m 0 (slotRoom f))) ≡ pick (both t (not d)) (splice m 0 (slotAfter s c (slice m 0 (slotRoom f)))) m
       go true false e g = refl
       go true true e g = never (sym g)
       go false d e g = never e
@@ -123,10 +142,11 @@ module _ (s : List ℕ) (m : List ℕ) where
 
   -- and of its own
 
-  pub record-changed : (f : Family) (a b q : ℕ) (c : Change) {p : Plan} {x y : List ℕ} → p ≡ ChangeRecord c → y ≡ slotFollowed f a b s c m → x ≡ originsFollowed 916 q c y
+  pub record-changed : (f : Family) (a b q : ℕ) (c : Change) {p : Plan} {n : ℕ} {x y : List ℕ} → p ≡ ChangeRecord c → y ≡ slotFollowed f a b s c m → n ≡ slotRoom f → x ≡ originsFollowed n q c y
       → x ≡ recordFollowed f a b q s p m
   unfolding recordFollowed
-  record-changed f a b q c e h k = k ∙ ap (originsFollowed 916 q c) h ∙ ap (λ (p : Plan). recordFollowed f a b q s p m) (sym e)
+  record-changed f a b q c {p} {n} {x} {y} e h en k =
+      k ∙ ap (λ (v : ℕ). originsFollowed v q c y) en ∙ ap (originsFollowed (slotRoom f) q c) h ∙ ap (λ (p : Plan). recordFollowed f a b q s p m) (sym e)
 
   pub picture-changed : (q : ℕ) (c : Change) {p : Plan} {x : List ℕ} → p ≡ ChangeRecord c → x ≡ originsFollowed 0 q c m → x ≡ picturesFollowed q p m
   unfolding picturesFollowed

@@ -22,7 +22,7 @@ use Rattle.index.specs.declared.Plan.the-variants.{ChangeRecord, ChangeDesktop,
 use Rattle.index.specs.Families.{sameRecord}
 use Rattle.index.specs.Slots as slots
 use Rattle.index.specs.Orders.{onJudged, bringsIcon}
-use Rattle.body.specs.Bodies.{desktopFields, slotOf, fieldsOf, bodyOf, bodyOk}
+use Rattle.body.specs.Bodies.{desktopFields, slotStart, slotOf, fieldsOf, bodyOf, bodyOk}
 use Rattle.cache.specs.Cells.{carriedPicture}
 use Rattle.follow.specs.declared.Want.{Want}
 use Rattle.follow.specs.declared.Want.the-variants.{Nothing, Window, Notification, Pictures, Desktop}
@@ -30,26 +30,33 @@ use Rattle.table.specs.Table.{Table, fieldRows}
 use Rattle.table.specs.Memory.{shownIn}
 use Rattle.table.specs.Changes.{putsPicture, slotAfter, desktopSlot}
 
--- ---- the memory: a slot, then for each place, 2 bytes, where its picture came since the mark
+-- ---- the memory: a slot of its family, then for each place, 2 bytes, where its picture came since the mark
 
 abbrev pub originsLength : ℕ
 originsLength = 128
 
+abbrev pub slotRoom : Family → ℕ
+slotRoom Windows = 1392
+slotRoom Notifications = 916
+
+abbrev pub recordRoom : Family → ℕ
+recordRoom f = slotRoom f + originsLength
+
 abbrev pub roomFor : Want → ℕ
 roomFor Nothing = 0
-roomFor (Window w) = 1044
-roomFor (Notification w n) = 1044
-roomFor Pictures = 128
+roomFor (Window w) = recordRoom Windows
+roomFor (Notification w n) = recordRoom Notifications
+roomFor Pictures = originsLength
 roomFor Desktop = 916
 
-abbrev pub heldSlot : List ℕ → List ℕ
-heldSlot m = slice m 0 916
+abbrev pub heldSlot : Family → List ℕ → List ℕ
+heldSlot f m = slice m 0 (slotRoom f)
 
 -- the origins: none where no picture is followed
 abbrev pub heldOrigins : Want → List ℕ → List ℕ
 heldOrigins Nothing m = []
-heldOrigins (Window w) m = slice m 916 originsLength
-heldOrigins (Notification w n) m = slice m 916 originsLength
+heldOrigins (Window w) m = slice m (slotRoom Windows) originsLength
+heldOrigins (Notification w n) m = slice m (slotRoom Notifications) originsLength
 heldOrigins Pictures m = slice m 0 originsLength
 heldOrigins Desktop m = []
 
@@ -70,16 +77,16 @@ presentPictures marked since origins p = pick (eqb (originAt origins p) 0) (mark
 abbrev pub noOrigins : List ℕ
 noOrigins = replicate originsLength 0
 
-abbrev pub beginSlot : Found → List ℕ → List ℕ → List ℕ
-beginSlot f bodies m = onFound f m (λ i. splice m 0 (slotOf bodies i))
+abbrev pub beginSlot : Family → Found → List ℕ → List ℕ → List ℕ
+beginSlot f w bodies m = onFound w m (λ i. splice m 0 (slice bodies (slotStart i) (slotRoom f)))
 
-abbrev pub beginRecord : Found → List ℕ → List ℕ → List ℕ
-beginRecord f bodies m = splice (beginSlot f bodies m) 916 noOrigins
+abbrev pub beginRecord : Family → Found → List ℕ → List ℕ → List ℕ
+beginRecord f w bodies m = splice (beginSlot f w bodies m) (slotRoom f) noOrigins
 
 unfoldable pub beginOf : Want → List ℕ → List ℕ → List ℕ → List ℕ
 beginOf Nothing index bodies m = m
-beginOf (Window w) index bodies m = beginRecord (slots.slotOf index Windows (w .id) 0) bodies m
-beginOf (Notification w n) index bodies m = beginRecord (slots.slotOf index Notifications (w .id) (n .id)) bodies m
+beginOf (Window w) index bodies m = beginRecord Windows (slots.slotOf index Windows (w .id) 0) bodies m
+beginOf (Notification w n) index bodies m = beginRecord Notifications (slots.slotOf index Notifications (w .id) (n .id)) bodies m
 beginOf Pictures index bodies m = splice m 0 noOrigins
 beginOf Desktop index bodies m = splice m 0 (slotOf bodies 48)
 
@@ -90,13 +97,13 @@ abbrev pub isFor : Family → ℕ → ℕ → Change → Bool
 isFor f a b c = sameRecord (c .family) (c .window .id) (c .notify .id) f a b
 
 unfoldable pub slotFollowed : Family → ℕ → ℕ → List ℕ → Change → List ℕ → List ℕ
-slotFollowed f a b s c m = pick (both (isFor f a b c) (not (c .deleted))) (splice m 0 (slotAfter s c (heldSlot m))) m
+slotFollowed f a b s c m = pick (both (isFor f a b c) (not (c .deleted))) (splice m 0 (slotAfter s c (heldSlot f m))) m
 
 unfoldable pub originsFollowed : ℕ → ℕ → Change → List ℕ → List ℕ
 originsFollowed start q c m = pick (putsPicture c) (splice m (start + 2 * c .place) (bytesOf 2 q)) m
 
 unfoldable pub recordFollowed : Family → ℕ → ℕ → ℕ → List ℕ → Plan → List ℕ → List ℕ
-recordFollowed f a b q s (ChangeRecord c) m = originsFollowed 916 q c (slotFollowed f a b s c m)
+recordFollowed f a b q s (ChangeRecord c) m = originsFollowed (slotRoom f) q c (slotFollowed f a b s c m)
 recordFollowed f a b q s (ChangeDesktop flags) m = m
 recordFollowed f a b q s (Refuse n) m = m
 
@@ -126,8 +133,8 @@ pub record PicturesHeld (t : Table) (d origins : List ℕ) (marked since : ℕ �
 
 -- the slot has the record's fields, where it is listed
 pub record RecordHeld (t : Table) (f : Family) (a b : ℕ) (m : List ℕ) : Type 0 where
-  pub fields : t .index .listed f a b ≡ true → fieldsOf (fieldRows f) 2 (heldSlot m) ≡ t .fields f a b
-  pub ok : t .index .listed f a b ≡ true → bodyOk (fieldRows f) 0 0 (heldSlot m) ≡ true
+  pub fields : t .index .listed f a b ≡ true → fieldsOf (fieldRows f) 2 (heldSlot f m) ≡ t .fields f a b
+  pub ok : t .index .listed f a b ≡ true → bodyOk (fieldRows f) 0 0 (heldSlot f m) ≡ true
 
 unfoldable pub Holds : Want → Table → List ℕ → List ℕ → (ℕ → List ℕ) → (ℕ → List ℕ) → (ℕ → Bool) → Type 0
 Holds Nothing t d m marked since ok = Unit {0}

@@ -7,7 +7,7 @@ ghost use Rattle.index.specs.Families.{indexLength};
 ghost use Rattle.table.specs.Memory.{bodiesLength};
 ghost use Rattle.index.specs.Slots as slots;
 ghost use Rattle.table.specs.Changes.{Able, Follows};
-ghost use Rattle.follow.specs.Follow.{originsLength, roomFor, beginSlot, beginRecord, beginOf, isFor, slotFollowed, originsFollowed, recordFollowed, picturesFollowed, desktopFollowed, followedOf};
+ghost use Rattle.follow.specs.Follow.{originsLength, slotRoom, recordRoom, roomFor, beginSlot, beginRecord, beginOf, isFor, slotFollowed, originsFollowed, recordFollowed, picturesFollowed, desktopFollowed, followedOf};
 use index::Change;
 use index::Plan;
 use places::Family;
@@ -29,8 +29,20 @@ pub enum Want {
 // The bytes of the origins: for each of 64 places, 2 bytes, where in the journal its picture came.
 pub const ORIGINS: usize = 128;
 
-// A slot and the origins.
-pub const RECORD: usize = 1044;
+// The slot of a window and the origins, and so of a notification icon.
+pub const WINDOW: usize = 1520;
+
+pub const NOTIFICATION: usize = 1044;
+
+// The bytes of a slot of the family.
+fn slot_room(family: Family) -> usize
+    ensures { λ r. ⌜ r ≡ slotRoom family ⌝ }
+{
+    match family {
+        Family::Windows => body::WINDOW,
+        Family::Notifications => body::OTHER,
+    }
+}
 
 // Copies the slot in which the record of the ids is listed, where it is.
 fn begin_slot(
@@ -41,15 +53,16 @@ fn begin_slot(
     window: WindowId,
     notify: NotifyIconId,
 )
-    requires { ⌜ (length (now m) ≡ 1044) × (indexLength ≤ length (now index)) × (bodiesLength ≤ length (now bodies)) ⌝ }
-    ensures { λ _. ⌜ now (m .exit) ≡ beginSlot (slots.slotOf (now (index .entry)) family (window .id) (notify .id)) (now (bodies .entry)) (now (m .entry)) ⌝ }
+    requires { ⌜ (length (now m) ≡ recordRoom family) × (indexLength ≤ length (now index)) × (bodiesLength ≤ length (now bodies)) ⌝ }
+    ensures { λ _. ⌜ now (m .exit) ≡ beginSlot family (slots.slotOf (now (index .entry)) family (window .id) (notify .id)) (now (bodies .entry)) (now (m .entry)) ⌝ }
 {
     let search = index::slots::find(index, family, window, notify);
     let f = search.found;
     let Found::At(i) = f else {
         return;
     };
-    wire::copy_part(m, 0, bodies, body::SLOT * i, body::SLOT);
+    let room = slot_room(family);
+    wire::copy_part(m, 0, bodies, body::start(i), room);
 }
 
 fn begin_record(
@@ -60,11 +73,12 @@ fn begin_record(
     window: WindowId,
     notify: NotifyIconId,
 )
-    requires { ⌜ (length (now m) ≡ 1044) × (indexLength ≤ length (now index)) × (bodiesLength ≤ length (now bodies)) ⌝ }
-    ensures { λ _. ⌜ now (m .exit) ≡ beginRecord (slots.slotOf (now (index .entry)) family (window .id) (notify .id)) (now (bodies .entry)) (now (m .entry)) ⌝ }
+    requires { ⌜ (length (now m) ≡ recordRoom family) × (indexLength ≤ length (now index)) × (bodiesLength ≤ length (now bodies)) ⌝ }
+    ensures { λ _. ⌜ now (m .exit) ≡ beginRecord family (slots.slotOf (now (index .entry)) family (window .id) (notify .id)) (now (bodies .entry)) (now (m .entry)) ⌝ }
 {
     begin_slot(m, index, bodies, family, window, notify);
-    wire::clear(m, body::SLOT, ORIGINS);
+    let room = slot_room(family);
+    wire::clear(m, room, ORIGINS);
 }
 
 // Takes what is wanted from the table at the mark.
@@ -78,7 +92,7 @@ pub fn begin(m: &mut [u8], index: &[u8], bodies: &[u8], want: Want)
         }
         Want::Notification(w, n) => begin_record(m, index, bodies, Family::Notifications, w, n),
         Want::Pictures => wire::clear(m, 0, ORIGINS),
-        Want::Desktop => wire::copy_part(m, 0, bodies, table::DESKTOP, body::SLOT),
+        Want::Desktop => wire::copy_part(m, 0, bodies, table::DESKTOP, body::OTHER),
         Want::Nothing => {}
     }
 }
@@ -123,7 +137,7 @@ fn follow_slot(
     window: WindowId,
     notify: NotifyIconId,
 )
-    requires { ⌜ (length (now m) ≡ 1044) × Able (now s) c ⌝ }
+    requires { ⌜ (length (now m) ≡ recordRoom family) × Able (now s) c ⌝ }
     ensures { λ _. ⌜ now (m .exit) ≡ slotFollowed family (window .id) (notify .id) (now (s .entry)) c (now (m .entry)) ⌝ }
 {
     if !is_for(c, family, window, notify) {
@@ -132,7 +146,8 @@ fn follow_slot(
     if c.deleted {
         return;
     }
-    changes::change_slot(&mut m[0..body::SLOT], s, c);
+    let room = slot_room(family);
+    changes::change_slot(&mut m[0..room], s, c);
 }
 
 fn follow_record(
@@ -144,14 +159,15 @@ fn follow_record(
     window: WindowId,
     notify: NotifyIconId,
 )
-    requires { ⌜ (length (now m) ≡ 1044) × Follows (now s) p ⌝ }
+    requires { ⌜ (length (now m) ≡ recordRoom family) × Follows (now s) p ⌝ }
     ensures { λ _. ⌜ now (m .exit) ≡ recordFollowed family (window .id) (notify .id) q (now (s .entry)) p (now (m .entry)) ⌝ }
 {
     let Plan::ChangeRecord(c) = p else {
         return;
     };
     follow_slot(m, s, c, family, window, notify);
-    note(m, body::SLOT, q, c);
+    let room = slot_room(family);
+    note(m, room, q, c);
 }
 
 fn follow_pictures(m: &mut [u8], s: &[u8], p: Plan, q: u16)

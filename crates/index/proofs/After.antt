@@ -9,7 +9,7 @@ use lib.ListN.{length}
 use borrow.Author.Tests.{ne-eqb}
 use Rattle.wire.specs.Tests.{pick, has}
 use Rattle.wire.specs.Numbers.{Bytes}
-use Rattle.protocol.specs.Flags.{desktopNone, flagBigIcon}
+use Rattle.protocol.specs.Flags.{desktopNone}
 use Rattle.order.specs.declared.Judged.{Judged}
 use Rattle.order.specs.declared.Judged.the-variants.{Window, Notification, Desktop, Refused}
 use Rattle.order.specs.Judge.{judgeOf}
@@ -19,7 +19,7 @@ use Rattle.places.specs.declared.Found.the-variants.{At, Nothing}
 use Rattle.places.specs.Sharing.{cellsOnly}
 use Rattle.places.specs.Counts.{onFound}
 use Rattle.places.specs.Memory.{placesOf, countAt, isFree, usedOf, sharingOf, decode}
-use Rattle.places.specs.Changes.{freePlace, pointAll, shareOf}
+use Rattle.places.specs.Changes.{freePlace, pointAll, shareOf, releaseOf}
 use Rattle.places.specs.Keyed.{keyed}
 use Rattle.places.specs.Holder.{cell, isCellHolder}
 use Rattle.places.proofs.Counting.{found, count-none}
@@ -29,7 +29,7 @@ use Rattle.index.specs.declared.Plan.{Plan}
 use Rattle.index.specs.declared.Plan.the-variants.{ChangeRecord, ChangeDesktop, Refuse}
 use Rattle.index.specs.Families.{start, capacity, sameRecord}
 use Rattle.index.specs.Slots.{isAt, slotOf}
-use Rattle.index.specs.Orders.{onJudged, isDelete, bringsIcon, bringsCached, cellAt, whichOf}
+use Rattle.index.specs.Orders.{onJudged, isDelete, bringsIcon, bringsCached, clearsOverlay, cellAt, whichOf}
 use Rattle.index.specs.Index.{Index, recordNumber, numberIn, pictured, without, withRecord, changeRecord, changeDesktop, emptyIndex, indexAfter}
 use Rattle.index.specs.Memory.{indexOf}
 use Rattle.index.specs.Plans.{pointerFor, cellFor, changeOf, planRecord, planOf, planNumber}
@@ -39,9 +39,9 @@ use Rattle.index.proofs.Memory.{Slotted, slotted-self, points-slotted, 
 use Rattle.index.proofs.Soundness.{within-slots, found-within, Sound, sound-has, sound-is}
 use Rattle.index.proofs.Listed.{slotted-find, slotted-many, find-freed, many-freed, none-find, none-many}
 use Rattle.index.proofs.Ordered.{Ordered, deleted-old, windowOrder, notificationOrder, ordered-window, ordered-notification}
-use Rattle.index.proofs.Shared.{sharingAt, removed-freed, removed-sharing, cached-sharing, cleared-sharing}
+use Rattle.index.proofs.Shared.{sharingAt, removed-freed, removed-sharing, cached-sharing, none-slotted, none-sharing, cleared-sharing}
 use Rattle.index.proofs.Held.{which-small, beside-cell, beside-small, held}
-use Rattle.index.proofs.Kept.{removed-sound, taken-sound, shared-sound, cleared-sound, places-emptied, pointer-emptied, slots-emptied}
+use Rattle.index.proofs.Kept.{removed-sound, taken-sound, shared-sound, none-sound, cleared-sound, places-emptied, pointer-emptied, slots-emptied}
 use Rattle.index.proofs.Numbered.{readied, Ready, ready, Planned, Outcome, refused, changes, outcome}
 
 -- two indexes that say the same are one
@@ -69,11 +69,11 @@ module _ (x s : List ℕ) (o : RecordOrder) (i place : ℕ) (h : Ordered s o) (r
   there = found (capacity (o .family)) (start (o .family)) (isAt z (o .window .id) (o .notify .id)) i (r .at-i) .2
 
   which : whichOf (o .flags) < 3
-  which = which-small (o .flags) (has (o .flags) flagBigIcon)
+  which = which-small (o .flags)
 
   pictured-is : Pictured z (picturedOf z (changeOf s o i place)) s o
   unfolding picturedOf pictured
-  pictured-is = go (bringsIcon (o .flags)) (bringsCached (o .flags)) refl refl
+  pictured-is = go (bringsIcon (o .flags)) (bringsCached (o .flags)) (clearsOverlay (o .flags)) refl refl refl
     where
       shared : bringsIcon (o .flags) ≡ false → bringsCached (o .flags) ≡ true → Pictured z (shareOf z (pointerFor i (o .flags)) (cellAt s (o .icon))) s o
       shared m n =
@@ -88,9 +88,10 @@ module _ (x s : List ℕ) (o : RecordOrder) (i place : ℕ) (h : Ordered s o) (r
                 ∙ rw (m, n);
           }
 
-      go : (t u : Bool) → bringsIcon (o .flags) ≡ t → bringsCached (o .flags) ≡ u
-          → Pictured z (pick t (pointAll z ns (place + 1)) (pick u (shareOf z (pointerFor i (o .flags)) (cellFor s o i)) z)) s o
-      go true u m n =
+      go : (t u v : Bool) → bringsIcon (o .flags) ≡ t → bringsCached (o .flags) ≡ u → clearsOverlay (o .flags) ≡ v
+          → Pictured z
+          (pick t (pointAll z ns (place + 1)) (pick u (shareOf z (pointerFor i (o .flags)) (cellFor s o i)) (pick v (releaseOf z (pointerFor i (o .flags))) z))) s o
+      go true u v m n q =
           let free : freePlace z ns ≡ At place = r .free ns ∙ p .icon m in
           let k = held z s o i (r .sound) h (r .at-i) m in
           record {
@@ -98,8 +99,15 @@ module _ (x s : List ℕ) (o : RecordOrder) (i place : ℕ) (h : Ordered s o) (r
             sound = taken-sound z (o .family) (o .window .id) (o .notify .id) i (r .sound) there k place free;
             sharing = k .shares place free ∙ rw m;
           }
-      go false true m n = rw (beside-cell (cellAt s (o .icon)) (pointerFor i (o .flags)) (p .cached m n)) (shared m n)
-      go false false m n = record { slotted = slotted-self z; sound = r .sound; sharing = rw (m, n) }
+      go false true v m n q = rw (beside-cell (cellAt s (o .icon)) (pointerFor i (o .flags)) (p .cached m n)) (shared m n)
+      go false false true m n q =
+          let w = whichOf (o .flags) in
+          record {
+            slotted = none-slotted z (r .sound) (o .family) (o .window .id) (o .notify .id) w i (r .at-i) which;
+            sound = none-sound z (o .family) (o .window .id) (o .notify .id) w i (r .sound) (r .at-i) there below which;
+            sharing = none-sharing z (r .sound) (o .family) (o .window .id) (o .notify .id) w i (r .at-i) which ∙ rw (m, n, q);
+          }
+      go false false false m n q = record { slotted = slotted-self z; sound = r .sound; sharing = rw (m, n, q) }
 
 -- ---- a record's order
 
@@ -167,7 +175,7 @@ module _ (x s : List ℕ) (o : RecordOrder) (sound : Sound x) (h : Ordered s o) 
       go (Refuse m) (refused n ne e) = tt
       go (ChangeRecord c) (changes i place e p) =
           let l = within-slots (o .family) i (p .placed .within) in
-          let k = which-small (o .flags) (has (o .flags) flagBigIcon) in
+          let k = which-small (o .flags) in
           record {
             slot = l;
             icon = λ t. beside-small (cellAt s (o .icon)) (pointerFor i (o .flags)) (omega arith);

@@ -9,7 +9,7 @@ use lib.Dec.{eqb, leb}
 use lib.ListN.{set}
 use borrow.Author.Tests.{ne-eqb, lt-leb, leb-false}
 use Rattle.wire.specs.Tests.{pick, either, has}
-use Rattle.protocol.specs.Flags.{flagBigIcon}
+use Rattle.protocol.specs.Flags.{flagBigIcon, flagsOverlay}
 use Rattle.places.specs.declared.Family.{Family}
 use Rattle.places.specs.declared.Found.{Found}
 use Rattle.places.specs.declared.Found.the-variants.{At}
@@ -33,9 +33,13 @@ use Rattle.index.proofs.Soundness.{within-slots, found-within, Sound, s
 use Rattle.index.proofs.Ordered.{Ordered, icon-names}
 use Rattle.index.proofs.Shared.{sharingAt, same-slots}
 
-pub which-small : (flags : ℕ) (t : Bool) → _<_ (pick t 1 0) 3
-which-small flags true = omega arith
-which-small flags false = omega arith
+pub which-small : (flags : ℕ) → whichOf flags < 3
+which-small flags = go (has flags flagBigIcon) (has flags flagsOverlay)
+  where
+    go : (t u : Bool) → _<_ (pick t 1 (pick u 2 0)) 3
+    go true u = omega arith
+    go false true = omega arith
+    go false false = omega arith
 
 -- the numbers ns are those of the holders hs, and the icons among them are of slot i
 pub record Held (z : List ℕ) (i : ℕ) (ns : List ℕ) (hs : List Holder) : Type 0 where
@@ -168,7 +172,7 @@ unfolding besideOf
 held z s o i sound h at-i t = go (leb 12 (cellAt s (o .icon))) refl (sym (icon-names s o h t))
   where
     small : whichOf (o .flags) < 3
-    small = which-small (o .flags) (has (o .flags) flagBigIcon)
+    small = which-small (o .flags)
 
     go : (u : Bool) → leb 12 (cellAt s (o .icon)) ≡ u → sentOnce s (o .icon) ≡ leb 12 (cellAt s (o .icon))
         → Held z i (pick (leb 12 (cellAt s (o .icon))) (pointerFor i (o .flags)) (cellAt s (o .icon)) ∷ pointerFor i (o .flags) ∷ []) (holdersOf s o)

@@ -20,7 +20,7 @@ use Rattle.places.specs.Changes.{pointAll, freePlace, shareOf, releaseOf, relea
 use Rattle.places.specs.Holder.{Holder, sameFamily}
 use Rattle.places.proofs.Bytes.{pointer-point, pointAll-is, pointer-records, length-records}
 use Rattle.places.proofs.Validity.{valid-is}
-use Rattle.places.proofs.Meaning.{share-valid, releases-valid, records-valid}
+use Rattle.places.proofs.Meaning.{share-valid, release-valid, releases-valid, records-valid}
 use Rattle.index.specs.Families.{start, capacity, highest, sameRecord}
 use Rattle.index.specs.Slots.{usedAt, firstId, secondId, isUsed, isAt, slotOf}
 use Rattle.index.specs.Changes.{iconsAt, removedOf, clearedOf, emptiedOf}
@@ -28,7 +28,7 @@ use Rattle.index.specs.Sound.{noPointers, slotOk, soundIndex}
 use Rattle.index.proofs.Memory.{Same, still-valid, Listed, Slotted, points-slotted, share-slotted, releases-slotted, Cleared, cleared-is}
 use Rattle.index.proofs.Soundness.{Within, within-slots, one-family, same-family, family-same, apart, found-within, at-has, slot-free, slot-used, slot-own, slot-cases, no-pointers-has, no-pointers-is, Sound, sound-is}
 use Rattle.index.proofs.Listed.{slotted-find, find-listed, find-freed}
-use Rattle.index.proofs.Shared.{icons-holders, removed-freed, removed-still}
+use Rattle.index.proofs.Shared.{icons-holders, removed-freed, removed-still, none-slotted}
 use Rattle.index.proofs.Held.{Held}
 
 -- a slot that is as it was, and is found as it was; without a record it still has no pointers
@@ -204,6 +204,16 @@ module _ (z : List ℕ) (f : Family) (a b w i c : ℕ) (s : Sound z) (there : is
       (λ j v ne l.
       ap (λ (r : ℕ → ℕ). r (12 + 3 * j + v)) (pointer-point z (12 + 3 * i + w) (pointerAt z c) (omega arith) (omega arith))
       ∙ rw (apart-from j v ne l))
+
+-- an overlay icon set to none
+pub none-sound : (z : List ℕ) (f : Family) (a b w i : ℕ) → Sound z → slotOf z f a b ≡ At i → isAt z a b i ≡ true → i < 48 → w < 3 → Sound (releaseOf z (12 + 3 * i + w))
+unfolding releaseOf
+none-sound z f a b w i s at-i there below lw =
+    let m = s .long in
+    pointed-sound z (releaseOf z (12 + 3 * i + w)) f a b i s (none-slotted z s f a b w i at-i lw) (release-valid z (s .holders) (12 + 3 * i + w) (omega arith)) there
+    (λ j v ne l.
+    ap (λ (r : ℕ → ℕ). r (12 + 3 * j + v)) (pointer-point z (12 + 3 * i + w) 0 (omega arith) (omega arith))
+    ∙ rw (ne-eqb (12 + 3 * j + v) (12 + 3 * i + w) (λ e. ne (omega arith))))
 
 -- ---- no record listed
 

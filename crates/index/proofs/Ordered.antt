@@ -12,7 +12,7 @@ use borrow.Author.Tests.{eqb-true, leb-true, le-leb, lt-leb, not-false}
 use Rattle.wire.specs.Tests.{pick, both, either, all, has, hasAll}
 use Rattle.wire.specs.Numbers.{numAt}
 use Rattle.wire.proofs.Numbers.{Bytes, num4-is}
-use Rattle.protocol.specs.Flags.{desktopArcBegan, desktopArcCompleted, desktopNone, flagBigIcon, flagCachedIcon, flagDeleted, flagIcon, flagNew, flagsIcon}
+use Rattle.protocol.specs.Flags.{desktopArcBegan, desktopArcCompleted, desktopNone, flagBigIcon, flagCachedIcon, flagDeleted, flagIcon, flagNew, flagOverlayIcon, flagsIcon}
 use Rattle.order.specs.declared.Row.{Row}
 use Rattle.order.specs.declared.Fit.the-variants.{Ends, Short}
 use Rattle.order.specs.declared.WindowOrder.{WindowOrder}
@@ -62,18 +62,18 @@ bit-unset flags mask j z o =
     and-high flags 1 j ∙ ap (λ (n : ℕ). n * 2 ^ j) g ∙ zero-mul (2 ^ j)
 
 -- the first of the rules on flags that clash
-first-clash : (a b c d e f g : Bool) → either (either (either (either (either (both a b) c) d) e) f) g ≡ false → a ≡ true → b ≡ false
-first-clash true false c d e f g h t = refl
-first-clash true true c d e f g h t = h
-first-clash false b c d e f g h t = let z : _≡_ {A = ℕ} 0 1 = cc in absurd (omega arith)
+first-clash : (a b c d e f g k : Bool) → either (either (either (either (either (either (both a b) c) d) e) f) g) k ≡ false → a ≡ true → b ≡ false
+first-clash true false c d e f g k h t = refl
+first-clash true true c d e f g k h t = h
+first-clash false b c d e f g k h t = let z : _≡_ {A = ℕ} 0 1 = cc in absurd (omega arith)
 
 -- what is deleted has none of these bits
 deleted-alone : (flags : ℕ) → clash flags ≡ false → isDelete flags ≡ true → bitAnd flags 0xD8FFFFFF ≡ 0
 deleted-alone flags h t =
     let n : has flags 0xD8FFFFFF ≡ false =
     first-clash (has flags flagDeleted) (has flags 0xD8FFFFFF) (both (has flags flagIcon) (has flags flagCachedIcon))
-    (all (isWindow flags ∷ has flags flagsIcon ∷ has flags 0x28FFDFFF ∷ [])) (both (has flags flagBigIcon) (not (has flags flagsIcon)))
-    (all (isDesktop flags ∷ has flags desktopNone ∷ has flags 0xF8FFFFFE ∷ [])) (all (isDesktop flags ∷ has flags desktopArcCompleted ∷ has flags desktopArcBegan ∷ [])) h t in
+    (all (isWindow flags ∷ has flags flagsIcon ∷ has flags 0x28EFDFFF ∷ [])) (both (has flags flagBigIcon) (not (has flags flagsIcon)))
+    (both (has flags flagOverlayIcon) (either (not (has flags flagsIcon)) (has flags flagBigIcon))) (all (isDesktop flags ∷ has flags desktopNone ∷ has flags 0xF8FFFFFE ∷ [])) (all (isDesktop flags ∷ has flags desktopArcCompleted ∷ has flags desktopArcBegan ∷ [])) h t in
     eqb-true (bitAnd flags 0xD8FFFFFF) 0 (not-false (eqb (bitAnd flags 0xD8FFFFFF) 0) n)
 
 -- it is not new
@@ -87,17 +87,17 @@ deleted-old f flags h t =
     go Notifications e = e
 
 -- a cached icon comes with no icon
-second-clash : (a b c d e f g : Bool) → either (either (either (either (either a (both b c)) d) e) f) g ≡ false → c ≡ true → b ≡ false
-second-clash false true true d e f g h t = h
-second-clash false true false d e f g h t = let z : _≡_ {A = ℕ} 0 1 = cc in absurd (omega arith)
-second-clash false false c d e f g h t = refl
-second-clash true b c d e f g h t = let z : _≡_ {A = ℕ} 0 1 = cc in absurd (omega arith)
+second-clash : (a b c d e f g k : Bool) → either (either (either (either (either (either a (both b c)) d) e) f) g) k ≡ false → c ≡ true → b ≡ false
+second-clash false true true d e f g k h t = h
+second-clash false true false d e f g k h t = let z : _≡_ {A = ℕ} 0 1 = cc in absurd (omega arith)
+second-clash false false c d e f g k h t = refl
+second-clash true b c d e f g k h t = let z : _≡_ {A = ℕ} 0 1 = cc in absurd (omega arith)
 
 pub cached-alone : (flags : ℕ) → clash flags ≡ false → bringsCached flags ≡ true → bringsIcon flags ≡ false
 cached-alone flags h t =
     second-clash (both (has flags flagDeleted) (has flags 0xD8FFFFFF)) (has flags flagIcon) (has flags flagCachedIcon)
-    (all (isWindow flags ∷ has flags flagsIcon ∷ has flags 0x28FFDFFF ∷ [])) (both (has flags flagBigIcon) (not (has flags flagsIcon)))
-    (all (isDesktop flags ∷ has flags desktopNone ∷ has flags 0xF8FFFFFE ∷ [])) (all (isDesktop flags ∷ has flags desktopArcCompleted ∷ has flags desktopArcBegan ∷ [])) h t
+    (all (isWindow flags ∷ has flags flagsIcon ∷ has flags 0x28EFDFFF ∷ [])) (both (has flags flagBigIcon) (not (has flags flagsIcon)))
+    (both (has flags flagOverlayIcon) (either (not (has flags flagsIcon)) (has flags flagBigIcon))) (all (isDesktop flags ∷ has flags desktopNone ∷ has flags 0xF8FFFFFE ∷ [])) (all (isDesktop flags ∷ has flags desktopArcCompleted ∷ has flags desktopArcBegan ∷ [])) h t
 
 -- ---- accepted orders
 

@@ -10,7 +10,7 @@ use Rattle.places.specs.Sharing.{Sharing, isOne, drop, dropAll, via, join, fres
 use Rattle.places.specs.Holder.{Holder, cell, icon, sameFamily, sameHolder, iconsOf}
 use Rattle.index.specs.declared.RecordOrder.{RecordOrder}
 use Rattle.index.specs.Families.{sameRecord}
-use Rattle.index.specs.Orders.{isDelete, bringsIcon, bringsCached, cellAt, sentOnce, whichOf, pointerOf, holdersOf}
+use Rattle.index.specs.Orders.{isDelete, bringsIcon, bringsCached, clearsOverlay, cellAt, sentOnce, whichOf, pointerOf, holdersOf}
 use Rattle.index.specs.Index.{Index, pictured, without, withRecord, changeRecord}
 use Rattle.index.specs.Promises.{touched, OthersKeep, RecordsKeep}
 use Rattle.index.proofs.Soundness.{never}
@@ -55,27 +55,30 @@ taken-keeps hs t g k e f = go (full sameHolder hs t)
 
 pub others-keep : OthersKeep
 unfolding changeRecord pictured touched
-others-keep d s o g k = go (isDelete (o .flags)) (bringsIcon (o .flags)) (bringsCached (o .flags))
+others-keep d s o g k = go (isDelete (o .flags)) (bringsIcon (o .flags)) (bringsCached (o .flags)) (clearsOverlay (o .flags))
   where
-    go : (t u v : Bool)
-        → isOne sameHolder (pick t (iconsOf (o .family) (o .window .id) (o .notify .id)) (pick u (holdersOf s o) (pick v (pointerOf o ∷ []) []))) g ≡ false
-        → isOne sameHolder (pick t (iconsOf (o .family) (o .window .id) (o .notify .id)) (pick u (holdersOf s o) (pick v (pointerOf o ∷ []) []))) k ≡ false
+    go : (t u v n : Bool)
+        → isOne sameHolder (pick t (iconsOf (o .family) (o .window .id) (o .notify .id)) (pick u (holdersOf s o) (pick v (pointerOf o ∷ []) (pick n (pointerOf o ∷ []) [])))) g ≡ false
+        → isOne sameHolder (pick t (iconsOf (o .family) (o .window .id) (o .notify .id)) (pick u (holdersOf s o) (pick v (pointerOf o ∷ []) (pick n (pointerOf o ∷ []) [])))) k ≡ false
         → pick t (without d o)
         (record {
           listed = withRecord d s o .listed;
           many = withRecord d s o .many;
           sharing =
               pick u (taken sameHolder (holdersOf s o) (d .sharing))
-              (pick v (join sameHolder (pointerOf o) (cell (cellAt s (o .icon))) (drop sameHolder (pointerOf o) (d .sharing))) (d .sharing));
+              (pick v (join sameHolder (pointerOf o) (cell (cellAt s (o .icon))) (drop sameHolder (pointerOf o) (d .sharing)))
+              (pick n (drop sameHolder (pointerOf o) (d .sharing)) (d .sharing)));
         }) .sharing .shares g k ≡ d .sharing .shares g k
-    go true u v e f = drops-keep (iconsOf (o .family) (o .window .id) (o .notify .id)) (d .sharing) g k e f
-    go false true v e f = taken-keeps (holdersOf s o) (d .sharing) g k e f
-    go false false true e f =
+    go true u v n e f = drops-keep (iconsOf (o .family) (o .window .id) (o .notify .id)) (d .sharing) g k e f
+    go false true v n e f = taken-keeps (holdersOf s o) (d .sharing) g k e f
+    go false false true n e f =
         let x = either-left (sameHolder g (pointerOf o)) false e in
         let y = either-left (sameHolder k (pointerOf o)) false f in
         join-keeps (drop sameHolder (pointerOf o) (d .sharing)) g k (pointerOf o) (cell (cellAt s (o .icon))) x y
         ∙ drop-keeps (d .sharing) g k (pointerOf o) x y
-    go false false false e f = refl
+    go false false false true e f =
+        drop-keeps (d .sharing) g k (pointerOf o) (either-left (sameHolder g (pointerOf o)) false e) (either-left (sameHolder k (pointerOf o)) false f)
+    go false false false false e f = refl
 
 -- ---- other records
 
@@ -92,7 +95,7 @@ other-icon f g a b v x y w = go (sameFamily g f) (eqb x a) (eqb y b) (eqb w v)
 untouched : (s : List ℕ) (o : RecordOrder) (g : Family) (x y w : ℕ) → sameRecord (o .family) (o .window .id) (o .notify .id) g x y ≡ false
     → isOne sameHolder (touched s o) (icon g x y w) ≡ false
 unfolding touched
-untouched s o g x y w e = go (isDelete (o .flags)) (bringsIcon (o .flags)) (bringsCached (o .flags))
+untouched s o g x y w e = go (isDelete (o .flags)) (bringsIcon (o .flags)) (bringsCached (o .flags)) (clearsOverlay (o .flags))
   where
     n : (v : ℕ) → sameHolder (icon g x y w) (icon (o .family) (o .window .id) (o .notify .id) v) ≡ false
     n v = other-icon (o .family) g (o .window .id) (o .notify .id) v x y w e
@@ -101,12 +104,13 @@ untouched s o g x y w e = go (isDelete (o .flags)) (bringsIcon (o .flags)) (brin
     own true = rw (n (whichOf (o .flags)))
     own false = rw (n (whichOf (o .flags)))
 
-    go : (t u v : Bool)
-        → isOne sameHolder (pick t (iconsOf (o .family) (o .window .id) (o .notify .id)) (pick u (holdersOf s o) (pick v (pointerOf o ∷ []) []))) (icon g x y w) ≡ false
-    go true u v = rw (n 0, n 1, n 2)
-    go false true v = own (sentOnce s (o .icon))
-    go false false true = rw (n (whichOf (o .flags)))
-    go false false false = refl
+    go : (t u v q : Bool)
+        → isOne sameHolder (pick t (iconsOf (o .family) (o .window .id) (o .notify .id)) (pick u (holdersOf s o) (pick v (pointerOf o ∷ []) (pick q (pointerOf o ∷ []) [])))) (icon g x y w) ≡ false
+    go true u v q = rw (n 0, n 1, n 2)
+    go false true v q = own (sentOnce s (o .icon))
+    go false false true q = rw (n (whichOf (o .flags)))
+    go false false false true = rw (n (whichOf (o .flags)))
+    go false false false false = refl
 
 pub records-keep : RecordsKeep
 unfolding changeRecord

@@ -13,11 +13,12 @@ use Rattle.places.specs.declared.Found.{Found}
 use Rattle.places.specs.declared.Found.the-variants.{At, Nothing}
 use Rattle.places.specs.Sharing.{Sharing, drop, dropAll, join, cellsOnly}
 use Rattle.places.specs.Memory.{decode}
-use Rattle.places.specs.Changes.{shareOf, releaseAllOf, releaseRecordsOf}
+use Rattle.places.specs.Changes.{shareOf, releaseOf, releaseAllOf, releaseRecordsOf}
 use Rattle.places.specs.Keyed.{keyed}
 use Rattle.places.specs.Holder.{Holder, cell, icon, sameHolder, numberOf, iconsOf, isCellHolder, noSlot}
 use Rattle.places.proofs.Bytes.{Holders}
-use Rattle.places.proofs.Named.{cell-number, icon-number, cached-means}
+use Rattle.places.proofs.Meaning.{holder}
+use Rattle.places.proofs.Named.{cell-number, icon-number, none-icon-means, cached-means}
 use Rattle.places.proofs.Listing.{unlisted-means, deleted-means, none-means}
 use Rattle.index.specs.Families.{sameRecord}
 use Rattle.index.specs.Slots.{isUsed, isAt, slotOf}
@@ -124,6 +125,21 @@ module _ (z : List ℕ) (s : Sound z) (f : Family) (a b w i c : ℕ) (at-i : slo
       ∙ ap (λ (m : ℕ). keyed num (decode (shareOf z m c))) (sym icon-is)
       ∙ ap (λ (m : ℕ). keyed num (decode (shareOf z (num (icon f a b w)) m))) (sym cell-is)
       ∙ cached-means (slotOf z) (slots-of z) z (s .holders) f a b w i at-i lw c lc
+
+-- ---- an overlay icon of a listed record set to none
+
+module _ (z : List ℕ) (s : Sound z) (f : Family) (a b w i : ℕ) (at-i : slotOf z f a b ≡ At i) (lw : w < 3) where
+  pub none-slotted : Slotted z (releaseOf z (12 + 3 * i + w))
+  none-slotted =
+      let l = within-slots f i (found-within f z a b i at-i) in
+      releases-slotted ((12 + 3 * i + w) ∷ []) z (holder (12 + 3 * i + w) (omega arith)) (s .long)
+
+  pub none-sharing : sharingAt (releaseOf z (12 + 3 * i + w)) ≡ drop sameHolder (icon f a b w) (sharingAt z)
+  none-sharing =
+      let y = releaseOf z (12 + 3 * i + w) in
+      ap (λ (slot : Family → ℕ → ℕ → Found). keyed (numberOf slot) (decode y)) (same-slots z y none-slotted)
+      ∙ ap (λ (m : ℕ). keyed (numberOf (slotOf z)) (decode (releaseOf z m))) (sym (icon-number (slotOf z) (slots-of z) f a b w i at-i lw))
+      ∙ none-icon-means (slotOf z) (slots-of z) z (s .holders) f a b w i at-i lw
 
 -- ---- desktop none
 

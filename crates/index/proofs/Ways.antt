@@ -13,7 +13,7 @@ use Rattle.wire.specs.Numbers.{numAt, bytesOf}
 use Rattle.wire.specs.Parts.{slice, splice}
 use Rattle.wire.proofs.Tests.{both-left, both-right}
 use Rattle.wire.proofs.Numbers.{num1-is, num-past, num-slice}
-use Rattle.protocol.specs.Flags.{desktopNone, flagBigIcon, flagCachedIcon, flagIcon, flagNew, flagsIcon}
+use Rattle.protocol.specs.Flags.{desktopNone, flagBigIcon, flagCachedIcon, flagIcon, flagNew, flagOverlayNone, flagsIcon, flagsOverlay}
 use Rattle.order.specs.declared.Judged.{Judged}
 use Rattle.order.specs.declared.Judged.the-variants.{Window, Notification, Desktop, Refused}
 use Rattle.order.specs.declared.WindowOrder.{WindowOrder}
@@ -206,8 +206,11 @@ cell-of s icon e f = rw (e, f)
 pub is-big : (flags : ℕ) → (bitAnd flags flagBigIcon ≡ 0 → ⊥) → (1 ≡ whichOf flags) × (1 < 3)
 is-big flags h = (rw (ne-eqb (bitAnd flags flagBigIcon) 0 h), omega arith)
 
-pub not-big : (flags : ℕ) → bitAnd flags flagBigIcon ≡ 0 → (0 ≡ whichOf flags) × (0 < 3)
-not-big flags h = (rw (eq-eqb (bitAnd flags flagBigIcon) 0 h), omega arith)
+pub is-overlay : (flags : ℕ) → bitAnd flags flagBigIcon ≡ 0 → (bitAnd flags flagsOverlay ≡ 0 → ⊥) → (2 ≡ whichOf flags) × (2 < 3)
+is-overlay flags h g = (rw (eq-eqb (bitAnd flags flagBigIcon) 0 h, ne-eqb (bitAnd flags flagsOverlay) 0 g), omega arith)
+
+pub is-small : (flags : ℕ) → bitAnd flags flagBigIcon ≡ 0 → bitAnd flags flagsOverlay ≡ 0 → (0 ≡ whichOf flags) × (0 < 3)
+is-small flags h g = (rw (eq-eqb (bitAnd flags flagBigIcon) 0 h, eq-eqb (bitAnd flags flagsOverlay) 0 g), omega arith)
 
 pub new-window : (f : Family) (flags : ℕ) → f ≡ Windows → both (has flags flagNew) (not (has flags flagsIcon)) ≡ isNew f flags
 new-window f flags e = rw e
@@ -389,9 +392,14 @@ module _ (x : List ℕ) (c : Change) where
     unfolding picturedOf
     picture-shared g e = rw (eq-eqb (bitAnd (c .flags) flagIcon) 0 h, ne-eqb (bitAnd (c .flags) flagCachedIcon) 0 g) e
 
-    pub picture-none : bitAnd (c .flags) flagCachedIcon ≡ 0 → x ≡ picturedOf x c
-    unfolding picturedOf
-    picture-none g = rw (eq-eqb (bitAnd (c .flags) flagIcon) 0 h, eq-eqb (bitAnd (c .flags) flagCachedIcon) 0 g)
+    module _ (g : bitAnd (c .flags) flagCachedIcon ≡ 0) where
+      pub picture-cleared : {y : List ℕ} → (bitAnd (c .flags) flagOverlayNone ≡ 0 → ⊥) → y ≡ releaseOf x (c .pointer) → y ≡ picturedOf x c
+      unfolding picturedOf
+      picture-cleared k e = rw (eq-eqb (bitAnd (c .flags) flagIcon) 0 h, eq-eqb (bitAnd (c .flags) flagCachedIcon) 0 g, ne-eqb (bitAnd (c .flags) flagOverlayNone) 0 k) e
+
+      pub picture-none : bitAnd (c .flags) flagOverlayNone ≡ 0 → x ≡ picturedOf x c
+      unfolding picturedOf
+      picture-none k = rw (eq-eqb (bitAnd (c .flags) flagIcon) 0 h, eq-eqb (bitAnd (c .flags) flagCachedIcon) 0 g, eq-eqb (bitAnd (c .flags) flagOverlayNone) 0 k)
 
   pub changed-deleted : {y : List ℕ} → c .deleted ≡ true → y ≡ removedOf x (c .slot) → y ≡ changedOf x c
   unfolding changedOf

@@ -10,12 +10,12 @@ use Rattle.wire.specs.Parts.{splice}
 use Rattle.protocol.specs.Flags.{desktopNone}
 use Rattle.places.specs.Sizes.{slotCount, holderCount, holdersLength, mostPlaces}
 use Rattle.places.specs.Holder.{iconNumber}
-use Rattle.places.specs.Changes.{pointAll, shareOf, releaseAllOf, releaseRecordsOf}
+use Rattle.places.specs.Changes.{pointAll, shareOf, releaseOf, releaseAllOf, releaseRecordsOf}
 use Rattle.index.specs.declared.Change.{Change}
 use Rattle.index.specs.declared.Plan.{Plan}
 use Rattle.index.specs.declared.Plan.the-variants.{ChangeRecord, ChangeDesktop, Refuse}
 use Rattle.index.specs.Families.{slotAt, slotsLength, indexLength}
-use Rattle.index.specs.Orders.{bringsIcon, bringsCached}
+use Rattle.index.specs.Orders.{bringsIcon, bringsCached, clearsOverlay}
 
 -- the ids a and b listed in slot i
 unfoldable pub listedOf : List ℕ → ℕ → ℕ → ℕ → List ℕ
@@ -33,12 +33,14 @@ iconsAt i = iconNumber i 0 ∷ iconNumber i 1 ∷ iconNumber i 2 ∷ []
 unfoldable pub removedOf : List ℕ → ℕ → List ℕ
 removedOf x i = freedOf (releaseAllOf x (iconsAt i)) i
 
--- an icon's holders (one, where cell and pointer are the same) at its place, a cached icon's pointer at its cell's
+-- an icon's holders (one, where cell and pointer are the same) at its place, a cached icon's pointer at its cell's, the pointer of an
+-- overlay icon that is set to none at nothing
 unfoldable pub picturedOf : List ℕ → Change → List ℕ
 picturedOf x c =
     pick (bringsIcon (c .flags)) (pointAll x (c .cell ∷ c .pointer ∷ []) (c .place + 1))
     (pick (bringsCached (c .flags)) (shareOf x (c .pointer) (c .cell))
-    x)
+    (pick (clearsOverlay (c .flags)) (releaseOf x (c .pointer))
+    x))
 
 unfoldable pub changedOf : List ℕ → Change → List ℕ
 changedOf x c =

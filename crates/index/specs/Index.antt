@@ -12,7 +12,7 @@ use Rattle.places.specs.Sharing.{Sharing, drop, dropAll, join, full, taken, cel
 use Rattle.places.specs.Holder.{Holder, cell, sameFamily, sameHolder, isCellHolder, iconsOf}
 use Rattle.index.specs.declared.RecordOrder.{RecordOrder}
 use Rattle.index.specs.Families.{capacity, sameRecord}
-use Rattle.index.specs.Orders.{onJudged, isNew, isDelete, bringsIcon, bringsCached, cellAt, pointerOf, holdersOf}
+use Rattle.index.specs.Orders.{onJudged, isNew, isDelete, bringsIcon, bringsCached, clearsOverlay, cellAt, pointerOf, holdersOf}
 
 pub record Index : Type 0 where
   pub listed : Family → ℕ → ℕ → Bool
@@ -54,12 +54,13 @@ numberIn d s = onJudged (judgeOf s) (recordNumber d s) (λ flags. 0) (λ number.
 
 -- ---- the change of an accepted order
 
--- an icon takes a place, a cached icon joins its cell
+-- an icon takes a place, a cached icon joins its cell, an overlay icon that is set to none lets its place go
 unfoldable pub pictured : List ℕ → RecordOrder → Sharing Holder → Sharing Holder
 pictured s o t =
     pick (bringsIcon (o .flags)) (taken sameHolder (holdersOf s o) t)
     (pick (bringsCached (o .flags)) (join sameHolder (pointerOf o) (cell (cellAt s (o .icon))) (drop sameHolder (pointerOf o) t))
-    t)
+    (pick (clearsOverlay (o .flags)) (drop sameHolder (pointerOf o) t)
+    t))
 
 abbrev pub without : Index → RecordOrder → Index
 without d o =

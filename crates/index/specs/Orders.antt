@@ -7,7 +7,7 @@ use Rattle.wire.specs.Tests.{pick, both, has}
 use Rattle.wire.specs.Numbers.{numAt}
 use Rattle.order.specs.declared.Judged.{Judged}
 use Rattle.order.specs.declared.Judged.the-variants.{Window, Notification, Desktop, Refused}
-use Rattle.protocol.specs.Flags.{flagBigIcon, flagCachedIcon, flagDeleted, flagIcon, flagNew, flagsIcon}
+use Rattle.protocol.specs.Flags.{flagBigIcon, flagCachedIcon, flagDeleted, flagIcon, flagNew, flagOverlayNone, flagsIcon, flagsOverlay}
 use Rattle.places.specs.declared.Family.{Family}
 use Rattle.places.specs.declared.Family.the-variants.{Windows, Notifications}
 use Rattle.places.specs.Holder.{Holder, cell, icon}
@@ -44,9 +44,13 @@ cellAt s at = 6 * numAt 1 s (at + 2) + numAt 2 s at
 abbrev pub sentOnce : List ℕ → ℕ → Bool
 sentOnce s at = eqb (numAt 1 s (at + 2)) 0xFF
 
--- which of a record's icons is set: a window's big one, or else its small or only one
+-- request No. 12: the overlay icon is set to none
+abbrev pub clearsOverlay : ℕ → Bool
+clearsOverlay flags = has flags flagOverlayNone
+
+-- which of a record's icons is set: a window's big one, its overlay icon, or else its small or only one
 abbrev pub whichOf : ℕ → ℕ
-whichOf flags = pick (has flags flagBigIcon) 1 0
+whichOf flags = pick (has flags flagBigIcon) 1 (pick (has flags flagsOverlay) 2 0)
 
 abbrev pub pointerOf : RecordOrder → Holder
 pointerOf o = icon (o .family) (o .window .id) (o .notify .id) (whichOf (o .flags))

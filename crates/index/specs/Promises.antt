@@ -9,7 +9,7 @@ use Rattle.places.specs.Sharing.{isOne}
 use Rattle.places.specs.Holder.{Holder, icon, sameHolder, iconsOf}
 use Rattle.index.specs.declared.RecordOrder.{RecordOrder}
 use Rattle.index.specs.Families.{sameRecord}
-use Rattle.index.specs.Orders.{isDelete, bringsIcon, bringsCached, pointerOf, holdersOf}
+use Rattle.index.specs.Orders.{isDelete, bringsIcon, bringsCached, clearsOverlay, pointerOf, holdersOf}
 use Rattle.index.specs.Index.{Index, changeRecord}
 
 -- the holders whose place an order for a record sets or lets go
@@ -18,7 +18,8 @@ touched s o =
     pick (isDelete (o .flags)) (iconsOf (o .family) (o .window .id) (o .notify .id))
     (pick (bringsIcon (o .flags)) (holdersOf s o)
     (pick (bringsCached (o .flags)) (pointerOf o ∷ [])
-    []))
+    (pick (clearsOverlay (o .flags)) (pointerOf o ∷ [])
+    [])))
 
 -- all others share as before
 abbrev pub OthersKeep : Type 0

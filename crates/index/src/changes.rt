@@ -35,7 +35,7 @@ fn remove(index: &mut [u8], i: usize)
     wire::write_u8(index, places::LENGTH + slots::SLOT * i, 0);
 }
 
-// An icon's holders at its place, a cached icon's pointer at its cell's.
+// An icon's holders at its place, a cached icon's pointer at its cell's, that of an overlay icon set to none at nothing.
 fn picture(index: &mut [u8], c: Change)
     requires { ⌜ (indexLength ≤ length (now index)) × Fits c ⌝ }
     ensures { λ _. ⌜ now (index .exit) ≡ picturedOf (now (index .entry)) c ⌝ }
@@ -47,6 +47,10 @@ fn picture(index: &mut [u8], c: Change)
     }
     if flags & protocol::CACHED_ICON != 0 {
         places::share(index, c.pointer, c.cell);
+        return;
+    }
+    if flags & protocol::OVERLAY_NONE != 0 {
+        places::release(index, c.pointer);
     }
 }
 

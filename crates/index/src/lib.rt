@@ -88,10 +88,12 @@ fn which(flags: u32) -> usize
     ensures { λ r. ⌜ (r ≡ whichOf flags) × (r < 3) ⌝ }
 {
     if flags & protocol::BIG_ICON != 0 {
-        1
-    } else {
-        0
+        return 1;
     }
+    if flags & protocol::ANY_OVERLAY != 0 {
+        return 2;
+    }
+    0
 }
 
 // The holder that takes a place with a pointer: the cell, or the pointer itself where that is none (cache id FF).

@@ -5,7 +5,7 @@ use mathlib.Core.List.{List, [], _∷_, _++_, append-assoc, append-nil}
 use Prim.Native.Nat.{ℕ, _+_, _*_, _≤_}
 use native.Mathlib.Nat.{add-zero, zero-mul}
 use native.Mathlib.Omega.{arith}
-use lib.ListN.{length, getD, take, drop}
+use lib.ListN.{length, getD, take, drop, replicate}
 use lib.Seq.{take-add, take-all, drop-drop}
 use Rattle.wire.specs.Numbers.{numAt}
 use Rattle.wire.specs.Parts.{slice, splice, padded}
@@ -13,10 +13,10 @@ use Rattle.wire.proofs.Tests.{both-left, both-right}
 use Rattle.wire.proofs.Parts.{length-slice, splice-after, padded-all}
 use Rattle.order.specs.declared.Row.{Row}
 use Rattle.order.specs.Rows.{allRows, noRow, rowsFrom, roomOf, firstOf, lenOf, okOf}
-use Rattle.body.specs.Bodies.{windowFields, fieldIn, fieldsOf, fieldsOk, bodyOf}
+use Rattle.body.specs.Bodies.{Body, windowFields, fieldIn, fieldsOf, fieldsOk, bodyOf}
 use Rattle.body.specs.Stores.{roomAll}
 use Rattle.body.proofs.Placed.{All}
-use Rattle.layout.specs.Layouts.{windowSize, fieldBytes, fieldsBytes, recordBytes}
+use Rattle.layout.specs.Layouts.{windowSize, newerSize, olderFields, newerFields, olderPart, newerPart, fieldBytes, fieldsBytes, recordBytes}
 use Rattle.layout.proofs.LayoutsWritten.{length-fields, length-record, marks-are}
 
 -- ---- rows after rows
@@ -26,20 +26,17 @@ unfolding roomAll
 room-join [] more = omega arith
 room-join (r ∷ rs) more = omega (arith, room-join rs more)
 
-fields-join : (rs more : List Row) (off : ℕ) (slot : List ℕ)
-    → fieldsBytes (rs ++ more) (fieldsOf (rs ++ more) off slot) ≡ fieldsBytes rs (fieldsOf rs off slot) ++ fieldsBytes more (fieldsOf more (off + roomAll rs) slot)
-unfolding fieldsBytes fieldsOf roomAll
-fields-join [] more off slot = rw (add-zero off)
-fields-join (r ∷ rs) more off slot =
-    let f = padded 0 (roomOf r) (fieldIn r (slice slot off (roomOf r))) in
-    let here = fieldsBytes rs (fieldsOf rs (off + roomOf r) slot) in
-    let e : off + roomOf r + roomAll rs ≡ off + (roomOf r + roomAll rs) = omega arith in
-    ap (λ (x : List ℕ). f ++ x) (fields-join rs more (off + roomOf r) slot)
-    ∙ ap (λ (n : ℕ). f ++ (here ++ fieldsBytes more (fieldsOf more n slot))) e
-    ∙ sym (append-assoc f here (fieldsBytes more (fieldsOf more (off + (roomOf r + roomAll rs)) slot)))
+bytes-join : (rs more : List Row) (fs gs : List (List ℕ)) → length fs ≡ length rs → fieldsBytes (rs ++ more) (fs ++ gs) ≡ fieldsBytes rs fs ++ fieldsBytes more gs
+unfolding fieldsBytes
+bytes-join [] more [] gs e = refl
+bytes-join [] more (f ∷ fs) gs e = absurd (omega arith)
+bytes-join (r ∷ rs) more [] gs e = absurd (omega arith)
+bytes-join (r ∷ rs) more (f ∷ fs) gs e =
+    let p = padded 0 (roomOf r) f in
+    ap (λ (x : List ℕ). p ++ x) (bytes-join rs more fs gs (omega arith)) ∙ sym (append-assoc p (fieldsBytes rs fs) (fieldsBytes more gs))
 
 -- a field after others is in its set
-pub ok-after : (rs : List Row) (r : Row) (more : List Row) (off : ℕ) (slot : List ℕ) → fieldsOk (rs ++ (r ∷ more)) off slot ≡ true → okOf r slot (off + roomAll rs) ≡ true
+ok-after : (rs : List Row) (r : Row) (more : List Row) (off : ℕ) (slot : List ℕ) → fieldsOk (rs ++ (r ∷ more)) off slot ≡ true → okOf r slot (off + roomAll rs) ≡ true
 unfolding fieldsOk roomAll
 ok-after [] r more off slot h = rw (add-zero off) (both-left (okOf r slot off) (fieldsOk more (off + roomOf r) slot) h)
 ok-after (x ∷ rs) r more off slot h =
@@ -48,13 +45,12 @@ ok-after (x ∷ rs) r more off slot h =
 
 -- ---- the pieces
 
--- one field
-pub one-field : (r : Row) (off : ℕ) (slot : List ℕ) → fieldBytes r slot off ≡ fieldsBytes (r ∷ []) (fieldsOf (r ∷ []) off slot)
+one-field : (r : Row) (off : ℕ) (slot : List ℕ) → fieldBytes r slot off ≡ fieldsBytes (r ∷ []) (fieldsOf (r ∷ []) off slot)
 unfolding fieldBytes fieldsBytes fieldsOf
 one-field r off slot = sym (append-nil (padded 0 (roomOf r) (fieldIn r (slice slot off (roomOf r)))))
 
 -- a field that is not counted fills its room
-abbrev pub Fixed : Row → Type 0
+abbrev Fixed : Row → Type 0
 Fixed r = r .unit ≡ 0
 
 slice-join : (s : List ℕ) (a m n : ℕ) → slice s a m ++ slice s (a + m) n ≡ slice s a (m + n)
@@ -70,8 +66,7 @@ fixed-field r off slot e h =
     let y : r .unit * r .most ≡ 0 = ap (λ (u : ℕ). u * r .most) e ∙ zero-mul (r .most) in
     ap (padded 0 (roomOf r)) (take-all (r .size + r .unit * firstOf r place 0) place (omega arith)) ∙ padded-all {A = ℕ} 0 (roomOf r) place l
 
-pub fixed-fields : (rs : List Row) (off : ℕ) (slot : List ℕ) → All Fixed rs → off + roomAll rs ≤ length slot
-    → slice slot off (roomAll rs) ≡ fieldsBytes rs (fieldsOf rs off slot)
+fixed-fields : (rs : List Row) (off : ℕ) (slot : List ℕ) → All Fixed rs → off + roomAll rs ≤ length slot → slice slot off (roomAll rs) ≡ fieldsBytes rs (fieldsOf rs off slot)
 unfolding fieldsBytes fieldsOf roomAll
 fixed-fields [] off slot a h = unfold slice in refl
 fixed-fields (r ∷ rs) off slot a h =
@@ -79,63 +74,108 @@ fixed-fields (r ∷ rs) off slot a h =
     ∙ ap (λ (x : List ℕ). slice slot off (roomOf r) ++ x) (fixed-fields rs (off + roomOf r) slot (a .1) (omega arith))
     ∙ ap (λ (x : List ℕ). x ++ fieldsBytes rs (fieldsOf rs (off + roomOf r) slot)) (sym (fixed-field r off slot (a .0) (omega arith)))
 
+abbrev bodyFrom : ℕ → ℕ → List (List ℕ) → Body
+bodyFrom m n fs = record { first = m; second = n; fields = fs }
+
 -- the marks and fields that are not counted
-pub fixed-record : (rs : List Row) (slot : List ℕ) → All Fixed rs → 2 + roomAll rs ≤ length slot → slice slot 0 (2 + roomAll rs) ≡ recordBytes rs (bodyOf rs slot)
-unfolding recordBytes bodyOf
+fixed-record : (rs : List Row) (slot : List ℕ) → All Fixed rs → 2 + roomAll rs ≤ length slot
+    → slice slot 0 (2 + roomAll rs) ≡ recordBytes rs (bodyFrom (numAt 1 slot 0) (numAt 1 slot 1) (fieldsOf rs 2 slot))
+unfolding recordBytes
 fixed-record rs slot a h =
     sym (slice-join slot 0 2 (roomAll rs))
     ∙ ap (λ (x : List ℕ). x ++ slice slot 2 (roomAll rs)) (marks-are slot (omega arith))
     ∙ ap (λ (x : List ℕ). numAt 1 slot 0 ∷ numAt 1 slot 1 ∷ x) (fixed-fields rs 2 slot a h)
 
--- ---- a record and the fields after it
+-- ---- a record at index at, and the fields after it
 
-pub record-next : (rs more : List Row) (slot out : List ℕ) {x y f : List ℕ} → 2 + roomAll (rs ++ more) ≤ length out
-    → x ≡ splice out 0 (recordBytes rs (bodyOf rs slot)) → y ≡ splice x (2 + roomAll rs) f → f ≡ fieldsBytes more (fieldsOf more (2 + roomAll rs) slot)
-    → y ≡ splice out 0 (recordBytes (rs ++ more) (bodyOf (rs ++ more) slot))
-record-next rs more slot out {x} {y} {f} room ex ey ef =
-    let r = recordBytes rs (bodyOf rs slot) in
-    let g = fieldsBytes more (fieldsOf more (2 + roomAll rs) slot) in
-    let lr = length-record rs (bodyOf rs slot) in
-    let lg = length-fields more (fieldsOf more (2 + roomAll rs) slot) in
-    let j = room-join rs more in
-    ey
-    ∙ ap (λ (z : List ℕ). splice z (2 + roomAll rs) f) ex
-    ∙ ap (splice (splice out 0 r) (2 + roomAll rs)) ef
-    ∙ splice-after out 0 r g (2 + roomAll rs) (omega arith) (omega arith)
-    ∙ ap (splice out 0) joined
-  where
-    joined : recordBytes rs (bodyOf rs slot) ++ fieldsBytes more (fieldsOf more (2 + roomAll rs) slot) ≡ recordBytes (rs ++ more) (bodyOf (rs ++ more) slot)
-    joined = unfold recordBytes bodyOf in ap (λ (z : List ℕ). numAt 1 slot 0 ∷ numAt 1 slot 1 ∷ z) (sym (fields-join rs more 2 slot))
+module _ (at m n : ℕ) (out : List ℕ) where
+  record-next : (rs more : List Row) (fs gs : List (List ℕ)) {q : ℕ} {x y f : List ℕ} → length fs ≡ length rs → at + (2 + roomAll (rs ++ more)) ≤ length out → q ≡ at + (2 + roomAll rs)
+      → x ≡ splice out at (recordBytes rs (bodyFrom m n fs)) → y ≡ splice x q f → f ≡ fieldsBytes more gs → y ≡ splice out at (recordBytes (rs ++ more) (bodyFrom m n (fs ++ gs)))
+  record-next rs more fs gs {q} {x} {y} {f} same room eq ex ey ef =
+      let r = recordBytes rs (bodyFrom m n fs) in
+      let g = fieldsBytes more gs in
+      let lr = length-record rs (bodyFrom m n fs) in
+      let lg = length-fields more gs in
+      let j = room-join rs more in
+      ey
+      ∙ ap (λ (z : List ℕ). splice z q f) ex
+      ∙ ap (splice (splice out at r) q) ef
+      ∙ splice-after out at r g q (omega arith) (omega arith)
+      ∙ ap (splice out at) joined
+    where
+      joined : recordBytes rs (bodyFrom m n fs) ++ fieldsBytes more gs ≡ recordBytes (rs ++ more) (bodyFrom m n (fs ++ gs))
+      joined = unfold recordBytes in ap (λ (z : List ℕ). m ∷ n ∷ z) (sym (bytes-join rs more fs gs same))
 
--- ---- a window: its title and its rectangles are counted
+-- ---- a window: its title, its rectangles and the overlay description are counted
 
 module _ (slot : List ℕ) (ok : fieldsOk windowFields 2 slot ≡ true) where
   pub title-ok : okOf (getD allRows 4 noRow) slot 15 ≡ true
   unfolding roomAll
-  title-ok = ok-after (rowsFrom 1 4) (getD allRows 4 noRow) (rowsFrom 5 15) 2 slot ok
+  title-ok = ok-after (rowsFrom 1 4) (getD allRows 4 noRow) (rowsFrom 5 22) 2 slot ok
 
-  pub rectangles-ok : okOf (getD allRows 12 noRow) slot 582 ≡ true
+  pub rectangles-ok : okOf (getD allRows 14 noRow) slot 598 ≡ true
   unfolding roomAll
-  rectangles-ok = ok-after (rowsFrom 1 12) (getD allRows 12 noRow) (rowsFrom 13 15) 2 slot ok
+  rectangles-ok = ok-after (rowsFrom 1 14) (getD allRows 14 noRow) (rowsFrom 15 22) 2 slot ok
 
-  pub visibility-ok : okOf (getD allRows 14 noRow) slot 720 ≡ true
+  pub visibility-ok : okOf (getD allRows 16 noRow) slot 736 ≡ true
   unfolding roomAll
-  visibility-ok = ok-after (rowsFrom 1 14) (getD allRows 14 noRow) (rowsFrom 15 15) 2 slot ok
+  visibility-ok = ok-after (rowsFrom 1 16) (getD allRows 16 noRow) (rowsFrom 17 22) 2 slot ok
 
-pub window-put : (slot out : List ℕ) {x y z u v w : List ℕ} → windowSize ≤ length slot → windowSize ≤ length out
-    → x ≡ splice out 0 (slice slot 0 15)
-    → y ≡ splice x 15 (fieldBytes (getD allRows 4 noRow) slot 15)
-    → z ≡ splice y 537 (slice slot 537 45)
-    → u ≡ splice z 582 (fieldBytes (getD allRows 12 noRow) slot 582)
-    → v ≡ splice u 712 (slice slot 712 8)
-    → w ≡ splice v 720 (fieldBytes (getD allRows 14 noRow) slot 720)
-    → w ≡ splice out 0 (recordBytes windowFields (bodyOf windowFields slot))
-unfolding roomAll
-window-put slot out {x} {y} {z} {u} {v} {w} inside room ex ey ez eu ev ew =
-    let a = ex ∙ ap (splice out 0) (fixed-record (rowsFrom 1 4) slot (refl, (refl, (refl, tt))) (omega arith)) in
-    let b = record-next (rowsFrom 1 4) (rowsFrom 4 5) slot out {x = x} {y = y} (omega arith) a ey (one-field (getD allRows 4 noRow) 15 slot) in
-    let c = record-next (rowsFrom 1 5) (rowsFrom 5 12) slot out {x = y} {y = z} (omega arith) b ez
-    (fixed-fields (rowsFrom 5 12) 537 slot (refl, (refl, (refl, (refl, (refl, (refl, (refl, tt))))))) (omega arith)) in
-    let d = record-next (rowsFrom 1 12) (rowsFrom 12 13) slot out {x = z} {y = u} (omega arith) c eu (one-field (getD allRows 12 noRow) 582 slot) in
-    let e = record-next (rowsFrom 1 13) (rowsFrom 13 14) slot out {x = u} {y = v} (omega arith) d ev (fixed-fields (rowsFrom 13 14) 712 slot (refl, tt) (omega arith)) in
-    record-next (rowsFrom 1 14) (rowsFrom 14 15) slot out {x = v} {y = w} (omega arith) e ew (one-field (getD allRows 14 noRow) 720 slot)
+  pub overlay-ok : okOf (getD allRows 17 noRow) slot 866 ≡ true
+  unfolding roomAll
+  overlay-ok = ok-after (rowsFrom 1 17) (getD allRows 17 noRow) (rowsFrom 18 22) 2 slot ok
+
+-- the older rows before row k
+abbrev older : ℕ → List Row
+older k = rowsFrom 1 7 ++ rowsFrom 9 k
+
+module _ (slot : List ℕ) (inside : 1392 ≤ length slot) where
+  abbrev part : ℕ → ℕ → ℕ → List (List ℕ)
+  part low high off = fieldsOf (rowsFrom low high) off slot
+
+  pub window-put : (out : List ℕ) {x y z u v w t : List ℕ} → windowSize ≤ length out
+      → x ≡ splice out 0 (slice slot 0 15)
+      → y ≡ splice x 15 (fieldBytes (getD allRows 4 noRow) slot 15)
+      → z ≡ splice y 537 (slice slot 537 16)
+      → u ≡ splice z 553 (slice slot 569 29)
+      → v ≡ splice u 582 (fieldBytes (getD allRows 14 noRow) slot 598)
+      → w ≡ splice v 712 (slice slot 728 8)
+      → t ≡ splice w 720 (fieldBytes (getD allRows 16 noRow) slot 736)
+      → t ≡ splice out 0 (recordBytes olderFields (olderPart (bodyOf windowFields slot)))
+  unfolding roomAll fieldsOf bodyOf
+  window-put out {x} {y} {z} {u} {v} {w} {t} room ex ey ez eu ev ew et =
+      let m = numAt 1 slot 0 in
+      let n = numAt 1 slot 1 in
+      let f = part 1 4 2 in
+      let g = part 4 5 15 in
+      let h = part 5 7 537 in
+      let i = part 9 14 569 in
+      let j = part 14 15 598 in
+      let k = part 15 16 728 in
+      let a = ex ∙ ap (splice out 0) (fixed-record (rowsFrom 1 4) slot (refl, (refl, (refl, tt))) (omega arith)) in
+      let b = record-next 0 m n out (rowsFrom 1 4) (rowsFrom 4 5) f g {x = x} {y = y} refl (omega arith) refl a ey (one-field (getD allRows 4 noRow) 15 slot) in
+      let c = record-next 0 m n out (rowsFrom 1 5) (rowsFrom 5 7) (f ++ g) h {x = y} {y = z} refl (omega arith) refl b ez (fixed-fields (rowsFrom 5 7) 537 slot (refl, (refl, tt)) (omega arith)) in
+      let d = record-next 0 m n out (rowsFrom 1 7) (rowsFrom 9 14) (f ++ g ++ h) i {x = z} {y = u} refl (omega arith) refl c eu
+      (fixed-fields (rowsFrom 9 14) 569 slot (refl, (refl, (refl, (refl, (refl, tt))))) (omega arith)) in
+      let e = record-next 0 m n out (older 14) (rowsFrom 14 15) (f ++ g ++ h ++ i) j {x = u} {y = v} refl (omega arith) refl d ev (one-field (getD allRows 14 noRow) 598 slot) in
+      let o = record-next 0 m n out (older 15) (rowsFrom 15 16) (f ++ g ++ h ++ i ++ j) k {x = v} {y = w} refl (omega arith) refl e ew (fixed-fields (rowsFrom 15 16) 728 slot (refl, tt) (omega arith)) in
+      record-next 0 m n out (older 16) (rowsFrom 16 17) (f ++ g ++ h ++ i ++ j ++ k) (part 16 17 736) {x = w} {y = t} refl (omega arith) refl o et (one-field (getD allRows 16 noRow) 736 slot)
+
+  pub newer-put : (out : List ℕ) (at : ℕ) {x y z w : List ℕ} → at + newerSize ≤ length out
+      → x ≡ splice out at (replicate 2 0)
+      → y ≡ splice x (at + 2) (slice slot 553 16)
+      → z ≡ splice y (at + 18) (fieldBytes (getD allRows 17 noRow) slot 866)
+      → w ≡ splice z (at + 540) (slice slot 1388 4)
+      → w ≡ splice out at (recordBytes newerFields (newerPart (bodyOf windowFields slot)))
+  unfolding roomAll fieldsOf bodyOf
+  newer-put out at {x} {y} {z} {w} room ex ey ez ew =
+      let f = part 7 9 553 in
+      let g = part 17 18 866 in
+      let a = ex ∙ ap (splice out at) marks in
+      let b = record-next at 0 0 out [] (rowsFrom 7 9) [] f {x = x} {y = y} refl (omega arith) refl a ey (fixed-fields (rowsFrom 7 9) 553 slot (refl, (refl, tt)) (omega arith)) in
+      let c = record-next at 0 0 out (rowsFrom 7 9) (rowsFrom 17 18) f g {x = y} {y = z} refl (omega arith) refl b ez (one-field (getD allRows 17 noRow) 866 slot) in
+      record-next at 0 0 out (rowsFrom 7 9 ++ rowsFrom 17 18) (rowsFrom 18 22) (f ++ g) (part 18 22 1388) {x = z} {y = w} refl (omega arith) refl c ew
+      (fixed-fields (rowsFrom 18 22) 1388 slot (refl, (refl, (refl, (refl, tt)))) (omega arith))
+    where
+      marks : replicate 2 0 ≡ recordBytes [] (bodyFrom 0 0 [])
+      marks = unfold recordBytes fieldsBytes in refl

@@ -1,7 +1,7 @@
 -- The layouts lose nothing: a record reads as the body that it was made of, and a picture begins its layout. Assumes nothing.
 use mathlib.Core.Path.{_≡_, refl, sym, ap, _∙_}
 use mathlib.Core.Bool.{Bool, true, false}
-use mathlib.Core.List.{List, [], _∷_, _++_, append-assoc}
+use mathlib.Core.List.{List, [], _∷_, _++_, append-assoc, append-nil}
 use Prim.Native.Nat.{ℕ, _+_, _-_, _≤_}
 use native.Mathlib.Omega.{arith}
 use lib.Dec.{leb}
@@ -29,7 +29,7 @@ use Rattle.layout.proofs.LayoutsWritten.{length-record, padded-put}
 
 pub sizes-hold : SizesHold
 unfolding roomAll
-sizes-hold = record { window = refl; notification = refl; desktop = refl }
+sizes-hold = record { window = refl; newer = refl; notification = refl; desktop = refl }
 
 -- ---- records
 
@@ -51,31 +51,41 @@ module _ (r : Row) (f : List ℕ) (p : Placed r) (v : ValidField r f) where
   unfolding fieldIn
   field-back = ap (λ (n : ℕ). take n place) (same-length ∙ sym (v .long)) ∙ take-padded {A = ℕ} 0 (roomOf r) f short-field
 
-pub fields-back : (rows : List Row) (fs : List (List ℕ)) (at : ℕ) (h : List ℕ) → All Placed rows → ValidFields rows fs → length h ≡ at
-    → fieldsOf rows at (h ++ fieldsBytes rows fs) ≡ fs
+pub fields-back : (rows : List Row) (fs : List (List ℕ)) (at : ℕ) (h more : List ℕ) → All Placed rows → ValidFields rows fs → length h ≡ at
+    → fieldsOf rows at (h ++ (fieldsBytes rows fs ++ more)) ≡ fs
 unfolding fieldsOf fieldsBytes
-fields-back [] [] at h a v e = refl
-fields-back [] (f ∷ fs) at h a v e = absurd v
-fields-back (r ∷ rs) [] at h a v e = absurd v
-fields-back (r ∷ rs) (f ∷ fs) at h a v e =
+fields-back [] [] at h more a v e = refl
+fields-back [] (f ∷ fs) at h more a v e = absurd v
+fields-back (r ∷ rs) [] at h more a v e = absurd v
+fields-back (r ∷ rs) (f ∷ fs) at h more a v e =
     let w = padded 0 (roomOf r) f in
-    let tail = fieldsBytes rs fs in
+    let tail = fieldsBytes rs fs ++ more in
     let lw : length w ≡ roomOf r = length-padded {A = ℕ} 0 (roomOf r) f in
     let l : length (h ++ w) ≡ at + roomOf r = length-append h w ∙ omega arith in
+    let parted : h ++ ((w ++ fieldsBytes rs fs) ++ more) ≡ h ++ (w ++ tail) = ap (λ (x : List ℕ). h ++ x) (append-assoc w (fieldsBytes rs fs) more) in
     let here : fieldIn r (slice (h ++ (w ++ tail)) at (roomOf r)) ≡ f =
     ap (fieldIn r) (slice-mid h w tail at (roomOf r) e lw) ∙ field-back r f (a .0) (v .0) in
     let then : fieldsOf rs (at + roomOf r) (h ++ (w ++ tail)) ≡ fs =
-    ap (fieldsOf rs (at + roomOf r)) (sym (append-assoc h w tail)) ∙ fields-back rs fs (at + roomOf r) (h ++ w) (a .1) (v .1) l in
-    rw (here, then)
+    ap (fieldsOf rs (at + roomOf r)) (sym (append-assoc h w tail)) ∙ fields-back rs fs (at + roomOf r) (h ++ w) more (a .1) (v .1) l in
+    rw (parted, here, then)
 
-record-back : (rows : List Row) (m n : ℕ) (b : Body) → All Placed rows → ValidBody rows m n b → bodyOf rows (recordBytes rows b) ≡ b
+record-back : (rows : List Row) (m n : ℕ) (b : Body) (more : List ℕ) → All Placed rows → ValidBody rows m n b → bodyOf rows (recordBytes rows b ++ more) ≡ b
 unfolding recordBytes bodyOf
-record-back rows m n b a v =
-    let x = b .first ∷ b .second ∷ fieldsBytes rows (b .fields) in
-    rw (sym (num1-is x 0), sym (num1-is x 1), fields-back rows (b .fields) 2 (b .first ∷ b .second ∷ []) a (v .fields) refl)
+record-back rows m n b more a v =
+    let x = b .first ∷ b .second ∷ (fieldsBytes rows (b .fields) ++ more) in
+    rw (sym (num1-is x 0), sym (num1-is x 1), fields-back rows (b .fields) 2 (b .first ∷ b .second ∷ []) more a (v .fields) refl)
+
+-- of rows that have room for their fields
+pub keeps-rows : (rows : List Row) (m n : ℕ) (b : Body) → All Placed rows → ValidBody rows m n b → KeepsRecord rows b
+keeps-rows rows m n b a v =
+    record {
+      long = length-record rows b;
+      back = ap (bodyOf rows) (sym (append-nil (recordBytes rows b))) ∙ record-back rows m n b [] a v;
+      before = λ more. record-back rows m n b more a v;
+    }
 
 pub keeps-record : (low high m n : ℕ) (b : Body) → ValidBody (rowsFrom low high) m n b → KeepsRecord (rowsFrom low high) b
-keeps-record low high m n b v = record { long = length-record (rowsFrom low high) b; back = record-back (rowsFrom low high) m n b (placed low high) v }
+keeps-record low high m n b v = keeps-rows (rowsFrom low high) m n b (placed low high) v
 
 -- ---- pictures
 

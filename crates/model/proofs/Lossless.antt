@@ -12,14 +12,16 @@ use Rattle.wire.specs.Numbers.{numAt}
 use Rattle.wire.specs.Parts.{padded}
 use Rattle.wire.proofs.Numbers.{num-drop, num-padded}
 use Rattle.wire.proofs.Parts.{length-padded, padded-same}
+use Rattle.order.specs.declared.Row.{Row}
 use Rattle.order.specs.Rows.{rowsFrom}
 use Rattle.order.specs.Icons.{partsOf}
 use Rattle.places.specs.declared.Family.the-variants as family
 use Rattle.ids.proofs.TypedTells.{same-ids, no-list}
-use Rattle.body.specs.Bodies.{Body, bodyOf}
+use Rattle.body.specs.Bodies.{Body, windowFields, bodyOf}
 use Rattle.layout.specs.Valid.{ValidFields, ValidBody}
-use Rattle.layout.specs.Layouts.{pictureSize, recordBytes, pictureBytes}
+use Rattle.layout.specs.Layouts.{pictureSize, olderFields, newerFields, olderOf, newerOf, recordBytes, pictureBytes, KeepsRecord, PartsTell}
 use Rattle.layout.proofs.LayoutsLossless.{keeps-record}
+use Rattle.layout.proofs.LayoutsParts.{valid-older, valid-newer, parts-tell, keeps-older, keeps-newer}
 use Rattle.shown.specs.Shown.{isThere, shownBytes}
 use Rattle.session.specs.Calls.{listed, body, picture, ids, shared}
 use Rattle.session.specs.Outcome.{firstThere, secondThere, listedBytes, payloadBytes}
@@ -146,6 +148,75 @@ module _ (low high : ℕ) (ps : List (Option (List ℕ))) (fs : List (List ℕ))
     same-second : secondThere ps ≡ secondThere qs
     same-second = ap (λ (b : Body). b .second) (listed-tells .0)
 
+-- ---- a window: two records, each with pictures after it
+
+fields-count : (rs : List Row) (fs : List (List ℕ)) → ValidFields rs fs → length fs ≡ length rs
+fields-count [] [] v = refl
+fields-count [] (f ∷ fs) v = absurd v
+fields-count (r ∷ rs) [] v = absurd v
+fields-count (r ∷ rs) (f ∷ fs) v = omega (arith, fields-count rs fs (v .1))
+
+abbrev older : List (List ℕ) → Option (List ℕ) → Option (List ℕ) → Body
+older fs x y = record { first = isThere x; second = isThere y; fields = olderOf fs }
+
+abbrev newer : List (List ℕ) → Option (List ℕ) → Body
+newer fs z = record { first = isThere z; second = 0; fields = newerOf fs }
+
+abbrev behind : List (List ℕ) → Option (List ℕ) → List ℕ
+behind fs z = recordBytes newerFields (newer fs z) ++ shownAll (z ∷ [])
+
+abbrev windowBytes : List (List ℕ) → Option (List ℕ) → Option (List ℕ) → Option (List ℕ) → List ℕ
+windowBytes fs x y z = recordBytes olderFields (older fs x y) ++ (shownAll (x ∷ y ∷ []) ++ behind fs z)
+
+two-long : (x y : Option (List ℕ)) → length (shownAll (x ∷ y ∷ [])) ≡ pictureSize + pictureSize
+unfolding flatten
+two-long x y = length-append (shownBytes x) (shownBytes y ++ []) ∙ omega (arith, length-append (shownBytes y) [], length-shown x, length-shown y)
+
+module _ (fs : List (List ℕ)) (v : ValidFields windowFields fs) (x y z : Option (List ℕ)) where
+  older-kept : KeepsRecord olderFields (older fs x y)
+  older-kept = keeps-older 1 1 (older fs x y) (record { first = mark-low x; second = mark-low y; fields = valid-older fs v })
+
+  newer-kept : KeepsRecord newerFields (newer fs z)
+  newer-kept = keeps-newer 1 0 (newer fs z) (record { first = mark-low z; second = omega arith; fields = valid-newer fs v })
+
+  some-window : windowBytes fs x y z ≡ [] → ⊥
+  some-window e =
+      omega (arith, ap (λ (b : List ℕ). length b) e, older-kept .long, length-append (recordBytes olderFields (older fs x y)) (shownAll (x ∷ y ∷ []) ++ behind fs z))
+
+module _ (fs gs : List (List ℕ)) (v : ValidFields windowFields fs) (w : ValidFields windowFields gs) (x y z a b c : Option (List ℕ))
+    (e : windowBytes fs x y z ≡ windowBytes gs a b c) where
+  in-older : (recordBytes olderFields (older fs x y) ≡ recordBytes olderFields (older gs a b)) × (shownAll (x ∷ y ∷ []) ++ behind fs z ≡ shownAll (a ∷ b ∷ []) ++ behind gs c)
+  in-older =
+      tells (recordBytes olderFields (older fs x y)) (recordBytes olderFields (older gs a b)) (shownAll (x ∷ y ∷ []) ++ behind fs z) (shownAll (a ∷ b ∷ []) ++ behind gs c)
+      (older-kept fs v x y z .long ∙ sym (older-kept gs w a b c .long)) e
+
+  in-two : (shownAll (x ∷ y ∷ []) ≡ shownAll (a ∷ b ∷ [])) × (behind fs z ≡ behind gs c)
+  in-two = tells (shownAll (x ∷ y ∷ [])) (shownAll (a ∷ b ∷ [])) (behind fs z) (behind gs c) (two-long x y ∙ sym (two-long a b)) (in-older .1)
+
+  in-newer : (recordBytes newerFields (newer fs z) ≡ recordBytes newerFields (newer gs c)) × (shownAll (z ∷ []) ≡ shownAll (c ∷ []))
+  in-newer =
+      tells (recordBytes newerFields (newer fs z)) (recordBytes newerFields (newer gs c)) (shownAll (z ∷ [])) (shownAll (c ∷ []))
+      (newer-kept fs v x y z .long ∙ sym (newer-kept gs w a b c .long)) (in-two .1)
+
+  same-older : older fs x y ≡ older gs a b
+  same-older = sym (older-kept fs v x y z .back) ∙ ap (bodyOf olderFields) (in-older .0) ∙ older-kept gs w a b c .back
+
+  same-newer : newer fs z ≡ newer gs c
+  same-newer = sym (newer-kept fs v x y z .back) ∙ ap (bodyOf newerFields) (in-newer .0) ∙ newer-kept gs w a b c .back
+
+  window-fields : fs ≡ gs
+  unfolding PartsTell
+  window-fields =
+      parts-tell fs gs (fields-count windowFields fs v) (fields-count windowFields gs w) (ap (λ (k : Body). k .fields) same-older) (ap (λ (k : Body). k .fields) same-newer)
+
+  window-icons : ValidShown x → ValidShown y → ValidShown z → ValidShown a → ValidShown b → ValidShown c → x ∷ y ∷ z ∷ [] ≡ a ∷ b ∷ c ∷ []
+  unfolding flatten
+  window-icons vx vy vz va vb vc =
+      let s = icon-tells x a (shownAll (y ∷ [])) (shownAll (b ∷ [])) vx va (ap (λ (k : Body). k .first) same-older) (in-two .0) in
+      let t = icon-tells y b [] [] vy vb (ap (λ (k : Body). k .second) same-older) (s .1) in
+      let u = icon-tells z c [] [] vz vc (ap (λ (k : Body). k .first) same-newer) (in-newer .1) in
+      ap₂ (λ (m : Option (List ℕ)) (ms : List (Option (List ℕ))). m ∷ ms) (s .0) (ap₂ (λ (m n : Option (List ℕ)). m ∷ n ∷ []) (t .0) (u .0))
+
 -- ---- whether two share
 
 same-shared : (b c : Bool) → _≡_ {A = List ℕ} (pick b 1 0 ∷ []) (pick c 1 0 ∷ []) → b ≡ c
@@ -160,9 +231,9 @@ no-shared n e = omega (arith, ap (λ (x : List ℕ). length x) e)
 pub layout-loses-nothing : LayoutLosesNothing
 unfolding LayoutLosesNothing payloadBytes listedBytes flatten
 layout-loses-nothing target p q absent absent e = refl
-layout-loses-nothing target p q absent (window {fs = gs} {small = x} {big = y} w a b) e = absurd (some-listed 1 15 (x ∷ y ∷ []) gs w (sym e))
-layout-loses-nothing target p q absent (notification {fs = gs} {icon = x} w a) e = absurd (some-listed 16 22 (x ∷ []) gs w (sym e))
-layout-loses-nothing target p q absent (desktop {b = c} w) e = absurd (some-bytes 22 24 1 1 c w (sym e))
+layout-loses-nothing target p q absent (window {fs = gs} {small = x} {big = y} {overlay = z} w a b c) e = absurd (some-window gs w x y z (sym e))
+layout-loses-nothing target p q absent (notification {fs = gs} {icon = x} w a) e = absurd (some-listed 23 29 (x ∷ []) gs w (sym e))
+layout-loses-nothing target p q absent (desktop {b = c} w) e = absurd (some-bytes 29 31 1 1 c w (sym e))
 layout-loses-nothing target p q absent (cell {p = x} w) e = absurd (no-picture x (sym e))
 layout-loses-nothing target p q absent (windows {ks = js} w) e = absurd (no-list family.Windows js (sym e))
 layout-loses-nothing target p q absent (notifications {ks = js} w) e = absurd (no-list family.Notifications js (sym e))
@@ -172,17 +243,15 @@ layout-loses-nothing target p q (windows {ks = ks} v) (windows {ks = js} w) e = 
 layout-loses-nothing target p q (notifications {ks = ks} v) absent e = absurd (no-list family.Notifications ks e)
 layout-loses-nothing target p q (notifications {ks = ks} v) (notifications {ks = js} w) e =
     ap (ids family.Notifications) (same-ids family.Notifications ks js v w e)
-layout-loses-nothing target p q (window {fs = fs} {small = x} {big = y} v a b) absent e = absurd (some-listed 1 15 (x ∷ y ∷ []) fs v e)
-layout-loses-nothing target p q (window {fs = fs} {small = x} {big = y} v a b) (window {fs = gs} {small = z} {big = u} w c d) e =
-    let t = icon-tells x z (shownAll (y ∷ [])) (shownAll (u ∷ [])) a c (same-first 1 15 (x ∷ y ∷ []) fs v (z ∷ u ∷ []) gs w e) (listed-tells 1 15 (x ∷ y ∷ []) fs v (z ∷ u ∷ []) gs w e .1) in
-    let s = icon-tells y u [] [] b d (same-second 1 15 (x ∷ y ∷ []) fs v (z ∷ u ∷ []) gs w e) (t .1) in
-    ap₂ (listed family.Windows) (same-fields 1 15 (x ∷ y ∷ []) fs v (z ∷ u ∷ []) gs w e) (ap₂ (λ (m n : Option (List ℕ)). m ∷ n ∷ []) (t .0) (s .0))
-layout-loses-nothing target p q (notification {fs = fs} {icon = x} v a) absent e = absurd (some-listed 16 22 (x ∷ []) fs v e)
+layout-loses-nothing target p q (window {fs = fs} {small = x} {big = y} {overlay = z} v a b c) absent e = absurd (some-window fs v x y z e)
+layout-loses-nothing target p q (window {fs = fs} {small = x} {big = y} {overlay = z} v a b c) (window {fs = gs} {small = k} {big = l} {overlay = m} w d f g) e =
+    ap₂ (listed family.Windows) (window-fields fs gs v w x y z k l m e) (window-icons fs gs v w x y z k l m e a b c d f g)
+layout-loses-nothing target p q (notification {fs = fs} {icon = x} v a) absent e = absurd (some-listed 23 29 (x ∷ []) fs v e)
 layout-loses-nothing target p q (notification {fs = fs} {icon = x} v a) (notification {fs = gs} {icon = z} w c) e =
-    let t = icon-tells x z [] [] a c (same-first 16 22 (x ∷ []) fs v (z ∷ []) gs w e) (listed-tells 16 22 (x ∷ []) fs v (z ∷ []) gs w e .1) in
-    ap₂ (listed family.Notifications) (same-fields 16 22 (x ∷ []) fs v (z ∷ []) gs w e) (ap (λ (m : Option (List ℕ)). m ∷ []) (t .0))
-layout-loses-nothing target p q (desktop {b = b} v) absent e = absurd (some-bytes 22 24 1 1 b v e)
-layout-loses-nothing target p q (desktop {b = b} v) (desktop {b = c} w) e = ap body (same-body 22 24 1 1 b v c w e)
+    let t = icon-tells x z [] [] a c (same-first 23 29 (x ∷ []) fs v (z ∷ []) gs w e) (listed-tells 23 29 (x ∷ []) fs v (z ∷ []) gs w e .1) in
+    ap₂ (listed family.Notifications) (same-fields 23 29 (x ∷ []) fs v (z ∷ []) gs w e) (ap (λ (m : Option (List ℕ)). m ∷ []) (t .0))
+layout-loses-nothing target p q (desktop {b = b} v) absent e = absurd (some-bytes 29 31 1 1 b v e)
+layout-loses-nothing target p q (desktop {b = b} v) (desktop {b = c} w) e = ap body (same-body 29 31 1 1 b v c w e)
 layout-loses-nothing target p q (cell {p = x} v) absent e = absurd (no-picture x e)
 layout-loses-nothing target p q (cell {p = x} v) (cell {p = y} w) e = ap picture (same-picture x y v w e)
 layout-loses-nothing target p q (shares {b = b}) absent e = absurd (no-shared (pick b 1 0) e)

@@ -33,8 +33,8 @@ pub data ValidShown : Option (List ℕ) → Type 0 where
 -- their room
 pub data ValidPayload : LookupTarget → Payload → Type 0 where
   absent : {target : LookupTarget} → ValidPayload target nothing
-  window : {w : WindowId} {fs : List (List ℕ)} {small big : Option (List ℕ)} → ValidFields windowFields fs → ValidShown small → ValidShown big
-      → ValidPayload (Window w) (listed family.Windows fs (small ∷ big ∷ []))
+  window : {w : WindowId} {fs : List (List ℕ)} {small big overlay : Option (List ℕ)} → ValidFields windowFields fs → ValidShown small → ValidShown big → ValidShown overlay
+      → ValidPayload (Window w) (listed family.Windows fs (small ∷ big ∷ overlay ∷ []))
   notification : {w : WindowId} {n : NotifyIconId} {fs : List (List ℕ)} {icon : Option (List ℕ)} → ValidFields notificationFields fs → ValidShown icon
       → ValidPayload (Notification w n) (listed family.Notifications fs (icon ∷ []))
   cell : {cache entry : ℕ} {p : List ℕ} → ValidPicture p → ValidPayload (Cell cache entry) (picture p)

@@ -26,7 +26,7 @@ use Rattle.wire.proofs.Tests.{both-right}
 use Rattle.order.proofs.Absent.{bare-icon, unlisted}
 use Rattle.order.proofs.Pictures.{picture-none, laid}
 use Rattle.order.proofs.Carried.{fit-kept, stepped, carried}
-use Rattle.protocol.specs.Flags.{desktopArcBegan, desktopArcCompleted, desktopFlags, desktopNone, flagBigIcon, flagCachedIcon, flagDeleted, flagIcon, flagsIcon}
+use Rattle.protocol.specs.Flags.{desktopArcBegan, desktopArcCompleted, desktopFlags, desktopNone, flagBigIcon, flagCachedIcon, flagDeleted, flagIcon, flagOverlayIcon, flagsIcon}
 
 pub record Accepted (s : List ℕ) : Type 0 where
   pub long : 7 ≤ length s
@@ -211,13 +211,13 @@ module _ (s : List ℕ) where
 -- ---- the icon
 
 -- on a window the icon or cached icon follows the id
-no-clash : (a b c d e f g h : Bool) → c ≡ true → d ≡ true → either (either (either (either (either a b) (both (both c d) e)) f) g) h ≡ false → e ≡ false
-no-clash a b c d false f g h x y z = refl
-no-clash false false true true true f g h x y z = z
-no-clash true b true true true f g h x y z = z
-no-clash false true true true true f g h x y z = z
-no-clash a b false d true f g h x y z = sym x
-no-clash a b true false true f g h x y z = sym y
+no-clash : (a b c d e f g h k : Bool) → c ≡ true → d ≡ true → either (either (either (either (either (either a b) (both (both c d) e)) f) g) h) k ≡ false → e ≡ false
+no-clash a b c d false f g h k x y z = refl
+no-clash false false true true true f g h k x y z = z
+no-clash true b true true true f g h k x y z = z
+no-clash false true true true true f g h k x y z = z
+no-clash a b false d true f g h k x y z = sym x
+no-clash a b true false true f g h k x y z = sym y
 
 id-only : (flags : ℕ) (s : List ℕ) (q : ℕ) → 7 ≤ length s → walkOf (rowsFrom 0 1) flags s 7 0 ≡ Ends q 0 → q ≡ 11
 unfolding walkOf lenOf
@@ -233,11 +233,12 @@ pub window-icon : (s : List ℕ) (w : Accepted s) → isWindow (flagsOf s) ≡ t
 unfolding fieldsFit
 window-icon s w t h =
     let flags = flagsOf s in
-    let n : has flags 0x28FFDFFF ≡ false =
+    let n : has flags 0x28EFDFFF ≡ false =
     no-clash (both (has flags flagDeleted) (has flags 0xD8FFFFFF)) (both (has flags flagIcon) (has flags flagCachedIcon)) (isWindow flags) (has flags flagsIcon)
-    (has flags 0x28FFDFFF) (both (has flags flagBigIcon) (not (has flags flagsIcon))) (all (isDesktop flags ∷ has flags desktopNone ∷ has flags 0xF8FFFFFE ∷ []))
+    (has flags 0x28EFDFFF) (both (has flags flagBigIcon) (not (has flags flagsIcon)))
+    (both (has flags flagOverlayIcon) (either (not (has flags flagsIcon)) (has flags flagBigIcon))) (all (isDesktop flags ∷ has flags desktopNone ∷ has flags 0xF8FFFFFE ∷ []))
     (all (isDesktop flags ∷ has flags desktopArcCompleted ∷ has flags desktopArcBegan ∷ [])) t h (w .agrees) in
-    let z : bitAnd flags 0x28FFDFFF ≡ 0 = eqb-true (bitAnd flags 0x28FFDFFF) 0 (not-false (eqb (bitAnd flags 0x28FFDFFF) 0) n) in
+    let z : bitAnd flags 0x28EFDFFF ≡ 0 = eqb-true (bitAnd flags 0x28EFDFFF) 0 (not-false (eqb (bitAnd flags 0x28EFDFFF) 0) n) in
     let f : walkOf windowRows flags s 7 0 ≡ Ends (w .icon) 0 = rw t at (w .fields) in
     id-only flags s (w .icon) (w .long) (bare-icon flags s z ∙ f)
 

@@ -66,7 +66,7 @@ stepped r rs flags s at q e = go (stepOf r flags s at 0) refl e
     go (Short c) t e = let z : _≡_ {A = ℕ} 0 1 = cc in absurd (omega arith)
 
 -- the same by the row's number in the table
-pub stepped-at : (k hi flags : ℕ) (s : List ℕ) (at q : ℕ) → k < hi → hi ≤ 24 → walkOf (rowsFrom k hi) flags s at 0 ≡ Ends q 0
+pub stepped-at : (k hi flags : ℕ) (s : List ℕ) (at q : ℕ) → k < hi → hi ≤ 31 → walkOf (rowsFrom k hi) flags s at 0 ≡ Ends q 0
     → Stepped (getD allRows k noRow) (rowsFrom (k + 1) hi) flags s at q
 stepped-at k hi flags s at q h l e =
     stepped (getD allRows k noRow) (rowsFrom (k + 1) hi) flags s at q (ap (λ (rs : List Row). walkOf rs flags s at 0) (sym (part-next k hi h l)) ∙ e)

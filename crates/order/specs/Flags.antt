@@ -4,8 +4,8 @@ use mathlib.Core.Bool.{Bool, not}
 use mathlib.Core.List.{[], _∷_}
 use lib.Dec.{eqb}
 use lib.Bits.{bitAnd}
-use Rattle.wire.specs.Tests.{both, any, all, has}
-use Rattle.protocol.specs.Flags.{desktopArcBegan, desktopArcCompleted, desktopFlags, desktopNone, flagBigIcon, flagCachedIcon, flagDeleted, flagDesktop, flagIcon, flagNotification, flagWindow, flagsIcon, notificationFlags, windowFlags}
+use Rattle.wire.specs.Tests.{both, either, any, all, has}
+use Rattle.protocol.specs.Flags.{desktopArcBegan, desktopArcCompleted, desktopFlags, desktopNone, flagBigIcon, flagCachedIcon, flagDeleted, flagDesktop, flagIcon, flagNotification, flagOverlayIcon, flagWindow, flagsIcon, notificationFlags, windowFlags}
 
 abbrev pub isWindow : ℕ → Bool
 isWindow flags = has flags flagWindow
@@ -24,14 +24,17 @@ oneType flags = eqb (flags / flagWindow % 2 + flags / flagNotification % 2 + fla
 abbrev pub inList : ℕ → ℕ → Bool
 inList flags list = eqb (bitAnd flags list) flags
 
--- 5: no bit stands outside the kind's closed list
-abbrev pub closed : ℕ → Bool
-closed flags =
+-- 5: no bit stands outside the kind's closed list, that of windows given
+abbrev pub closedIn : ℕ → ℕ → Bool
+closedIn list flags =
     any
-    (both (isWindow flags) (inList flags windowFlags)
+    (both (isWindow flags) (inList flags list)
     ∷ both (isNotification flags) (inList flags notificationFlags)
     ∷ both (isDesktop flags) (inList flags desktopFlags)
     ∷ [])
+
+abbrev pub closed : ℕ → Bool
+closed flags = closedIn windowFlags flags
 
 -- 6, in the order of the paper's list
 abbrev pub clash : ℕ → Bool
@@ -41,10 +44,12 @@ clash flags =
     (both (has flags flagDeleted) (has flags 0xD8FFFFFF)
     -- icon with cached icon
     ∷ both (has flags flagIcon) (has flags flagCachedIcon)
-    -- on a window, either of these with any bit besides type, new and 00002000
-    ∷ all (isWindow flags ∷ has flags flagsIcon ∷ has flags 0x28FFDFFF ∷ [])
+    -- on a window, either of these with any bit besides type, new, 00002000 and 00100000
+    ∷ all (isWindow flags ∷ has flags flagsIcon ∷ has flags 0x28EFDFFF ∷ [])
     -- 00002000 without either
     ∷ both (has flags flagBigIcon) (not (has flags flagsIcon))
+    -- 00100000 without either, or with 00002000
+    ∷ both (has flags flagOverlayIcon) (either (not (has flags flagsIcon)) (has flags flagBigIcon))
     -- desktop 1 with any other bit but the type
     ∷ all (isDesktop flags ∷ has flags desktopNone ∷ has flags 0xF8FFFFFE ∷ [])
     -- desktop 4 with 8

@@ -1,7 +1,7 @@
 -- What is said of an order's bytes alone: the first of the numbers 2 to 8 that applies, with the offset at fault, or the
 -- order's ids and flags. Assumes nothing.
 use Prim.Native.Nat.{ℕ}
-use mathlib.Core.Bool.{not}
+use mathlib.Core.Bool.{Bool, not}
 use mathlib.Core.List.{List}
 use lib.ListN.{length}
 use lib.Dec.{ltb, eqb}
@@ -41,20 +41,23 @@ orderOf flags s icon =
 unfoldable pub fieldsFit : ℕ → List ℕ → Fit
 fieldsFit flags s = walkOf (kindRows flags) flags s 7 0
 
--- the first line that applies
-unfoldable pub judgeOf : List ℕ → Judged
-judgeOf s =
+-- the first line that applies, with a closed list and where the fields end
+abbrev pub judgeBy : (ℕ → Bool) → (ℕ → List ℕ → Fit) → List ℕ → Judged
+judgeBy listed fit s =
     pick (ltb (length s) 7) (refuse 2 0)
     (pick (not (eqb (numAt 2 s 1) (length s))) (refuse 3 1)
     (pick (not (eqb (numAt 1 s 0) 0x2E)) (refuse 4 0)
     (pick (not (oneType (flagsOf s))) (refuse 4 3)
-    (pick (not (closed (flagsOf s))) (refuse 5 3)
+    (pick (not (listed (flagsOf s))) (refuse 5 3)
     (pick (clash (flagsOf s)) (refuse 6 3)
-    (onFit (fieldsFit (flagsOf s) s) (λ cut. refuse 7 cut) (λ icon bad.
+    (onFit (fit (flagsOf s) s) (λ cut. refuse 7 cut) (λ icon bad.
     onFit (pictureFit (flagsOf s) s icon bad) (λ cut. refuse 7 cut) (λ end first.
     pick (not (eqb end (length s))) (refuse 7 end)
     (pick (not (eqb first 0)) (refuse 8 first)
     (orderOf (flagsOf s) s icon))))))))))
+
+unfoldable pub judgeOf : List ℕ → Judged
+judgeOf s = judgeBy closed fieldsFit s
 
 -- ---- its tails, for the private functions
 

@@ -32,6 +32,17 @@ flagsIcon = 0xC0000000
 abbrev pub flagBigIcon : ℕ
 flagBigIcon = 0x00002000
 
+-- request No. 12: the icon is the window's overlay icon; that icon is none
+abbrev pub flagOverlayIcon : ℕ
+flagOverlayIcon = 0x00100000
+
+abbrev pub flagOverlayNone : ℕ
+flagOverlayNone = 0x00200000
+
+-- either of these
+abbrev pub flagsOverlay : ℕ
+flagsOverlay = 0x00300000
+
 -- of a desktop order: no desktop is monitored; it is; its state has been sent; it is being sent
 abbrev pub desktopNone : ℕ
 desktopNone = 0x00000001
@@ -47,7 +58,7 @@ desktopArcBegan = 0x00000008
 
 -- the closed lists
 abbrev pub windowFlags : ℕ
-windowFlags = 0xF107FF1E
+windowFlags = 0xF9FFFFDF
 
 abbrev pub notificationFlags : ℕ
 notificationFlags = 0xF200000F

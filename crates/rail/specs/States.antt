@@ -3,7 +3,7 @@ use Prim.Native.Nat.{ℕ, _+_}
 use mathlib.Core.Path.{_≡_}
 use mathlib.Core.List.{List, [], _∷_}
 use lib.ListN.{getD}
-use Rattle.layout.specs.Layouts.{windowSize, notificationSize, desktopSize, pictureSize}
+use Rattle.layout.specs.Layouts.{newerStart, newerSize, notificationSize, desktopSize, pictureSize}
 use Rattle.chunk.specs.Memory.{memorySize}
 use Rattle.ids.specs.Ids.{listSize}
 use Rattle.index.specs.Families.{indexLength}
@@ -21,7 +21,7 @@ use Rattle.visible.specs.Outcome.{figureLength}
 -- of a picture, of the chunk memory, of the longest session record, of a list, and of a figure
 abbrev pub sizes : List ℕ
 sizes =
-    indexLength ∷ bodiesLength ∷ placeLength ∷ journalLength ∷ (windowSize + (pictureSize + pictureSize))
+    indexLength ∷ bodiesLength ∷ placeLength ∷ journalLength ∷ (newerStart + (newerSize + pictureSize))
     ∷ (notificationSize + pictureSize) ∷ desktopSize ∷ pictureSize ∷ memorySize ∷ mostRecord ∷ listSize ∷ figureLength ∷ []
 
 unfoldable pub sizeOf : ℕ → ℕ

@@ -27,7 +27,7 @@ pub extern "C" fn rail_size(what: u32) -> u32
         1 => session::BODIES as u32,
         2 => store::PLACE as u32,
         3 => session::JOURNAL as u32,
-        4 => (layout::WINDOW + 2 * layout::PICTURE) as u32,
+        4 => (layout::WINDOW + layout::NEWER + 3 * layout::PICTURE) as u32,
         5 => (layout::NOTIFICATION + layout::PICTURE) as u32,
         6 => layout::DESKTOP as u32,
         7 => layout::PICTURE as u32,
@@ -232,7 +232,7 @@ pub extern "C" fn rail_notifications(
 }
 
 // Whether two holders share a place, as one byte. Each by three numbers: 1 a window's small icon, 2 its big one, 3 a notification icon,
-// by its ids; any other a cell, by cache id and entry.
+// by its ids, 4 a window's overlay icon; any other a cell, by cache id and entry.
 #[no_mangle]
 pub extern "C" fn rail_shared(
     index: &[u8],

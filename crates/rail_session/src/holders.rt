@@ -13,7 +13,7 @@ fn is_listed(s: &[u8], i: u8) -> bool {
     let kind = wire::read_u8(s, at);
     match kind {
         0 | 3 => true,
-        1 | 2 => wire::read_u32(s, at + 5) == 0,
+        1 | 2 | 4 => wire::read_u32(s, at + 5) == 0,
         _ => false,
     }
 }

@@ -9,6 +9,7 @@ use protocol::WindowId;
 use session::LookupTarget;
 use session::Reply;
 use view::DesktopRecord;
+use view::NewerRecord;
 use view::NotificationRecord;
 use view::Pair;
 use view::Point;
@@ -17,15 +18,17 @@ use view::Stack;
 use view::Text;
 use view::WindowRecord;
 
-// A record is handed out with the pictures of its icons after it: two for a window.
+// A record is handed out with the pictures of its icons after it: two for a window, and one after its newer fields.
 const SMALL: usize = layout::WINDOW;
 
 const BIG: usize = SMALL + layout::PICTURE;
 
 const ICON: usize = layout::NOTIFICATION;
 
+const OVERLAY: usize = BIG + layout::PICTURE + layout::NEWER;
+
 // The most bytes that a lookup hands out.
-pub(crate) const FOUND: usize = BIG + layout::PICTURE;
+pub(crate) const FOUND: usize = OVERLAY + layout::PICTURE;
 
 fn point(out: &mut [u8], at: usize, name: &[u8], p: Point) -> usize {
     let n = text(out, at, name);
@@ -68,9 +71,35 @@ fn window_title(out: &mut [u8], at: usize, w: WindowRecord) -> usize {
     words(out, n, b" title=", w.title)
 }
 
+fn margins(out: &mut [u8], at: usize, w: NewerRecord) -> usize {
+    let left = w.left_resize_margin as u64;
+    let right = w.right_resize_margin as u64;
+    let n = print::pair(out, at, b" margin_x=", left, b',', right);
+    let top = w.top_resize_margin as u64;
+    let bottom = w.bottom_resize_margin as u64;
+    print::pair(out, n, b" margin_y=", top, b',', bottom)
+}
+
+fn window_bars(out: &mut [u8], at: usize, w: NewerRecord) -> usize {
+    let n = words(out, at, b" overlay_text=", w.overlay_description);
+    let n = field(out, n, b" taskbar=", w.taskbar_button as u64);
+    field(out, n, b" server_z=", w.enforce_server_z_order as u64)
+}
+
+fn app_bar(out: &mut [u8], at: usize, w: NewerRecord) -> usize {
+    let n = field(out, at, b" app_bar=", w.app_bar_state as u64);
+    field(out, n, b" edge=", w.app_bar_edge as u64)
+}
+
+fn window_newer(out: &mut [u8], at: usize, w: NewerRecord) -> usize {
+    let n = window_bars(out, at, w);
+    app_bar(out, n, w)
+}
+
 fn window_client(out: &mut [u8], at: usize, w: WindowRecord) -> usize {
     let n = point(out, at, b" client=", w.client_offset);
     let n = pair(out, n, b" client_size=", w.client_size);
+    let n = margins(out, n, w.newer);
     field(out, n, b" rp=", w.rp_content as u64)
 }
 
@@ -95,13 +124,16 @@ fn window_looks(out: &mut [u8], at: usize, w: WindowRecord) -> usize {
 fn window_places(out: &mut [u8], at: usize, w: WindowRecord) -> usize {
     let n = window_place(out, at, w);
     let n = window_area(out, n, w);
-    rectangles(out, n, b" vis_rects=", w.visibility_rects)
+    let n = rectangles(out, n, b" vis_rects=", w.visibility_rects);
+    window_newer(out, n, w.newer)
 }
 
 fn window_icons(out: &mut [u8], at: usize, w: WindowRecord, bytes: &[u8; FOUND]) -> usize {
     let all = &bytes[..];
     let n = pictures::icon(out, at, b" small=", w.small, &all[SMALL..]);
-    pictures::icon(out, n, b" big=", w.big, &all[BIG..])
+    let n = pictures::icon(out, n, b" big=", w.big, &all[BIG..]);
+    let newer = w.newer;
+    pictures::icon(out, n, b" overlay=", newer.overlay, &all[OVERLAY..])
 }
 
 fn window_record(out: &mut [u8], at: usize, id: WindowId, bytes: &[u8; FOUND]) -> usize {

@@ -14,7 +14,7 @@ use Rattle.wire.specs.Parts.{splice}
 use Rattle.wire.specs.Numbers.{numAt, bytesOf}
 use Rattle.wire.proofs.Parts.{splice-start, splice-after}
 use Rattle.wire.proofs.Numbers.{length-bytes}
-use Rattle.layout.specs.Layouts.{windowSize, notificationSize, desktopSize, pictureSize}
+use Rattle.layout.specs.Layouts.{windowSize, newerSize, notificationSize, desktopSize, pictureSize}
 use Rattle.ids.specs.Ids.{listSize}
 use Rattle.journal.specs.View.{Memory}
 use Rattle.record.specs.Layout.{mostRecord}
@@ -159,7 +159,7 @@ module _ (kind : ℕ) where
   pub length-record : kind ≡ recordKind → TakesOne kind (4 + mostRecord)
   length-record e = record { takes = λ lent arg. ap oneLength (sym (is-record lent kind arg e)) }
 
-  pub length-window : kind ≡ 4 → TakesOne kind (4 + windowSize + 2 * pictureSize)
+  pub length-window : kind ≡ 4 → TakesOne kind (4 + windowSize + newerSize + 3 * pictureSize)
   unfolding targetOf
   length-window e = length-look (omega (arith, e)) (λ x. omega (arith, e, x)) (λ arg. rw e)
 

@@ -122,7 +122,7 @@ fn single_length(kind: u8) -> usize
         return 4;
     }
     if kind == 4 {
-        return 4 + layout::WINDOW + 2 * layout::PICTURE;
+        return 4 + layout::WINDOW + layout::NEWER + 3 * layout::PICTURE;
     }
     if kind == 5 {
         return 4 + layout::NOTIFICATION + layout::PICTURE;

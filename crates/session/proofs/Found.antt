@@ -98,13 +98,13 @@ module _ (t : Table) (x m : List ℕ) (marked since : ℕ → List ℕ) (ok : �
   unfolding payloadIn listedIn wantOf payloadHeld validHeld Holds
   held-in (Window w) e h =
       record {
-        payload = rw (e, h .0 .fields e, h .1 .shows (icon family.Windows (w .id) 0 0), h .1 .shows (icon family.Windows (w .id) 0 1));
-        valid = fields-of windowFields (heldSlot m) 0 0 (h .0 .ok e);
+        payload = rw (e, h .0 .fields e, h .1 .shows (icon family.Windows (w .id) 0 0), h .1 .shows (icon family.Windows (w .id) 0 1), h .1 .shows (icon family.Windows (w .id) 0 2));
+        valid = fields-of windowFields (heldSlot family.Windows m) 0 0 (h .0 .ok e);
       }
   held-in (Notification w n) e h =
       record {
         payload = rw (e, h .0 .fields e, h .1 .shows (icon family.Notifications (w .id) (n .id) 0));
-        valid = fields-of notificationFields (heldSlot m) 0 0 (h .0 .ok e);
+        valid = fields-of notificationFields (heldSlot family.Notifications m) 0 0 (h .0 .ok e);
       }
   held-in (Cell cache entry) e h = record { payload = ap aPicture (h .shows (cell (cellNumber cache entry))); valid = refl }
   held-in Desktop e h = record { payload = rw (h .0); valid = fields-of desktopFields m 1 1 (h .1) }
@@ -145,7 +145,7 @@ module _ {m : Memory} {w : JournalExtent} {x : List ℕ} {os : List (List ℕ)} 
   ready-for : (target : LookupTarget) {held : List ℕ} → length held ≡ roomFor (wantOf target) → Followed (wantOf target) m x os held
       → ReadyFor target x (m .bodies) (m .store) (m .journal) held
   unfolding wantOf ReadyFor Holds
-  ready-for (Window w) {held = held} n f = pictures-ready (heldOrigins (want.Window w) held) (length-slice held 916 originsLength (omega (arith, n))) (f .holds .1) (f .origins)
+  ready-for (Window w) {held = held} n f = pictures-ready (heldOrigins (want.Window w) held) (length-slice held 1392 originsLength (omega (arith, n))) (f .holds .1) (f .origins)
   ready-for (Notification w k) {held = held} n f =
       pictures-ready (heldOrigins (want.Notification w k) held) (length-slice held 916 originsLength (omega (arith, n))) (f .holds .1) (f .origins)
   ready-for (Cell cache entry) {held = held} n f = pictures-ready (heldOrigins want.Pictures held) (length-slice held 0 originsLength (omega (arith, n))) (f .holds) (f .origins)

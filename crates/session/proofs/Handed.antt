@@ -1,5 +1,5 @@
 -- Handing out: a record with the pictures of its icons behind it, the picture of a cell, and the other targets. Assumes nothing.
-use mathlib.Core.Path.{_≡_, refl, sym, ap, subst, _∙_}
+use mathlib.Core.Path.{_≡_, refl, sym, ap, ap₂, subst, _∙_}
 use mathlib.Core.Bool.{Bool, true, false, not}
 use mathlib.Core.List.{List, [], _∷_, _++_, flatten, append-assoc, append-nil}
 use mathlib.Core.Option.{Option, none, some}
@@ -7,13 +7,14 @@ use Prim.Native.Nat.{ℕ, _+_, _-_, _≤_, _<_}
 use native.Mathlib.Omega.{arith}
 use mir.Val.{boolByte}
 use lib.Dec.{eqb, ltb}
-use lib.ListN.{length, length-append}
+use lib.ListN.{length, take, drop, length-append}
+use lib.Seq.{drop-drop}
 use borrow.Author.Tests.{lt-ltb, ltb-true, not-true}
 use Rattle.wire.specs.Tests.{pick}
 use Rattle.wire.specs.Numbers.{bytesOf}
 use Rattle.wire.specs.Parts.{slice, splice}
 use Rattle.wire.proofs.Tests.{both-left}
-use Rattle.wire.proofs.Parts.{length-slice, length-padded, splice-after}
+use Rattle.wire.proofs.Parts.{length-slice, length-splice, length-padded, take-splice, drop-splice-at, splice-after}
 use Rattle.order.specs.declared.Row.{Row}
 use Rattle.protocol.specs.declared.WindowId.{WindowId}
 use Rattle.protocol.specs.declared.NotifyIconId.{NotifyIconId}
@@ -31,7 +32,7 @@ use Rattle.ids.specs.Ids.{idsIn, listBytes}
 use Rattle.ids.specs.Steps.{familyOf}
 use Rattle.body.specs.Bodies.{Body, windowFields, notificationFields, desktopFields, fieldsOf, bodyOf, fieldsOk}
 use Rattle.body.specs.Stores.{roomAll}
-use Rattle.layout.specs.Layouts.{pictureSize, windowSize, notificationSize, fieldsBytes, recordBytes, pictureBytes}
+use Rattle.layout.specs.Layouts.{pictureSize, windowSize, newerStart, newerSize, notificationSize, olderFields, newerFields, olderPart, newerPart, fieldsBytes, recordBytes, pictureBytes}
 use Rattle.layout.proofs.LayoutsWritten.{length-record}
 use Rattle.table.specs.Memory.{shownIn}
 use Rattle.follow.specs.Follow.{heldSlot}
@@ -92,18 +93,103 @@ module _ (out : List ℕ) (rows : List Row) (b : Body) {n : ℕ} (size : 2 + roo
       ∙ splice-after out 0 (bytes ++ shownBytes p) (shownBytes q) (n + pictureSize) (omega (arith, j)) (omega (arith, j, m, room))
       ∙ ap (splice out 0) (append-assoc bytes (shownBytes p) (shownBytes q))
 
+-- a byte written over
+over-front : (out : List ℕ) (n a : ℕ) (zs : List ℕ) → n + length (a ∷ zs) ≤ length out → take n (splice out n (a ∷ zs)) ≡ take n out
+over-front out n a zs room = take-splice out n (a ∷ zs) room n (omega arith)
+
+over-back : (out : List ℕ) (n a : ℕ) (zs : List ℕ) → n + length (a ∷ zs) ≤ length out → drop (n + 1) (splice out n (a ∷ zs)) ≡ zs ++ drop (n + length (a ∷ zs)) out
+over-back out n a zs room = sym (drop-drop 1 n (splice out n (a ∷ zs))) ∙ ap (λ (x : List ℕ). drop 1 x) (drop-splice-at out n (a ∷ zs) room)
+
+over : (out : List ℕ) (n a o : ℕ) (zs : List ℕ) → n + length (a ∷ zs) ≤ length out → splice (splice out n (a ∷ zs)) n (o ∷ []) ≡ splice out n (o ∷ zs)
+unfolding splice
+over out n a o zs room = ap₂ (λ (y z : List ℕ). y ++ (o ∷ z)) (over-front out n a zs room) (over-back out n a zs room)
+
+-- the first byte behind what is put first
+third-put : (out front : List ℕ) (n a o : ℕ) (zs : List ℕ) → length front ≡ n → n + length (a ∷ zs) ≤ length out
+    → splice (splice out 0 (front ++ (a ∷ zs))) n (o ∷ []) ≡ splice out 0 (front ++ (o ∷ zs))
+third-put out front n a o zs size room =
+    let l : length (splice out 0 front) ≡ length out = length-splice out 0 front (omega (arith, size, room)) in
+    ap (λ (x : List ℕ). splice x n (o ∷ [])) (sym (splice-after out 0 front (a ∷ zs) n (omega (arith, size)) (omega (arith, size, room))))
+    ∙ over (splice out 0 front) n a o zs (omega (arith, l, room))
+    ∙ splice-after out 0 front (o ∷ zs) n (omega (arith, size)) (omega (arith, size, room))
+
+-- a window's two records, two pictures between them and one behind
+module _ (out : List ℕ) (b c : Body) (p q o : Option (List ℕ)) (room : newerStart + (newerSize + pictureSize) ≤ length out) where
+  abbrev older : List ℕ
+  older = recordBytes olderFields b
+
+  abbrev newer : List ℕ
+  newer = recordBytes newerFields c
+
+  abbrev two : List ℕ
+  two = shownBytes p ++ shownBytes q
+
+  front-long : (d : Body) → length (recordBytes olderFields d ++ two) ≡ newerStart
+  unfolding roomAll
+  front-long d =
+      length-append (recordBytes olderFields d) two
+      ∙ omega (arith, length-record olderFields d, length-append (shownBytes p) (shownBytes q), length-shown p, length-shown q)
+
+  newer-long : (d : Body) → length (recordBytes newerFields d) ≡ newerSize
+  unfolding roomAll
+  newer-long d = length-record newerFields d
+
+  behind-long : (d : Body) → length (recordBytes newerFields d ++ shownBytes o) ≡ newerSize + pictureSize
+  behind-long d = length-append (recordBytes newerFields d) (shownBytes o) ∙ omega (arith, newer-long d, length-shown o)
+
+  all-put : {x y z u v : List ℕ} → x ≡ splice out 0 older → y ≡ splice x windowSize (shownBytes p) → z ≡ splice y (windowSize + pictureSize) (shownBytes q)
+      → u ≡ splice z newerStart newer → v ≡ splice u (newerStart + newerSize) (shownBytes o) → v ≡ splice out 0 (older ++ (two ++ (newer ++ shownBytes o)))
+  unfolding roomAll
+  all-put e f g h i =
+      let k = front-long b in
+      let l = newer-long c in
+      let j : length ((older ++ two) ++ newer) ≡ newerStart + newerSize = length-append (older ++ two) newer ∙ omega (arith, k, l) in
+      i
+      ∙ ap (λ (w : List ℕ). splice w (newerStart + newerSize) (shownBytes o))
+      (h ∙ ap (λ (w : List ℕ). splice w newerStart newer) (two-put out olderFields b refl e p q (omega (arith, room)) f g)
+      ∙ splice-after out 0 (older ++ two) newer newerStart (omega (arith, k)) (omega (arith, k, l, room)))
+      ∙ splice-after out 0 ((older ++ two) ++ newer) (shownBytes o) (newerStart + newerSize) (omega (arith, j)) (omega (arith, j, length-shown o, room))
+      ∙ ap (splice out 0) (append-assoc (older ++ two) newer (shownBytes o) ∙ append-assoc older two (newer ++ shownBytes o))
+
+  -- the mark of the newer fields
+  third-mark : (d : Body) (t : ℕ) {y z : List ℕ} → y ≡ splice out 0 (recordBytes olderFields d ++ (two ++ (newer ++ shownBytes o))) → z ≡ splice y newerStart (t ∷ [])
+      → z ≡ splice out 0 (recordBytes olderFields d ++ (two ++ (recordBytes newerFields (record { first = t; second = c .second; fields = c .fields }) ++ shownBytes o)))
+  third-mark d t e f =
+      let front = recordBytes olderFields d in
+      let marked : Body = record { first = t; second = c .second; fields = c .fields } in
+      f
+      ∙ ap (λ (w : List ℕ). splice w newerStart (t ∷ [])) (e ∙ ap (splice out 0) (sym (append-assoc front two (newer ++ shownBytes o))))
+      ∙ put
+      ∙ ap (splice out 0) (append-assoc front two (recordBytes newerFields marked ++ shownBytes o))
+    where
+      put : splice (splice out 0 ((recordBytes olderFields d ++ two) ++ (newer ++ shownBytes o))) newerStart (t ∷ [])
+          ≡ splice out 0 ((recordBytes olderFields d ++ two) ++ (recordBytes newerFields (record { first = t; second = c .second; fields = c .fields }) ++ shownBytes o))
+      put =
+          let l = behind-long c in
+          unfold recordBytes in
+          third-put out (recordBytes olderFields d ++ two) newerStart (c .first) t (c .second ∷ (fieldsBytes newerFields (c .fields) ++ shownBytes o)) (front-long d) (omega (arith, l, room))
+
 module _ (out slot : List ℕ) {x y v z : List ℕ} {r : Bool} where
   -- a window
-  pub window-laid : (p q : Option (List ℕ)) → windowSize + (pictureSize + pictureSize) ≤ length out → x ≡ splice out 0 (recordBytes windowFields (bodyOf windowFields slot))
-      → r ≡ shows p → y ≡ splice x windowSize (shownBytes p) → {w : List ℕ} {t : Bool} → t ≡ shows q → v ≡ splice y (windowSize + pictureSize) (shownBytes q)
-      → z ≡ splice v 0 (bytesOf 1 (boolByte r)) → w ≡ splice z 1 (bytesOf 1 (boolByte t)) → w ≡ splice out 0 (listedBytes family.Windows (fieldsOf windowFields 2 slot) (p ∷ q ∷ []))
+  pub window-laid : (p q o : Option (List ℕ)) → newerStart + (newerSize + pictureSize) ≤ length out
+      → x ≡ splice out 0 (recordBytes olderFields (olderPart (bodyOf windowFields slot)))
+      → r ≡ shows p → y ≡ splice x windowSize (shownBytes p) → {t k : Bool} {a b c d : List ℕ} → t ≡ shows q → v ≡ splice y (windowSize + pictureSize) (shownBytes q)
+      → z ≡ splice v newerStart (recordBytes newerFields (newerPart (bodyOf windowFields slot))) → k ≡ shows o → a ≡ splice z (newerStart + newerSize) (shownBytes o)
+      → b ≡ splice a 0 (bytesOf 1 (boolByte r)) → c ≡ splice b 1 (bytesOf 1 (boolByte t)) → d ≡ splice c newerStart (bytesOf 1 (boolByte k))
+      → d ≡ splice out 0 (listedBytes family.Windows (fieldsOf windowFields 2 slot) (p ∷ q ∷ o ∷ []))
   unfolding listedBytes bodyOf roomAll flatten
-  window-laid p q room e rs f ts g h i =
-      let b = bodyOf windowFields slot in
-      marks-put out windowFields b refl e (shownBytes p ++ shownBytes q) (isThere p) (isThere q) (two-put out windowFields b refl e p q room f g)
-      (h ∙ ap (splice v 0) (mark-is p rs)) (i ∙ ap (splice z 1) (mark-is q ts))
-      ∙ ap (λ (k : List ℕ). splice out 0 (recordBytes windowFields (record { first = isThere p; second = isThere q; fields = fieldsOf windowFields 2 slot }) ++ (shownBytes p ++ k)))
-      (sym (append-nil (shownBytes q)))
+  window-laid p q o room e rs f {a = a} {b = b} {c = c} ts g h ks i j k l =
+      let m = olderPart (bodyOf windowFields slot) in
+      let n = newerPart (bodyOf windowFields slot) in
+      let two = shownBytes p ++ shownBytes q in
+      let older = recordBytes olderFields (record { first = isThere p; second = isThere q; fields = m .fields }) in
+      let newer = recordBytes newerFields (record { first = isThere o; second = 0; fields = n .fields }) in
+      third-mark out m n p q o room (record { first = isThere p; second = isThere q; fields = m .fields }) (isThere o)
+      (marks-put out olderFields m refl e (two ++ (recordBytes newerFields n ++ shownBytes o)) (isThere p) (isThere q) (all-put out m n p q o room e f g h i)
+      (j ∙ ap (splice a 0) (mark-is p rs)) (k ∙ ap (splice b 1) (mark-is q ts)))
+      (l ∙ ap (splice c newerStart) (mark-is o ks))
+      ∙ ap (λ (u : List ℕ). splice out 0 (older ++ ((shownBytes p ++ u) ++ (newer ++ shownBytes o)))) (sym (append-nil (shownBytes q)))
+      ∙ ap (λ (u : List ℕ). splice out 0 (older ++ ((shownBytes p ++ (shownBytes q ++ [])) ++ (newer ++ u)))) (sym (append-nil (shownBytes o)))
 
   -- a notification icon
   pub notification-laid : (p : Option (List ℕ)) → notificationSize + pictureSize ≤ length out
@@ -133,6 +219,16 @@ icon-next x f a b e is = ap (λ (k : ℕ). k + 1) is ∙ go (slotOf x f a b) e
   where
     go : (r : Found) → onFound r false (λ i. true) ≡ true
         → onFound r holderCount (λ i. pick (ltb 0 3) (iconNumber i 0) holderCount) + 1 ≡ onFound r holderCount (λ i. pick (ltb 1 3) (iconNumber i 1) holderCount)
+    go Nothing e = no e
+    go (At i) e = omega arith
+
+-- and its third that
+icon-third : (x : List ℕ) (f : Family) (a b : ℕ) → indexOf x .listed f a b ≡ true → {n : ℕ} → n ≡ numberOf (slotOf x) (icon f a b 0) → n + 2 ≡ numberOf (slotOf x) (icon f a b 2)
+unfolding indexOf numberOf
+icon-third x f a b e is = ap (λ (k : ℕ). k + 2) is ∙ go (slotOf x f a b) e
+  where
+    go : (r : Found) → onFound r false (λ i. true) ≡ true
+        → onFound r holderCount (λ i. pick (ltb 0 3) (iconNumber i 0) holderCount) + 2 ≡ onFound r holderCount (λ i. pick (ltb 2 3) (iconNumber i 2) holderCount)
     go Nothing e = no e
     go (At i) e = omega arith
 
@@ -179,14 +275,14 @@ module _ {x bodies : List ℕ} {store : List (List ℕ)} {journal m out : List �
 
   -- a window
   module _ {w : WindowId} (h : HandsOut (Window w) x bodies store journal m out) where
-    pub window-size : length m ≡ 1044
+    pub window-size : length m ≡ 1520
     unfolding wantOf
     window-size = h .size
 
-    pub window-asks : ((windowSize ≤ length out) × (windowSize ≤ length (heldSlot m))) × (fieldsOk windowFields 2 (heldSlot m) ≡ true)
+    pub window-asks : ((windowSize ≤ length out) × (1392 ≤ length (heldSlot family.Windows m))) × (fieldsOk windowFields 2 (heldSlot family.Windows m) ≡ true)
     unfolding validHeld
     window-asks =
-        let n = length-slice m 0 916 (omega (arith, window-size)) in
+        let n = length-slice m 0 1392 (omega (arith, window-size)) in
         ((omega (arith, h .room), omega (arith, n)), h .valid)
 
     pub window-icon : (i : ℕ) → i < 3 → {n : ℕ} → n ≡ numberOf (slotOf x) (icon family.Windows (w .id) 0 i) → n < holderCount
@@ -197,23 +293,36 @@ module _ {x bodies : List ℕ} {store : List (List ℕ)} {journal m out : List �
     unfolding listedIn
     window-big e = icon-next x family.Windows (w .id) 0 (h .listed) e
 
-    pub window-ready : Ready x bodies store journal (slice m 916 128)
+    pub window-ready : Ready x bodies store journal (slice m 1392 128)
     unfolding ReadyFor
     window-ready = h .ready
 
-    pub window-handed : {n k : ℕ} → n ≡ numberOf (slotOf x) (icon family.Windows (w .id) 0 0) → k ≡ numberOf (slotOf x) (icon family.Windows (w .id) 0 1)
-        → {p q r s t : List ℕ} {small big : Bool} → p ≡ splice out 0 (recordBytes windowFields (bodyOf windowFields (heldSlot m)))
-        → small ≡ shows (shown x (heldPictures bodies store journal (slice m 916 128)) n)
-        → q ≡ splice p windowSize (shownBytes (shown x (heldPictures bodies store journal (slice m 916 128)) n))
-        → big ≡ shows (shown x (heldPictures bodies store journal (slice m 916 128)) k)
-        → r ≡ splice q (windowSize + pictureSize) (shownBytes (shown x (heldPictures bodies store journal (slice m 916 128)) k))
-        → s ≡ splice r 0 (bytesOf 1 (boolByte small)) → t ≡ splice s 1 (bytesOf 1 (boolByte big)) → t ≡ splice out 0 (bytesHeld (Window w) x bodies store journal m)
+    pub window-overlay : {n : ℕ} → n ≡ numberOf (slotOf x) (icon family.Windows (w .id) 0 0) → n + 2 ≡ numberOf (slotOf x) (icon family.Windows (w .id) 0 2)
+    unfolding listedIn
+    window-overlay e = icon-third x family.Windows (w .id) 0 (h .listed) e
+
+    pub window-handed : {n k l : ℕ} → n ≡ numberOf (slotOf x) (icon family.Windows (w .id) 0 0) → k ≡ numberOf (slotOf x) (icon family.Windows (w .id) 0 1)
+        → l ≡ numberOf (slotOf x) (icon family.Windows (w .id) 0 2) → {p q r s t u v z : List ℕ} {small big overlay : Bool}
+        → p ≡ splice out 0 (recordBytes olderFields (olderPart (bodyOf windowFields (heldSlot family.Windows m))))
+        → small ≡ shows (shown x (heldPictures bodies store journal (slice m 1392 128)) n)
+        → q ≡ splice p windowSize (shownBytes (shown x (heldPictures bodies store journal (slice m 1392 128)) n))
+        → big ≡ shows (shown x (heldPictures bodies store journal (slice m 1392 128)) k)
+        → r ≡ splice q (windowSize + pictureSize) (shownBytes (shown x (heldPictures bodies store journal (slice m 1392 128)) k))
+        → s ≡ splice r newerStart (recordBytes newerFields (newerPart (bodyOf windowFields (heldSlot family.Windows m))))
+        → overlay ≡ shows (shown x (heldPictures bodies store journal (slice m 1392 128)) l)
+        → t ≡ splice s (newerStart + newerSize) (shownBytes (shown x (heldPictures bodies store journal (slice m 1392 128)) l))
+        → u ≡ splice t 0 (bytesOf 1 (boolByte small)) → v ≡ splice u 1 (bytesOf 1 (boolByte big)) → z ≡ splice v newerStart (bytesOf 1 (boolByte overlay))
+        → z ≡ splice out 0 (bytesHeld (Window w) x bodies store journal m)
     unfolding bytesHeld payloadHeld payloadBytes wantOf
-    window-handed {n = n} {k = k} e f a b c d g i j =
-        let pictures = heldPictures bodies store journal (slice m 916 128) in
-        window-laid out (heldSlot m) (shown x pictures n) (shown x pictures k) (h .room) a b c d g i j
-        ∙ ap (λ (z : ℕ). splice out 0 (listedBytes family.Windows (fieldsOf windowFields 2 (heldSlot m)) (shown x pictures z ∷ shown x pictures k ∷ []))) e
-        ∙ ap (λ (z : ℕ). splice out 0 (listedBytes family.Windows (fieldsOf windowFields 2 (heldSlot m)) (shownIn x pictures (icon family.Windows (w .id) 0 0) ∷ shown x pictures z ∷ []))) f
+    window-handed {n = n} {k = k} {l = l} e f g a b c d i j o p q y z =
+        let pictures = heldPictures bodies store journal (slice m 1392 128) in
+        let fields = fieldsOf windowFields 2 (heldSlot family.Windows m) in
+        let small = shownIn x pictures (icon family.Windows (w .id) 0 0) in
+        let big = shownIn x pictures (icon family.Windows (w .id) 0 1) in
+        window-laid out (heldSlot family.Windows m) (shown x pictures n) (shown x pictures k) (shown x pictures l) (h .room) a b c d i j o p q y z
+        ∙ ap (λ (v : ℕ). splice out 0 (listedBytes family.Windows fields (shown x pictures v ∷ shown x pictures k ∷ shown x pictures l ∷ []))) e
+        ∙ ap (λ (v : ℕ). splice out 0 (listedBytes family.Windows fields (small ∷ shown x pictures v ∷ shown x pictures l ∷ []))) f
+        ∙ ap (λ (v : ℕ). splice out 0 (listedBytes family.Windows fields (small ∷ big ∷ shown x pictures v ∷ []))) g
 
   -- a notification icon
   module _ {w : WindowId} {i : NotifyIconId} (h : HandsOut (Notification w i) x bodies store journal m out) where
@@ -221,8 +330,8 @@ module _ {x bodies : List ℕ} {store : List (List ℕ)} {journal m out : List �
     unfolding wantOf
     notification-size = h .size
 
-    pub notification-asks : ((16 ≤ 22) × (22 ≤ 24) × (2 + roomAll notificationFields ≤ length out) × (2 + roomAll notificationFields ≤ length (heldSlot m)))
-        × (fieldsOk notificationFields 2 (heldSlot m) ≡ true)
+    pub notification-asks : ((23 ≤ 29) × (29 ≤ 31) × (2 + roomAll notificationFields ≤ length out) × (2 + roomAll notificationFields ≤ length (heldSlot family.Notifications m)))
+        × (fieldsOk notificationFields 2 (heldSlot family.Notifications m) ≡ true)
     unfolding roomAll validHeld
     notification-asks =
         let n = length-slice m 0 916 (omega (arith, notification-size)) in
@@ -237,15 +346,15 @@ module _ {x bodies : List ℕ} {store : List (List ℕ)} {journal m out : List �
     notification-ready = h .ready
 
     pub notification-handed : {n : ℕ} → n ≡ numberOf (slotOf x) (icon family.Notifications (w .id) (i .id) 0) → {p q r s : List ℕ} {own : Bool}
-        → p ≡ splice out 0 (recordBytes notificationFields (bodyOf notificationFields (heldSlot m)))
+        → p ≡ splice out 0 (recordBytes notificationFields (bodyOf notificationFields (heldSlot family.Notifications m)))
         → own ≡ shows (shown x (heldPictures bodies store journal (slice m 916 128)) n)
         → q ≡ splice p notificationSize (shownBytes (shown x (heldPictures bodies store journal (slice m 916 128)) n))
         → r ≡ splice q 0 (bytesOf 1 (boolByte own)) → s ≡ splice r 1 (bytesOf 1 0) → s ≡ splice out 0 (bytesHeld (Notification w i) x bodies store journal m)
     unfolding bytesHeld payloadHeld payloadBytes wantOf
     notification-handed {n = n} e a b c d g =
         let pictures = heldPictures bodies store journal (slice m 916 128) in
-        notification-laid out (heldSlot m) (shown x pictures n) (h .room) a b c d g
-        ∙ ap (λ (z : ℕ). splice out 0 (listedBytes family.Notifications (fieldsOf notificationFields 2 (heldSlot m)) (shown x pictures z ∷ []))) e
+        notification-laid out (heldSlot family.Notifications m) (shown x pictures n) (h .room) a b c d g
+        ∙ ap (λ (z : ℕ). splice out 0 (listedBytes family.Notifications (fieldsOf notificationFields 2 (heldSlot family.Notifications m)) (shown x pictures z ∷ []))) e
 
   -- a cell
   module _ {cache entry : ℕ} (h : HandsOut (Cell cache entry) x bodies store journal m out) where
@@ -274,7 +383,7 @@ module _ {x bodies : List ℕ} {store : List (List ℕ)} {journal m out : List �
 
   -- the desktop state, the lists, and whether two share
   pub desktop-asks : HandsOut Desktop x bodies store journal m out
-      → ((22 ≤ 24) × (24 ≤ 24) × (2 + roomAll desktopFields ≤ length out) × (2 + roomAll desktopFields ≤ length m)) × (fieldsOk desktopFields 2 m ≡ true)
+      → ((29 ≤ 31) × (31 ≤ 31) × (2 + roomAll desktopFields ≤ length out) × (2 + roomAll desktopFields ≤ length m)) × (fieldsOk desktopFields 2 m ≡ true)
   unfolding roomAll wantOf validHeld
   desktop-asks h = ((omega arith, omega arith, omega (arith, h .room), omega (arith, h .size)), h .valid)
 

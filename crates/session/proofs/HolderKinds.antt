@@ -2,7 +2,7 @@
 use Prim.Native.Nat.{ℕ, _≤_, _<_}
 use mathlib.Core.Path.{_≡_, sym}
 use borrow.Author.Tests.{ne-eqb, lt-ltb, le-ltb}
-use Rattle.session.specs.declared.PictureHolder.the-variants.{Cell, Small, Big, Notification}
+use Rattle.session.specs.declared.PictureHolder.the-variants.{Cell, Small, Big, Overlay, Notification}
 use Rattle.session.specs.Holders.{capped, holderFrom}
 
 pub capped-most : (most v : ℕ) → most < v → most ≡ capped most v
@@ -24,7 +24,11 @@ module _ (kind a b : ℕ) where
   unfolding holderFrom
   is-notification e = rw e
 
-  pub is-cell : (kind ≡ 1 → ⊥) → (kind ≡ 2 → ⊥) → (kind ≡ 3 → ⊥) → {cache entry : ℕ} → cache ≡ capped 255 a → entry ≡ capped 65535 b
+  pub is-overlay : kind ≡ 4 → Overlay (record { id = a }) ≡ holderFrom kind a b
+  unfolding holderFrom
+  is-overlay e = rw e
+
+  pub is-cell : (kind ≡ 1 → ⊥) → (kind ≡ 2 → ⊥) → (kind ≡ 3 → ⊥) → (kind ≡ 4 → ⊥) → {cache entry : ℕ} → cache ≡ capped 255 a → entry ≡ capped 65535 b
       → Cell cache entry ≡ holderFrom kind a b
   unfolding holderFrom
-  is-cell x y z c e = rw (ne-eqb kind 1 x, ne-eqb kind 2 y, ne-eqb kind 3 z, c, e)
+  is-cell x y z w c e = rw (ne-eqb kind 1 x, ne-eqb kind 2 y, ne-eqb kind 3 z, ne-eqb kind 4 w, c, e)

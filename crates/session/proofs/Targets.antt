@@ -98,6 +98,10 @@ module _ (d : List ℕ) where
   unfolding holderOf
   big-number w e = e
 
+  pub overlay-number : (w : WindowId) {n : ℕ} → n ≡ numberOf (slotOf d) (icon family.Windows (w .id) 0 2) → n ≡ numberOf (slotOf d) (holderOf (holder.Overlay w))
+  unfolding holderOf
+  overlay-number w e = e
+
   pub notification-number : (w : WindowId) (i : NotifyIconId) {n : ℕ} → n ≡ numberOf (slotOf d) (icon family.Notifications (w .id) (i .id) 0)
       → n ≡ numberOf (slotOf d) (holderOf (holder.Notification w i))
   unfolding holderOf

@@ -79,11 +79,12 @@ unfoldable pub holderOf : PictureHolder → Holder
 holderOf (holder.Cell cache entry) = cell (cellNumber cache entry)
 holderOf (holder.Small w) = icon family.Windows (w .id) 0 0
 holderOf (holder.Big w) = icon family.Windows (w .id) 0 1
+holderOf (holder.Overlay w) = icon family.Windows (w .id) 0 2
 holderOf (holder.Notification w n) = icon family.Notifications (w .id) (n .id) 0
 
--- the icons of a record: a window's small and big one, a notification icon's own
+-- the icons of a record: a window's small, big and overlay one, a notification icon's own
 abbrev pub iconsShown : Table → Family → ℕ → ℕ → List (Option (List ℕ))
-iconsShown t family.Windows a b = t .shown (icon family.Windows a b 0) ∷ t .shown (icon family.Windows a b 1) ∷ []
+iconsShown t family.Windows a b = t .shown (icon family.Windows a b 0) ∷ t .shown (icon family.Windows a b 1) ∷ t .shown (icon family.Windows a b 2) ∷ []
 iconsShown t family.Notifications a b = t .shown (icon family.Notifications a b 0) ∷ []
 
 -- what a table has of a record

@@ -26,8 +26,8 @@ bytesHeld target x bodies store journal m = payloadBytes target (payloadHeld tar
 
 -- the memory is in its sets
 unfoldable pub validHeld : LookupTarget → List ℕ → Bool
-validHeld (Window w) m = fieldsOk (fieldRows family.Windows) 2 (heldSlot m)
-validHeld (Notification w n) m = fieldsOk (fieldRows family.Notifications) 2 (heldSlot m)
+validHeld (Window w) m = fieldsOk (fieldRows family.Windows) 2 (heldSlot family.Windows m)
+validHeld (Notification w n) m = fieldsOk (fieldRows family.Notifications) 2 (heldSlot family.Notifications m)
 validHeld (Cell cache entry) m = true
 validHeld Desktop m = fieldsOk desktopFields 2 m
 validHeld Windows m = true

@@ -4,14 +4,14 @@ use mathlib.Core.Path.{_≡_}
 use mathlib.Core.List.{List, [], _∷_, _++_, map, flatten}
 use mathlib.Core.Option.{Option}
 use lib.Dec.{eqb, ltb}
-use lib.ListN.{length}
+use lib.ListN.{length, take, drop}
 use Rattle.wire.specs.Tests.{pick, both}
 use Rattle.wire.specs.Parts.{splice}
 use Rattle.ids.specs.Ids.{listSize, listBytes}
-use Rattle.body.specs.Bodies.{desktopFields}
+use Rattle.body.specs.Bodies.{notificationFields, desktopFields}
 use Rattle.places.specs.declared.Family.{Family}
-use Rattle.table.specs.Table.{fieldRows}
-use Rattle.layout.specs.Layouts.{windowSize, notificationSize, desktopSize, pictureSize, recordBytes, pictureBytes}
+use Rattle.places.specs.declared.Family.the-variants as family
+use Rattle.layout.specs.Layouts.{newerStart, newerSize, notificationSize, desktopSize, pictureSize, olderFields, newerFields, olderOf, newerOf, recordBytes, pictureBytes}
 use Rattle.shown.specs.Shown.{isThere, shownBytes}
 use Rattle.journal.specs.View.{Memory, Past, viewOf}
 use Rattle.record.specs.Layout.{recordOf, mostRecord}
@@ -47,9 +47,10 @@ handed r out = record { reply = r; out = out }
 
 -- ---- the fixed layout of what is handed out
 
--- the bytes that a target takes: a record's fields, and a picture for each of its icons
+-- the bytes that a target takes: a record's fields, and a picture for each of its icons; a window's newer fields stand before its
+-- last picture
 abbrev pub layoutSize : LookupTarget → ℕ
-layoutSize (Window w) = windowSize + (pictureSize + pictureSize)
+layoutSize (Window w) = newerStart + (newerSize + pictureSize)
 layoutSize (Notification w n) = notificationSize + pictureSize
 layoutSize (Cell cache entry) = pictureSize
 layoutSize Desktop = desktopSize
@@ -57,7 +58,7 @@ layoutSize Windows = listSize
 layoutSize Notifications = listSize
 layoutSize (Shares g k) = 1
 
--- the two marks of a record say which of its icons show a picture
+-- the marks of a record say which of its icons show a picture
 abbrev pub firstThere : List (Option (List ℕ)) → ℕ
 firstThere [] = 0
 firstThere (p ∷ ps) = isThere p
@@ -66,10 +67,24 @@ abbrev pub secondThere : List (Option (List ℕ)) → ℕ
 secondThere [] = 0
 secondThere (p ∷ ps) = firstThere ps
 
+abbrev pub thirdThere : List (Option (List ℕ)) → ℕ
+thirdThere [] = 0
+thirdThere (p ∷ ps) = secondThere ps
+
+-- the pictures before the newer fields, and after them
+abbrev pub picturesBytes : List (Option (List ℕ)) → List ℕ
+picturesBytes pictures = flatten (map shownBytes pictures)
+
+-- a window as two records, each with pictures after it; a notification icon as one
 unfoldable pub listedBytes : Family → List (List ℕ) → List (Option (List ℕ)) → List ℕ
-listedBytes f fields pictures =
-    recordBytes (fieldRows f) (record { first = firstThere pictures; second = secondThere pictures; fields = fields })
-    ++ flatten (map shownBytes pictures)
+listedBytes family.Windows fields pictures =
+    recordBytes olderFields (record { first = firstThere pictures; second = secondThere pictures; fields = olderOf fields })
+    ++ (picturesBytes (take 2 pictures)
+    ++ (recordBytes newerFields (record { first = thirdThere pictures; second = 0; fields = newerOf fields })
+    ++ picturesBytes (drop 2 pictures)))
+listedBytes family.Notifications fields pictures =
+    recordBytes notificationFields (record { first = firstThere pictures; second = secondThere pictures; fields = fields })
+    ++ picturesBytes pictures
 
 unfoldable pub payloadBytes : LookupTarget → Payload → List ℕ
 payloadBytes target nothing = []

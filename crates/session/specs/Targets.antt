@@ -42,15 +42,16 @@ listedIn (Shares g k) d = both (d .sharing .shares (holderOf g) (holderOf g)) (d
 
 -- the pictures of a record's icons
 abbrev pub iconsHeld : List ℕ → (ℕ → List ℕ) → Family → ℕ → ℕ → List (Option (List ℕ))
-iconsHeld d pictures family.Windows a b = shownIn d pictures (icon family.Windows a b 0) ∷ shownIn d pictures (icon family.Windows a b 1) ∷ []
+iconsHeld d pictures family.Windows a b =
+    shownIn d pictures (icon family.Windows a b 0) ∷ shownIn d pictures (icon family.Windows a b 1) ∷ shownIn d pictures (icon family.Windows a b 2) ∷ []
 iconsHeld d pictures family.Notifications a b = shownIn d pictures (icon family.Notifications a b 0) ∷ []
 
 -- what the index d of the present table, the memory m of the target and the pictures at the places hold
 unfoldable pub payloadHeld : LookupTarget → List ℕ → List ℕ → (ℕ → List ℕ) → Payload
 payloadHeld (Window w) d m pictures =
-    listed family.Windows (fieldsOf (fieldRows family.Windows) 2 (heldSlot m)) (iconsHeld d pictures family.Windows (w .id) 0)
+    listed family.Windows (fieldsOf (fieldRows family.Windows) 2 (heldSlot family.Windows m)) (iconsHeld d pictures family.Windows (w .id) 0)
 payloadHeld (Notification w n) d m pictures =
-    listed family.Notifications (fieldsOf (fieldRows family.Notifications) 2 (heldSlot m)) (iconsHeld d pictures family.Notifications (w .id) (n .id))
+    listed family.Notifications (fieldsOf (fieldRows family.Notifications) 2 (heldSlot family.Notifications m)) (iconsHeld d pictures family.Notifications (w .id) (n .id))
 payloadHeld (Cell cache entry) d m pictures = aPicture (shownIn d pictures (cell (cellNumber cache entry)))
 payloadHeld Desktop d m pictures = body (bodyOf desktopFields m)
 payloadHeld Windows d m pictures = ids family.Windows (idsIn (indexOf d) family.Windows)

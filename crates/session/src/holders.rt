@@ -23,7 +23,7 @@ fn entry_of(b: u32) -> u16
     b as u16
 }
 
-// 1 a window's small icon, 2 its big one, 3 a notification icon, any other a cell.
+// 1 a window's small icon, 2 its big one, 3 a notification icon, 4 a window's overlay icon, any other a cell.
 pub fn holder_of(kind: u8, a: u32, b: u32) -> PictureHolder
     ensures { λ r. ⌜ r ≡ holderFrom kind a b ⌝ }
 {
@@ -35,6 +35,9 @@ pub fn holder_of(kind: u8, a: u32, b: u32) -> PictureHolder
     }
     if kind == 3 {
         return PictureHolder::Notification(WindowId { id: a }, NotifyIconId { id: b });
+    }
+    if kind == 4 {
+        return PictureHolder::Overlay(WindowId { id: a });
     }
     PictureHolder::Cell(cache_of(a), entry_of(b))
 }

@@ -26,11 +26,12 @@ pub struct Reply {
     pub bytes: u32,
 }
 
-// Who shows a picture: a cell by cache id and entry, a window's small or big icon, or a notification icon.
+// Who shows a picture: a cell by cache id and entry, a window's small, big or overlay icon, or a notification icon.
 pub enum PictureHolder {
     Cell(u8, u16),
     Small(WindowId),
     Big(WindowId),
+    Overlay(WindowId),
     Notification(WindowId, NotifyIconId),
 }
 

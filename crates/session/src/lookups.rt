@@ -27,6 +27,16 @@ use places::Found;
 use protocol::NotifyIconId;
 use protocol::WindowId;
 
+// Where the parts of a window that is handed out begin: the pictures of its small and its big icon, its newer fields, and the picture
+// of its overlay icon.
+const SMALL_PICTURE: usize = layout::WINDOW;
+
+const BIG_PICTURE: usize = SMALL_PICTURE + layout::PICTURE;
+
+const NEWER: usize = BIG_PICTURE + layout::PICTURE;
+
+const OVERLAY_PICTURE: usize = NEWER + layout::NEWER;
+
 // The cell of a cache and an entry, 12 for one outside the caches.
 fn cell_number(cache: u8, entry: u16) -> usize
     ensures { λ r. ⌜ r ≡ cellNumber cache entry ⌝ }
@@ -66,6 +76,7 @@ fn holder_number(d: &[u8], g: PictureHolder) -> usize
         }
         PictureHolder::Small(w) => icon_number(d, Family::Windows, w, NotifyIconId { id: 0 }, 0),
         PictureHolder::Big(w) => icon_number(d, Family::Windows, w, NotifyIconId { id: 0 }, 1),
+        PictureHolder::Overlay(w) => icon_number(d, Family::Windows, w, NotifyIconId { id: 0 }, 2),
         PictureHolder::Notification(w, n) => icon_number(d, Family::Notifications, w, n, 0),
     }
 }
@@ -141,7 +152,7 @@ fn size_of(target: LookupTarget) -> usize
     ensures { λ r. ⌜ r ≡ layoutSize target ⌝ }
 {
     match target {
-        LookupTarget::Window(_) => layout::WINDOW + 2 * layout::PICTURE,
+        LookupTarget::Window(_) => OVERLAY_PICTURE + layout::PICTURE,
         LookupTarget::Notification(_, _) => layout::NOTIFICATION + layout::PICTURE,
         LookupTarget::Cell(_, _) => layout::PICTURE,
         LookupTarget::Desktop => layout::DESKTOP,
@@ -151,7 +162,8 @@ fn size_of(target: LookupTarget) -> usize
     }
 }
 
-// Hands out a window: its fields, then the pictures of its small and its big icon; its two marks say which are there.
+// Hands out a window: its older fields, the pictures of its small and its big icon, its newer fields, and the picture of its overlay
+// icon; a mark says of each picture whether it is there.
 fn window(
     out: &mut [u8],
     x: &[u8],
@@ -171,11 +183,13 @@ fn window(
     let none = NotifyIconId { id: 0 };
     let small = icon_number(x, Family::Windows, w, none, 0);
     let big = small + 1;
-    let origins = &m[body::SLOT..follow::RECORD];
-    layout::window(out, &m[0..body::SLOT]);
+    let overlay = small + 2;
+    let origins = &m[body::WINDOW..follow::WINDOW];
+    let slot = &m[0..body::WINDOW];
+    layout::window(out, slot);
     let s = shown::holder(
         out,
-        layout::WINDOW,
+        SMALL_PICTURE,
         x,
         small,
         bodies,
@@ -187,10 +201,38 @@ fn window(
         journal,
         origins,
     );
-    let at = layout::WINDOW + layout::PICTURE;
-    let t = shown::holder(out, at, x, big, bodies, a, b, c, d, e, journal, origins);
+    let t = shown::holder(
+        out,
+        BIG_PICTURE,
+        x,
+        big,
+        bodies,
+        a,
+        b,
+        c,
+        d,
+        e,
+        journal,
+        origins,
+    );
+    layout::newer(out, NEWER, slot);
+    let u = shown::holder(
+        out,
+        OVERLAY_PICTURE,
+        x,
+        overlay,
+        bodies,
+        a,
+        b,
+        c,
+        d,
+        e,
+        journal,
+        origins,
+    );
     wire::write_u8(out, 0, s as u8);
     wire::write_u8(out, 1, t as u8);
+    wire::write_u8(out, NEWER, u as u8);
 }
 
 // Hands out a notification icon: its fields, then its picture; its first mark says whether that is there.
@@ -212,8 +254,8 @@ fn notification(
     ensures { λ _. ⌜ now (out .exit) ≡ splice (now (out .entry)) 0 (bytesHeld (target.Notification w n) (now (x .entry)) (now (bodies .entry)) (five (now (a .entry)) (now (b .entry)) (now (c .entry)) (now (d .entry)) (now (e .entry))) (now (journal .entry)) (now (m .entry))) ⌝ }
 {
     let own = icon_number(x, Family::Notifications, w, n, 0);
-    let origins = &m[body::SLOT..follow::RECORD];
-    layout::record(out, &m[0..body::SLOT], 16, 22);
+    let origins = &m[body::OTHER..follow::NOTIFICATION];
+    layout::record(out, &m[0..body::OTHER], 23, 29);
     let at = layout::NOTIFICATION;
     let s = shown::holder(out, at, x, own, bodies, a, b, c, d, e, journal, origins);
     wire::write_u8(out, 0, s as u8);
@@ -268,7 +310,7 @@ fn hand_out(
         LookupTarget::Cell(cache, entry) => {
             cell(out, x, bodies, a, b, c, d, e, journal, m, cache, entry)
         }
-        LookupTarget::Desktop => layout::record(out, m, 22, 24),
+        LookupTarget::Desktop => layout::record(out, m, 29, 31),
         LookupTarget::Windows => ids::list(out, x, false),
         LookupTarget::Notifications => ids::list(out, x, true),
         LookupTarget::Shares(g, k) => wire::write_u8(out, 0, shares(x, g, k) as u8),
@@ -326,11 +368,11 @@ pub fn look(
 {
     match target {
         LookupTarget::Window(_) => {
-            let mut m = [0u8; follow::RECORD];
+            let mut m = [0u8; follow::WINDOW];
             look_in(index, bodies, a, b, c, d, e, journal, target, &mut m, out)
         }
         LookupTarget::Notification(_, _) => {
-            let mut m = [0u8; follow::RECORD];
+            let mut m = [0u8; follow::NOTIFICATION];
             look_in(index, bodies, a, b, c, d, e, journal, target, &mut m, out)
         }
         LookupTarget::Cell(_, _) => {
@@ -338,7 +380,7 @@ pub fn look(
             look_in(index, bodies, a, b, c, d, e, journal, target, &mut m, out)
         }
         LookupTarget::Desktop => {
-            let mut m = [0u8; body::SLOT];
+            let mut m = [0u8; body::OTHER];
             look_in(index, bodies, a, b, c, d, e, journal, target, &mut m, out)
         }
         LookupTarget::Windows => {

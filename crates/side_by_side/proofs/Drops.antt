@@ -11,7 +11,7 @@ use Rattle.wire.proofs.Tests.{both-left, both-right}
 use Rattle.places.specs.declared.Family.the-variants as family
 use Rattle.places.specs.Counts.{one}
 use Rattle.places.specs.Sharing.{Sharing, drop, dropAll}
-use Rattle.places.specs.Holder.{Holder, sameHolder, iconsOf}
+use Rattle.places.specs.Holder.{Holder, icon, sameHolder, iconsOf}
 use Rattle.side_by_side.specs.SideBySide.{Fair}
 use Rattle.side_by_side.proofs.Commute.{never, none-swap}
 
@@ -120,14 +120,25 @@ module _ {H : Type 0} (same : H → H → Bool) where
       all-commute hs ks (drop same h t) (fair-drop t f h) (both-right (apartFrom h ks) (allApart hs ks) e)
       ∙ ap (dropAll same hs) (one-commutes ks t f h (both-left (apartFrom h ks) (allApart hs ks) e))
 
--- two deleted family.Windows
-pub windows-apart : (a b : ℕ) → (a ≡ b → ⊥) → allApart sameHolder (iconsOf family.Windows a 0) (iconsOf family.Windows b 0) ≡ true
-windows-apart a b n =
-    let e : eqb a b ≡ false = ne-eqb a b n in
-    let f : eqb b a ≡ false = ne-eqb b a (λ z. n (sym z)) in
-    rw (e, f)
+-- of a window: all its icons, icon w alone, or none
+abbrev pub goneOf : Bool → Bool → ℕ → ℕ → List Holder
+goneOf deleted overlay a w = pick deleted (iconsOf family.Windows a 0) (pick overlay (icon family.Windows a 0 w ∷ []) [])
 
-pub deletions-commute : (t : Sharing Holder) → Fair t → (a b : ℕ) → (a ≡ b → ⊥)
-    → dropAll sameHolder (iconsOf family.Windows b 0) (dropAll sameHolder (iconsOf family.Windows a 0) t)
-    ≡ dropAll sameHolder (iconsOf family.Windows a 0) (dropAll sameHolder (iconsOf family.Windows b 0) t)
-deletions-commute t f a b n = all-commute sameHolder (iconsOf family.Windows a 0) (iconsOf family.Windows b 0) t f (windows-apart a b n)
+-- those of two windows
+pub gone-apart : (a b w v : ℕ) → (a ≡ b → ⊥) → (d k e l : Bool) → allApart sameHolder (goneOf d k a w) (goneOf e l b v) ≡ true
+gone-apart a b w v n d k e l = go d k e l
+  where
+    x : eqb a b ≡ false
+    x = ne-eqb a b n
+
+    y : eqb b a ≡ false
+    y = ne-eqb b a (λ z. n (sym z))
+
+    go : (d k e l : Bool) → allApart sameHolder (goneOf d k a w) (goneOf e l b v) ≡ true
+    go true k true l = rw (x, y)
+    go true k false true = rw (x, y)
+    go true k false false = refl
+    go false true true l = rw (x, y)
+    go false true false true = rw (x, y)
+    go false true false false = refl
+    go false false e l = refl

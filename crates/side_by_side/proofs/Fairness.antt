@@ -19,7 +19,7 @@ use Rattle.places.specs.Keyed.{keyed}
 use Rattle.places.specs.Holder.{Holder, cell, sameHolder, isCellHolder, iconsOf, numberOf}
 use Rattle.places.proofs.Pointers.{eqb-sym}
 use Rattle.index.specs.declared.RecordOrder.{RecordOrder}
-use Rattle.index.specs.Orders.{onJudged, isDelete, bringsIcon, bringsCached, cellAt, pointerOf, holdersOf}
+use Rattle.index.specs.Orders.{onJudged, isDelete, bringsIcon, bringsCached, clearsOverlay, cellAt, pointerOf, holdersOf}
 use Rattle.index.specs.Slots.{slotOf}
 use Rattle.index.specs.Index.{Index, numberIn, pictured, changeRecord, changeDesktop, emptyIndex, indexAfter}
 use Rattle.index.specs.Memory.{indexOf}
@@ -144,15 +144,17 @@ fair-cells isCell at t f =
 module _ (d : Index) (f : Fair (d .sharing)) (s : List ℕ) where
   pictured-fair : (o : RecordOrder) → Fair (pictured s o (d .sharing))
   unfolding pictured
-  pictured-fair o = go (bringsIcon (o .flags)) (bringsCached (o .flags))
+  pictured-fair o = go (bringsIcon (o .flags)) (bringsCached (o .flags)) (clearsOverlay (o .flags))
     where
-      go : (t u : Bool)
+      go : (t u n : Bool)
           → Fair (pick t (taken sameHolder (holdersOf s o) (d .sharing))
-          (pick u (join sameHolder (pointerOf o) (cell (cellAt s (o .icon))) (drop sameHolder (pointerOf o) (d .sharing))) (d .sharing)))
-      go true u = fair-taken sameHolder (d .sharing) f (holdersOf s o)
-      go false true =
+          (pick u (join sameHolder (pointerOf o) (cell (cellAt s (o .icon))) (drop sameHolder (pointerOf o) (d .sharing)))
+          (pick n (drop sameHolder (pointerOf o) (d .sharing)) (d .sharing))))
+      go true u n = fair-taken sameHolder (d .sharing) f (holdersOf s o)
+      go false true n =
           fair-join sameHolder (drop sameHolder (pointerOf o) (d .sharing)) (fair-drop sameHolder (d .sharing) f (pointerOf o)) (pointerOf o) (cell (cellAt s (o .icon)))
-      go false false = f
+      go false false true = fair-drop sameHolder (d .sharing) f (pointerOf o)
+      go false false false = f
 
   record-fair : (o : RecordOrder) → Fair (changeRecord d s o .sharing)
   unfolding changeRecord

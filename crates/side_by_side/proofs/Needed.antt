@@ -2,7 +2,7 @@
 use Prim.Native.Nat.{ℕ}
 use mathlib.Core.Path.{_≡_, refl, sym, ap, subst, _∙_}
 use mathlib.Core.Bool.{true}
-use mathlib.Core.List.{[], _∷_}
+use mathlib.Core.List.{List, [], _∷_}
 use native.Mathlib.Omega.{arith}
 use lib.ListN.{length, getD}
 use Rattle.wire.specs.Numbers.{numAt, numsAt}
@@ -14,7 +14,8 @@ use Rattle.places.specs.declared.Family.the-variants.{Windows}
 use Rattle.places.specs.Sharing.{Sharing, drop, dropAll}
 use Rattle.places.specs.Holder.{Holder}
 use Rattle.index.specs.Index as index
-use Rattle.body.specs.Bodies.{setFlagged, emptyFields, emptyBody}
+use Rattle.body.specs.Bodies.{windowFields, setFlagged, beginsAt, carriedAt, emptyFields, emptyBody}
+use Rattle.body.proofs.Each.{set-at}
 use Rattle.table.specs.Table.{Table, emptied, number, recordFields, fieldsAfter, shownAfter, changeRecord, after}
 use Rattle.journal.specs.State.{State, run, present, bytesIn}
 use Rattle.session.specs.Calls.{answer, next}
@@ -37,6 +38,11 @@ record Sized (s : State) (n orders bytes : ℕ) : Type 0 where
   many : present s .index .many Windows ≡ n
   orders-are : length (s .log) ≡ orders
   bytes-are : bytesIn (s .log) ≡ bytes
+
+-- whatever the fields were, a title is set
+titled : (letter : ℕ) (old : List (List ℕ)) → getD (getD (setFlagged windowFields 0x01000004 (titleWindow 7 letter) 11 old) 3 []) 2 0 ≡ letter
+unfolding carriedAt beginsAt numAt slice firstOf lenOf
+titled letter old = ap (λ (f : List ℕ). getD f 2 0) (set-at windowFields 0x01000004 (titleWindow 7 letter) 11 old 3 (omega arith))
 
 record Computed : Type 0 where
   thirty-one : AtThirtyOne
@@ -62,15 +68,15 @@ record Computed : Type 0 where
   delete-8 : edits 8 (judgeOf (deleteWindow 8)) ≡ true
 
 computed : Computed
-unfolding AtThirtyOne RoomForOne OneWindow Uncounted Uneven delivered newWindows numAt numsAt slice firstOf lenOf okOf cutOf fieldOf stepOf walkOf pictureFit flagsOf orderOf fieldsFit judgeOf drop index.recordNumber index.notThere index.noRoom index.noPicture index.noPlace index.numberIn index.pictured index.changeRecord index.emptyIndex setFlagged emptyFields emptyBody emptied number recordFields fieldsAfter shownAfter changeRecord after run bytesIn answer next
+unfolding AtThirtyOne RoomForOne OneWindow Uncounted Uneven delivered newWindows numAt numsAt slice firstOf lenOf okOf cutOf fieldOf stepOf walkOf pictureFit flagsOf orderOf fieldsFit judgeOf drop index.recordNumber index.notThere index.noRoom index.noPicture index.noPlace index.numberIn index.pictured index.changeRecord index.emptyIndex emptyFields emptyBody emptied number recordFields fieldsAfter shownAfter changeRecord after run bytesIn answer next
 computed =
     record {
       thirty-one = (refl, record { a-first = refl; then-b = refl; b-first = refl; then-a = refl });
       no-room = record { a-first = refl; then-b = refl; b-first = refl; then-a = refl };
       one = record { a-first = refl; then-b = refl; b-first = refl; then-a = refl };
       titles = record { a-first = refl; then-b = refl; b-first = refl; then-a = refl };
-      second-letter = refl;
-      first-letter = refl;
+      second-letter = titled 0x42 _;
+      first-letter = titled 0x41 _;
       not-counted = (record { a-first = refl; then-b = refl; b-first = refl; then-a = refl }, refl, refl);
       not-even = (record { a-first = refl; then-b = refl; b-first = refl; then-a = refl }, refl, refl);
       crowded-size = record { many = refl; orders-are = refl; bytes-are = refl };

@@ -8,7 +8,7 @@ use mathlib.Core.Option.{Option, none}
 use native.Mathlib.Omega.{arith}
 use lib.Dec.{eqb, leb}
 use borrow.Author.Tests.{eqb-true, ne-eqb, not-true}
-use Rattle.wire.specs.Tests.{pick, both, has}
+use Rattle.wire.specs.Tests.{pick, both, either, has}
 use Rattle.wire.proofs.Tests.{both-left, both-right}
 use Rattle.order.specs.declared.WindowOrder.{WindowOrder}
 use Rattle.order.specs.declared.Judged.{Judged}
@@ -18,9 +18,9 @@ use Rattle.order.proofs.Accepted.{a-window}
 use Rattle.places.specs.declared.Family.{Family}
 use Rattle.places.specs.declared.Family.the-variants.{Windows, Notifications}
 use Rattle.places.specs.Sharing.{Sharing, isOne, dropAll}
-use Rattle.places.specs.Holder.{Holder, sameHolder, iconsOf}
+use Rattle.places.specs.Holder.{Holder, icon, sameHolder, iconsOf}
 use Rattle.index.specs.Families.{capacity, sameRecord}
-use Rattle.index.specs.Orders.{onJudged, isNew, isDelete, bringsIcon, bringsCached}
+use Rattle.index.specs.Orders.{onJudged, isNew, isDelete, bringsIcon, bringsCached, clearsOverlay, whichOf}
 use Rattle.index.specs.Index as index
 use Rattle.index.proofs.After.{same-index}
 use Rattle.index.proofs.Ordered.{deleted-old, windowOrder}
@@ -30,7 +30,7 @@ use Rattle.table.proofs.Joined.{same-table}
 use Rattle.protocol.specs.Flags.{flagIcon, flagCachedIcon}
 use Rattle.side_by_side.specs.SideBySide.{edits, PlacesCount, Counts}
 use Rattle.side_by_side.proofs.Commute.{never, Apart, first-number, second-number, same-end, keyed-number, edit, edit-other, edits-commute, none-swap, countBy, count-next, counts-commute}
-use Rattle.side_by_side.proofs.Drops.{deletions-commute}
+use Rattle.side_by_side.proofs.Drops.{goneOf, gone-apart, all-commute}
 
 -- ---- fact 1: the number of a window order without icon and cell depends on whether its window is listed and on the count alone
 
@@ -112,8 +112,12 @@ module _ (s : List ℕ) (o : WindowOrder) where
   abbrev pub atWindow : Key
   atWindow = key Windows (o .window .id) 0
 
-  abbrev pub icons : List Holder
-  icons = iconsOf Windows (o .window .id) 0
+  abbrev pub overlayNone : Bool
+  overlayNone = clearsOverlay (o .flags)
+
+  -- the holders that let their places go: all of a deleted window, or its overlay icon
+  abbrev pub letGo : List Holder
+  letGo = goneOf deleted overlayNone (o .window .id) (whichOf (o .flags))
 
   module _ (t : Table) where
     abbrev pub changed : Table
@@ -166,33 +170,32 @@ module _ (s : List ℕ) (o : WindowOrder) where
     desktop-is = refl
 
     module _ (noIcon : bringsIcon (o .flags) ≡ false) (noCell : bringsCached (o .flags) ≡ false) where
-      pub sharing-is : changed .index .sharing ≡ pick deleted (dropAll sameHolder icons (t .index .sharing)) (t .index .sharing)
+      pub sharing-is : changed .index .sharing ≡ dropAll sameHolder letGo (t .index .sharing)
       unfolding changeRecord index.changeRecord index.pictured
-      sharing-is = go deleted refl
+      sharing-is = go deleted overlayNone refl refl
         where
-          go : (d : Bool) → deleted ≡ d → changed .index .sharing ≡ pick deleted (dropAll sameHolder icons (t .index .sharing)) (t .index .sharing)
-          go true h = rw h
-          go false h = rw (h, noIcon, noCell)
+          go : (d v : Bool) → deleted ≡ d → overlayNone ≡ v → changed .index .sharing ≡ dropAll sameHolder letGo (t .index .sharing)
+          go true v h k = rw h
+          go false true h k = rw (h, noIcon, noCell, k)
+          go false false h k = rw (h, noIcon, noCell, k)
 
-      pub shown-are : (h : Holder) → changed .shown h ≡ pick (both deleted (isOne sameHolder icons h)) none (t .shown h)
+      pub shown-are : (h : Holder) → changed .shown h ≡ pick (isOne sameHolder letGo h) none (t .shown h)
       unfolding changeRecord shownAfter
-      shown-are h = rw (noIcon, noCell) (go deleted)
+      shown-are h = rw (noIcon, noCell) (go deleted overlayNone)
         where
-          go : (d : Bool) → pick d (pick (isOne sameHolder icons h) none (t .shown h)) (t .shown h) ≡ pick (both d (isOne sameHolder icons h)) none (t .shown h)
-          go true = refl
-          go false = refl
+          only : (u : Bool) → pick u none (t .shown h) ≡ pick (either u false) none (t .shown h)
+          only true = refl
+          only false = refl
+
+          go : (d v : Bool)
+              → pick d (pick (isOne sameHolder (iconsOf Windows (o .window .id) 0) h) none (t .shown h))
+              (pick v (pick (sameHolder h (icon Windows (o .window .id) 0 (whichOf (o .flags)))) none (t .shown h)) (t .shown h))
+              ≡ pick (isOne sameHolder (goneOf d v (o .window .id) (whichOf (o .flags))) h) none (t .shown h)
+          go true v = refl
+          go false true = only (sameHolder h (icon Windows (o .window .id) 0 (whichOf (o .flags))))
+          go false false = refl
 
 -- ---- so changes of two windows commute
-
-drops-swap : (t : Sharing Holder) (p q : ℕ) (da db : Bool) → (da ≡ true → db ≡ true
-    → dropAll sameHolder (iconsOf Windows q 0) (dropAll sameHolder (iconsOf Windows p 0) t)
-    ≡ dropAll sameHolder (iconsOf Windows p 0) (dropAll sameHolder (iconsOf Windows q 0) t))
-    → pick db (dropAll sameHolder (iconsOf Windows q 0) (pick da (dropAll sameHolder (iconsOf Windows p 0) t) t)) (pick da (dropAll sameHolder (iconsOf Windows p 0) t) t)
-    ≡ pick da (dropAll sameHolder (iconsOf Windows p 0) (pick db (dropAll sameHolder (iconsOf Windows q 0) t) t)) (pick db (dropAll sameHolder (iconsOf Windows q 0) t) t)
-drops-swap t p q true true e = e refl refl
-drops-swap t p q true false e = refl
-drops-swap t p q false true e = refl
-drops-swap t p q false false e = refl
 
 module _ (t : Table) (a b : List ℕ) (o r : WindowOrder) (n : o .window .id ≡ r .window .id → ⊥) where
   abbrev with-a : Table → Table
@@ -224,19 +227,18 @@ module _ (t : Table) (a b : List ℕ) (o r : WindowOrder) (n : o .window .id ≡
     sharing-swap : PlacesCount t → with-b (with-a t) .index .sharing ≡ with-a (with-b t) .index .sharing
     sharing-swap f =
         sharing-is b r (with-a t) (q .noIcon) (q .noCell)
-        ∙ ap (λ (u : Sharing Holder). pick (deleted b r) (dropAll sameHolder (icons b r) u) u) (sharing-is a o t (p .noIcon) (p .noCell))
-        ∙ drops-swap (t .index .sharing) (o .window .id) (r .window .id) (deleted a o) (deleted b r)
-        (λ da db. deletions-commute (t .index .sharing) f (o .window .id) (r .window .id) n)
-        ∙ sym (sharing-is a o (with-b t) (p .noIcon) (p .noCell)
-        ∙ ap (λ (u : Sharing Holder). pick (deleted a o) (dropAll sameHolder (icons a o) u) u) (sharing-is b r t (q .noIcon) (q .noCell)))
+        ∙ ap (dropAll sameHolder (letGo b r)) (sharing-is a o t (p .noIcon) (p .noCell))
+        ∙ all-commute sameHolder (letGo a o) (letGo b r) (t .index .sharing) f
+        (gone-apart (o .window .id) (r .window .id) (whichOf (o .flags)) (whichOf (r .flags)) n (deleted a o) (overlayNone a o) (deleted b r) (overlayNone b r))
+        ∙ sym (sharing-is a o (with-b t) (p .noIcon) (p .noCell) ∙ ap (dropAll sameHolder (letGo a o)) (sharing-is b r t (q .noIcon) (q .noCell)))
 
     shown-swap : (h : Holder) → with-b (with-a t) .shown h ≡ with-a (with-b t) .shown h
     shown-swap h =
         shown-are b r (with-a t) (q .noIcon) (q .noCell) h
-        ∙ ap (pick (both (deleted b r) (isOne sameHolder (icons b r) h)) none) (shown-are a o t (p .noIcon) (p .noCell) h)
-        ∙ none-swap none (both (deleted a o) (isOne sameHolder (icons a o) h)) (both (deleted b r) (isOne sameHolder (icons b r) h)) (t .shown h)
+        ∙ ap (pick (isOne sameHolder (letGo b r) h) none) (shown-are a o t (p .noIcon) (p .noCell) h)
+        ∙ none-swap none (isOne sameHolder (letGo a o) h) (isOne sameHolder (letGo b r) h) (t .shown h)
         ∙ sym (shown-are a o (with-b t) (p .noIcon) (p .noCell) h
-        ∙ ap (pick (both (deleted a o) (isOne sameHolder (icons a o) h)) none) (shown-are b r t (q .noIcon) (q .noCell) h))
+        ∙ ap (pick (isOne sameHolder (letGo a o) h) none) (shown-are b r t (q .noIcon) (q .noCell) h))
 
     pub changes-commute : PlacesCount t → (deleted a o ≡ true → 1 ≤ manyIn t) → (deleted b r ≡ true → 1 ≤ manyIn t) → with-b (with-a t) ≡ with-a (with-b t)
     changes-commute fair f g =

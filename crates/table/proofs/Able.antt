@@ -20,6 +20,7 @@ use Rattle.index.proofs.Ordered.{Ordered}
 use Rattle.index.proofs.Numbered.{Planned}
 use Rattle.picture.specs.Kept.{IconThere}
 use Rattle.table.specs.Changes.{Able, Follows}
+use Rattle.table.proofs.Bodied.{family-room}
 use Rattle.table.proofs.OfKinds.{OfRecord, Planning, changes-record, changes-desktop, changes-none, planning}
 
 -- the icon that an order brings, as judging accepts it
@@ -38,6 +39,7 @@ pub record-able : (x s : List ℕ) (o : RecordOrder) (i place : ℕ) → OfRecor
 record-able x s o i place k p =
     record {
       slot = within-slots (o .family) i (p .placed .within);
+      room = family-room (o .family) i (p .placed .within);
       place = p .small;
       within = k .within;
       fields = k .fields;

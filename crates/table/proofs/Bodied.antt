@@ -12,9 +12,11 @@ use Rattle.places.specs.declared.Family.{Family}
 use Rattle.places.specs.declared.Family.the-variants.{Windows, Notifications}
 use Rattle.order.specs.declared.Row.{Row}
 use Rattle.index.specs.declared.Change.{Change}
-use Rattle.body.specs.Bodies.{Body, desktopFields, setFlagged, fieldsOf, bodyOf, bodyOk, emptyFields, emptyBody}
+use Rattle.body.specs.Bodies.{Body, desktopFields, slotLength, setFlagged, fieldsOf, bodyOf, bodyOk, emptyFields, emptyBody}
 use Rattle.body.specs.Stores.{storeOf, preparedOf, hookedOf, syncedOf, roomAll, EndsWell}
+use Rattle.index.proofs.Soundness.{Within}
 use Rattle.body.proofs.Placed.{All, Placed, placed}
+use Rattle.body.proofs.Slots.{window-length, other-length}
 use Rattle.body.proofs.Stored.{stored}
 use Rattle.body.proofs.Marks.{Fine, fine, stored-body, stored-ok, Marked, marked-body, marked-ok, hooked, synced}
 use Rattle.body.proofs.Fresh.{prepared-body, prepared-ok, length-prepared, window-room, notification-room, desktop-room}
@@ -24,12 +26,13 @@ use Rattle.table.specs.Changes.{slotAfter, desktopSlot, Able}
 -- ---- by family
 
 family-placed : (f : Family) → All Placed (fieldRows f)
-family-placed Windows = placed 1 15
-family-placed Notifications = placed 16 22
+family-placed Windows = placed 1 22
+family-placed Notifications = placed 23 29
 
-pub family-room : (f : Family) → 2 + roomAll (fieldRows f) ≤ 916
-family-room Windows = omega (arith, window-room)
-family-room Notifications = omega (arith, notification-room)
+-- a slot of a family has room for its fields
+pub family-room : (f : Family) (i : ℕ) → Within f i → 2 + roomAll (fieldRows f) ≤ slotLength i
+family-room Windows i w = omega (arith, window-room, window-length i (w .high))
+family-room Notifications i w = omega (arith, notification-room, other-length i (w .low))
 
 pub family-begins : (f : Family) → 1 ≤ fieldsAt f
 family-begins Windows = omega arith
@@ -44,7 +47,7 @@ empty-fields : (rows : List Row) (slot : List ℕ) → bodyOf rows (preparedOf t
 unfolding bodyOf emptyBody
 empty-fields rows slot e = ap (λ (b : Body). b .fields) e
 
-module _ (s : List ℕ) (c : Change) (slot : List ℕ) (long : length slot ≡ 916) (a : Able s c) where
+module _ (s : List ℕ) (c : Change) (slot : List ℕ) (long : 2 + roomAll (fieldRows (c .family)) ≤ length slot) (a : Able s c) where
   abbrev rows : List Row
   rows = fieldRows (c .family)
 
@@ -54,13 +57,13 @@ module _ (s : List ℕ) (c : Change) (slot : List ℕ) (long : length slot ≡ 9
   abbrev ready : List ℕ
   ready = preparedOf (c .fresh) slot
 
-  ready-long : length ready ≡ 916
-  ready-long = length-prepared (c .fresh) slot (omega arith) ∙ long
+  ready-long : length ready ≡ length slot
+  ready-long = length-prepared (c .fresh) slot
 
   room : 2 + roomAll rows ≤ length ready
-  room = omega (arith, family-room (c .family), ready-long)
+  room = omega (arith, long, ready-long)
 
-  pub slot-length : length (slotAfter s c slot) ≡ 916
+  pub slot-length : length (slotAfter s c slot) ≡ length slot
   unfolding slotAfter
   slot-length = stored rows 2 (c .flags) s at ready (family-placed (c .family)) (a .fields) (family-begins (c .family)) (a .within) room .same ∙ ready-long
 
@@ -69,7 +72,7 @@ module _ (s : List ℕ) (c : Change) (slot : List ℕ) (long : length slot ≡ 9
   ready-fields = go (c .fresh)
     where
       go : (t : Bool) → fieldsOf rows 2 (preparedOf t slot) ≡ pick t (emptyFields rows) (fieldsOf rows 2 slot)
-      go true = empty-fields rows slot (prepared-body rows slot (omega arith) (family-room (c .family)))
+      go true = empty-fields rows slot (prepared-body rows slot long)
       go false = unfold preparedOf in refl
 
   pub slot-fields : fieldsOf rows 2 (slotAfter s c slot) ≡ setFlagged rows (c .flags) s at (pick (c .fresh) (emptyFields rows) (fieldsOf rows 2 slot))
@@ -83,7 +86,7 @@ module _ (s : List ℕ) (c : Change) (slot : List ℕ) (long : length slot ≡ 9
   slot-ok h = stored-ok rows (c .flags) s at ready (family-placed (c .family)) (a .fields) (family-begins (c .family)) (a .within) room 0 0 (go (c .fresh) refl)
     where
       go : (t : Bool) → c .fresh ≡ t → bodyOk rows 0 0 (preparedOf t slot) ≡ true
-      go true e = prepared-ok rows slot (omega arith) (family-room (c .family)) 0 0 (family-placed (c .family))
+      go true e = prepared-ok rows slot long 0 0 (family-placed (c .family))
       go false e = unfold preparedOf in h e
 
 -- ---- the desktop's slot
@@ -112,8 +115,8 @@ module _ (flags : ℕ) (s slot : List ℕ) (long : length slot ≡ 916) (inside 
   desktop-length = go (has flags desktopNone)
     where
       go : (t : Bool) → length (pick t (preparedOf true slot) (storeOf desktopFields 2 flags s 7 sync)) ≡ 916
-      go true = length-prepared true slot (omega arith) ∙ long
-      go false = stored desktopFields 2 flags s 7 sync (placed 22 24) e (omega arith) inside sync-room .same ∙ sync-long
+      go true = length-prepared true slot ∙ long
+      go false = stored desktopFields 2 flags s 7 sync (placed 29 31) e (omega arith) inside sync-room .same ∙ sync-long
 
   -- what the desktop state becomes
   pub desktop-body : bodyOf desktopFields (desktopSlot flags s slot)
@@ -128,9 +131,9 @@ module _ (flags : ℕ) (s slot : List ℕ) (long : length slot ≡ 916) (inside 
 
       go : (t : Bool) → bodyOf desktopFields (pick t (preparedOf true slot) (storeOf desktopFields 2 flags s 7 sync))
           ≡ pick t (emptyBody desktopFields) (desktopAfter flags s (bodyOf desktopFields slot))
-      go true = prepared-body desktopFields slot (omega arith) (omega (arith, desktop-room))
+      go true = prepared-body desktopFields slot (omega (arith, desktop-room, long))
       go false =
-          stored-body desktopFields flags s 7 sync (placed 22 24) e (omega arith) inside sync-room
+          stored-body desktopFields flags s 7 sync (placed 29 31) e (omega arith) inside sync-room
           ∙ rw (sync-is .first, sync-is .second, fs, hook-is .first, hook-is .second)
 
   pub desktop-ok : bodyOk desktopFields 1 1 slot ≡ true → bodyOk desktopFields 1 1 (desktopSlot flags s slot) ≡ true
@@ -165,5 +168,5 @@ module _ (flags : ℕ) (s slot : List ℕ) (long : length slot ≡ 916) (inside 
       sync-ok = marked-ok desktopFields hook sync _ _ sync-is 1 1 (held .first) second-fits (held .fields)
 
       go : (t : Bool) → bodyOk desktopFields 1 1 (pick t (preparedOf true slot) (storeOf desktopFields 2 flags s 7 sync)) ≡ true
-      go true = prepared-ok desktopFields slot (omega arith) (omega (arith, desktop-room)) 1 1 (placed 22 24)
-      go false = stored-ok desktopFields flags s 7 sync (placed 22 24) e (omega arith) inside sync-room 1 1 sync-ok
+      go true = prepared-ok desktopFields slot (omega (arith, desktop-room, long)) 1 1 (placed 29 31)
+      go false = stored-ok desktopFields flags s 7 sync (placed 29 31) e (omega arith) inside sync-room 1 1 sync-ok

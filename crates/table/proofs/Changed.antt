@@ -15,9 +15,9 @@ use Rattle.order.proofs.Pictures.{laid}
 use Rattle.places.specs.Memory.{withPicture}
 use Rattle.index.specs.declared.Change.{Change}
 use Rattle.index.specs.declared.Plan.the-variants.{ChangeRecord, ChangeDesktop}
-use Rattle.body.specs.Bodies.{desktopFields, slotOf}
-use Rattle.body.specs.Stores.{EndsWell}
-use Rattle.body.proofs.Slots.{length-slot, slot-splice, length-bodies}
+use Rattle.body.specs.Bodies.{desktopFields, slotLength, slotStart, slotOf}
+use Rattle.body.specs.Stores.{roomAll, EndsWell}
+use Rattle.body.proofs.Slots.{slot-within, length-slot, slot-splice, length-bodies}
 use Rattle.cache.specs.Cells.{cellOk, carriedPicture}
 use Rattle.store.specs.Store.{placeLength, placesIn}
 use Rattle.store.specs.Kept.{PutsOne}
@@ -25,17 +25,18 @@ use Rattle.store.proofs.KeptHolds.{puts-one}
 use Rattle.picture.specs.Pictures.{pictureAt, headOk, headsAfter, storeAfter}
 use Rattle.picture.specs.Kept.{IconThere, PutsPicture, PutsOnePicture}
 use Rattle.picture.proofs.PicturesPut.{heads-long, head-ok, other-head, puts-one-picture}
+use Rattle.table.specs.Table.{fieldRows}
 use Rattle.table.specs.Memory.{headsOf}
 use Rattle.table.specs.Changes.{putsPicture, slotAfter, slotsAfter, headsPut, desktopSlot, slotsBy, headsBy, bodiesBy, storeBy, picturesBy, Able}
 use Rattle.table.specs.Outcome.{StoreKept}
 use Rattle.table.proofs.Bodied.{slot-length, desktop-length}
 use Rattle.table.proofs.Heads as heads
-use Rattle.table.proofs.Heads.{slot-heads, slot-past, heads-slot, heads-heads, length-heads, heads-past}
+use Rattle.table.proofs.Heads.{desk-length, desk-ends, desk-slot, slot-heads, slot-past, heads-slot, heads-heads, length-heads, heads-past}
 use Rattle.table.proofs.Past.{same-store}
 
 -- ---- an icon put at place p
 
-module _ (b : List ℕ) (p : ℕ) (s : List ℕ) (icon : ℕ) (big : 45780 ≤ length b) (small : p < 64) (there : IconThere s icon) where
+module _ (b : List ℕ) (p : ℕ) (s : List ℕ) (icon : ℕ) (big : 61012 ≤ length b) (small : p < 64) (there : IconThere s icon) where
   pub room : 14 * p + 14 ≤ length (headsOf b)
   room = let e = heads.heads-long b in omega arith
 
@@ -64,7 +65,7 @@ module _ (b : List ℕ) (p : ℕ) (s : List ℕ) (icon : ℕ) (big : 45780 ≤ l
 
 -- ---- the change of a record
 
-module _ (s : List ℕ) (c : Change) (b : List ℕ) (big : 45780 ≤ length b) (a : Able s c) (icon : putsPicture c ≡ true → IconThere s (c .icon)) where
+module _ (s : List ℕ) (c : Change) (b : List ℕ) (big : 61012 ≤ length b) (a : Able s c) (icon : putsPicture c ≡ true → IconThere s (c .icon)) where
   abbrev new : List ℕ
   new = slotAfter s c (slotOf b (c .slot))
 
@@ -74,49 +75,55 @@ module _ (s : List ℕ) (c : Change) (b : List ℕ) (big : 45780 ≤ length b) (
   abbrev all : List ℕ
   all = bodiesBy s (ChangeRecord c) b
 
-  slot-room : 916 * c .slot + 916 ≤ length b
-  slot-room = let l = a .slot in omega arith
+  slot-below : c .slot < 49
+  slot-below = omega (arith, a .slot)
 
-  pub new-long : length new ≡ 916
-  new-long = slot-length s c (slotOf b (c .slot)) (length-slot b (c .slot) slot-room) a
+  slot-room : slotStart (c .slot) + slotLength (c .slot) ≤ length b
+  slot-room = omega (arith, slot-within (c .slot) slot-below, big)
+
+  pub slot-roomy : 2 + roomAll (fieldRows (c .family)) ≤ length (slotOf b (c .slot))
+  slot-roomy = omega (arith, a .room, length-slot b (c .slot) slot-room)
+
+  pub new-long : length new ≡ slotLength (c .slot)
+  new-long = slot-length s c (slotOf b (c .slot)) slot-roomy a ∙ length-slot b (c .slot) slot-room
 
   -- the slots, before the heads are changed
   record Slots (y : List ℕ) : Type 0 where
     pub long : length y ≡ length b
     pub heads : headsOf y ≡ headsOf b
-    pub past : drop 45780 y ≡ drop 45780 b
+    pub past : drop 61012 y ≡ drop 61012 b
     pub at : (j : ℕ) → slotOf y j ≡ pick (c .deleted) (slotOf b j) (pick (eqb (c .slot) j) new (slotOf b j))
 
   slots-are : Slots slots
   unfolding slotsBy slotsAfter
   slots-are = go (c .deleted) refl
     where
-      go : (t : Bool) → c .deleted ≡ t → Slots (pick t b (splice b (916 * c .slot) new))
+      go : (t : Bool) → c .deleted ≡ t → Slots (pick t b (splice b (slotStart (c .slot)) new))
       go true t = record { long = refl; heads = refl; past = refl; at = λ j. rw t }
       go false t =
           let l = a .slot in
           record {
             long = length-bodies b (c .slot) new new-long slot-room;
-            heads = slot-heads b (c .slot) new big (omega arith) new-long;
-            past = slot-past b (c .slot) new big (omega arith) new-long;
+            heads = slot-heads b (c .slot) new big slot-below new-long;
+            past = slot-past b (c .slot) new big slot-below new-long;
             at = λ j. slot-splice b (c .slot) new new-long slot-room j ∙ rw t;
           }
 
-  slots-big : 45780 ≤ length slots
+  slots-big : 61012 ≤ length slots
   slots-big = let e = slots-are .long in omega arith
 
   -- the bodies then
   pub record Bodies (y : List ℕ) : Type 0 where
     pub long : length y ≡ length b
     pub heads : headsOf y ≡ pick (putsPicture c) (headsAfter (headsOf b) (c .place) s (c .icon)) (headsOf b)
-    pub past : drop 45780 y ≡ drop 45780 b
+    pub past : drop 61012 y ≡ drop 61012 b
     pub at : (j : ℕ) → j < 49 → slotOf y j ≡ pick (c .deleted) (slotOf b j) (pick (eqb (c .slot) j) new (slotOf b j))
 
   pub bodies-are : Bodies all
   unfolding headsBy headsPut
   bodies-are = go (putsPicture c) refl
     where
-      go : (t : Bool) → putsPicture c ≡ t → Bodies (pick t (splice slots 44884 (headsAfter (headsOf slots) (c .place) s (c .icon))) slots)
+      go : (t : Bool) → putsPicture c ≡ t → Bodies (pick t (splice slots 60116 (headsAfter (headsOf slots) (c .place) s (c .icon))) slots)
       go true t =
           let k = slots-are in
           let g = slots-big in
@@ -204,20 +211,20 @@ as-many-places {p = p} {p' = p'} k = places-lengths p' ∙ ap places-from (k .le
 
 -- ---- the change of the desktop state
 
-module _ (s : List ℕ) (flags : ℕ) (b : List ℕ) (big : 45780 ≤ length b) (inside : 7 ≤ length s) (e : EndsWell desktopFields flags s 7) where
+module _ (s : List ℕ) (flags : ℕ) (b : List ℕ) (big : 61012 ≤ length b) (inside : 7 ≤ length s) (e : EndsWell desktopFields flags s 7) where
   abbrev desk : List ℕ
   desk = desktopSlot flags s (slotOf b 48)
 
-  desk-room : 916 * 48 + 916 ≤ length b
-  desk-room = omega arith
+  desk-room : slotStart 48 + slotLength 48 ≤ length b
+  desk-room = desk-ends b (omega (arith, big))
 
-  desk-long : length desk ≡ 916
-  desk-long = desktop-length flags s (slotOf b 48) (length-slot b 48 desk-room) inside e
+  desk-long : length desk ≡ slotLength 48
+  desk-long = desktop-length flags s (slotOf b 48) (desk-slot b (omega (arith, big))) inside e ∙ sym desk-length
 
   pub record Desk (y : List ℕ) : Type 0 where
     pub long : length y ≡ length b
     pub heads : headsOf y ≡ headsOf b
-    pub past : drop 45780 y ≡ drop 45780 b
+    pub past : drop 61012 y ≡ drop 61012 b
     pub at : (j : ℕ) → slotOf y j ≡ pick (eqb 48 j) desk (slotOf b j)
 
   pub desk-is : Desk (bodiesBy s (ChangeDesktop flags) b)

@@ -17,7 +17,7 @@ use Rattle.places.specs.Memory as places
 use Rattle.places.specs.Keyed.{keyed}
 use Rattle.places.specs.Holder.{Holder, cell, sameHolder, isCellHolder, iconsOf}
 use Rattle.index.specs.declared.RecordOrder.{RecordOrder}
-use Rattle.index.specs.Orders.{onJudged, isDelete, bringsIcon, bringsCached, cellAt, pointerOf, holdersOf}
+use Rattle.index.specs.Orders.{onJudged, isDelete, bringsIcon, bringsCached, clearsOverlay, cellAt, pointerOf, holdersOf}
 use Rattle.index.specs.Index.{Index, pictured, without, withRecord, numberIn, indexAfter}
 use Rattle.index.specs.Index as index
 use Rattle.index.specs.Memory.{indexOf}
@@ -58,15 +58,16 @@ drops-places (h ∷ hs) t = drops-places hs (drop sameHolder h t)
 
 pictured-places : (s : List ℕ) (o : RecordOrder) (t : Sharing Holder) → pictured s o t .places ≡ t .places
 unfolding pictured taken fresh join drop
-pictured-places s o t = go (bringsIcon (o .flags)) (bringsCached (o .flags)) (full sameHolder (holdersOf s o) t)
+pictured-places s o t = go (bringsIcon (o .flags)) (bringsCached (o .flags)) (clearsOverlay (o .flags)) (full sameHolder (holdersOf s o) t)
   where
-    go : (a b c : Bool)
+    go : (a b n c : Bool)
         → pick a (pick c t (fresh sameHolder (holdersOf s o) (dropAll sameHolder (holdersOf s o) t)))
-        (pick b (join sameHolder (pointerOf o) (cell (cellAt s (o .icon))) (drop sameHolder (pointerOf o) t)) t) .places ≡ t .places
-    go true b true = refl
-    go true b false = drops-places (holdersOf s o) t
-    go false true c = refl
-    go false false c = refl
+        (pick b (join sameHolder (pointerOf o) (cell (cellAt s (o .icon))) (drop sameHolder (pointerOf o) t)) (pick n (drop sameHolder (pointerOf o) t) t)) .places ≡ t .places
+    go true b n true = refl
+    go true b n false = drops-places (holdersOf s o) t
+    go false true n c = refl
+    go false false true c = refl
+    go false false false c = refl
 
 record-places : (d : Index) (s : List ℕ) (o : RecordOrder) → placesIn (index.changeRecord d s o) ≡ placesIn d
 unfolding index.changeRecord

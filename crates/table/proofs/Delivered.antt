@@ -28,7 +28,7 @@ use Rattle.index.proofs.Listed.{none-find}
 use Rattle.index.proofs.Kept.{places-emptied, pointer-emptied, slots-emptied, emptied-sound}
 use Rattle.index.proofs.Numbered.{Planned}
 use Rattle.index.proofs.After.{plan-sound, plan-fits, emptied-index}
-use Rattle.body.specs.Bodies.{desktopFields, slotOf, fieldsOf, bodyOf}
+use Rattle.body.specs.Bodies.{desktopFields, slotLength, slotStart, slotOf, fieldsOf, bodyOf}
 use Rattle.body.specs.Stores.{preparedOf}
 use Rattle.body.proofs.Placed.{placed}
 use Rattle.body.proofs.Fresh.{prepared-body, prepared-ok, length-prepared, desktop-room}
@@ -44,7 +44,7 @@ use Rattle.table.proofs.OfKinds.{OfRecord, Planning, changes-record, ch
 use Rattle.table.proofs.Able.{ordered-icon, record-able, plan-follows}
 use Rattle.table.proofs.Decoded.{decoded-number, places-kept}
 use Rattle.table.proofs.Past.{same-store, index-past, emptied-past}
-use Rattle.table.proofs.Heads.{slot-past}
+use Rattle.table.proofs.Heads.{desk-start, desk-length, desk-ends, desk-slot, slot-past}
 use Rattle.table.proofs.Changed.{bodies-are, store-kept, pictures-are, as-many-places, desk-is}
 use Rattle.table.proofs.Joined.{same-table, joined, fields-after, desktop-kept, desktop-fields, desktop-is}
 use Rattle.table.proofs.Rule.{TableSound, table-has, table-is}
@@ -75,7 +75,7 @@ module _ (x b s : List ℕ) (store : List (List ℕ)) (bytes : Bytes s) (sound :
     pub fields : (g : Family) (m n : ℕ) → fieldsIn (appliedOf x p) (bodiesBy s p b) g m n ≡ after t s .fields g m n
     pub desktop : bodyOf desktopFields (slotOf (bodiesBy s p b) 48) ≡ after t s .desktop
     pub sounded : soundIndex (appliedOf x p) ≡ true → placesOf (appliedOf x p) ≡ placesOf x → TableSound (appliedOf x p) (bodiesBy s p b) (placesIn store)
-    pub past : drop 45780 (bodiesBy s p b) ≡ drop 45780 b
+    pub past : drop 61012 (bodiesBy s p b) ≡ drop 61012 b
     pub kept : StoreKept (placesOf x) store (storeBy s p store)
     pub same : (planNumber p ≡ 0 → ⊥) → (appliedOf x p ≡ x) × (bodiesBy s p b ≡ b) × (storeBy s p store ≡ store)
 
@@ -157,7 +157,7 @@ module _ (x b s : List ℕ) (store : List (List ℕ)) (bytes : Bytes s) (sound :
     pub index-long : 589 ≤ length x
     index-long = sound-has x (good .index) .long
 
-    pub plan-ready : (45780 ≤ length b) × Follows s p
+    pub plan-ready : (61012 ≤ length b) × Follows s p
     plan-ready = (good .big, rw judged (plan-follows x s bytes (good .index)))
 
     pub delivered-done : {r : ℕ} {y u v : List ℕ} {q : List (List ℕ)} → u ≡ slotsBy s p b → v ≡ headsBy s p u → q ≡ storeBy s p store → y ≡ appliedOf x p → r ≡ planNumber p
@@ -173,7 +173,7 @@ fixed-few lent l = go (ltb 64 lent) refl
     go true t = let m = ltb-true 64 lent t in (omega arith, omega arith, omega arith)
     go false t = let m = ltb-false 64 lent t in (l, m, omega arith)
 
-module _ (x b : List ℕ) (lent : ℕ) (long : 589 ≤ length x) (big : 45780 ≤ length b) (many : 12 ≤ lent) where
+module _ (x b : List ℕ) (lent : ℕ) (long : 589 ≤ length x) (big : 61012 ≤ length b) (many : 12 ≤ lent) where
   abbrev n : ℕ
   n = fixedBy lent
 
@@ -186,30 +186,30 @@ module _ (x b : List ℕ) (lent : ℕ) (long : 589 ≤ length x) (big : 45780 �
   small : n < 256
   small = let f = few .1 in omega arith
 
-  desk-room : 916 * 48 + 916 ≤ length b
-  desk-room = omega arith
+  desk-room : slotStart 48 + slotLength 48 ≤ length b
+  desk-room = desk-ends b (omega (arith, big))
 
   slot-long : length (slotOf b 48) ≡ 916
-  slot-long = length-slot b 48 desk-room
+  slot-long = desk-slot b (omega (arith, big))
 
-  bare-long : length bare ≡ 916
-  bare-long = let l = slot-long in length-prepared true (slotOf b 48) (omega arith) ∙ l
+  bare-long : length bare ≡ slotLength 48
+  bare-long = length-prepared true (slotOf b 48) ∙ length-slot b 48 desk-room
 
-  at-desk : slotOf (splice b 43968 bare) 48 ≡ bare
+  at-desk : slotOf (splice b (slotStart 48) bare) 48 ≡ bare
   at-desk = slot-splice b 48 bare bare-long desk-room 48
 
-  emptied-table : (p : List (List ℕ)) → decode (emptiedOf x n) (splice b 43968 bare) p ≡ emptied n
+  emptied-table : (p : List (List ℕ)) → decode (emptiedOf x n) (splice b (slotStart 48) bare) p ≡ emptied n
   unfolding decode emptied shown shownOf
   emptied-table p =
       let e = slot-long in
       let r = desktop-room in
-      same-table (decode (emptiedOf x n) (splice b 43968 bare) p) (emptied n)
+      same-table (decode (emptiedOf x n) (splice b (slotStart 48) bare) p) (emptied n)
       (emptied-index x n long small)
-      (λ f m k. ap (λ (w : Found). onFound w [] (λ j. fieldsOf (fieldRows f) 2 (slotOf (splice b 43968 bare) j))) (none-find (emptiedOf x n) (slots-emptied x n long small) f m k))
+      (λ f m k. ap (λ (w : Found). onFound w [] (λ j. fieldsOf (fieldRows f) 2 (slotOf (splice b (slotStart 48) bare) j))) (none-find (emptiedOf x n) (slots-emptied x n long small) f m k))
       (λ h. rw (pointer-emptied x n long small))
-      (ap (bodyOf desktopFields) at-desk ∙ prepared-body desktopFields (slotOf b 48) (omega arith) (omega arith))
+      (ap (bodyOf desktopFields) at-desk ∙ prepared-body desktopFields (slotOf b 48) (omega (arith, e, r)))
 
-  emptied-sounded : TableSound (emptiedOf x n) (splice b 43968 bare) lent
+  emptied-sounded : TableSound (emptiedOf x n) (splice b (slotStart 48) bare) lent
   emptied-sounded =
       let f = few in
       let e = slot-long in
@@ -221,24 +221,24 @@ module _ (x b : List ℕ) (lent : ℕ) (long : 589 ≤ length x) (big : 45780 �
         index = emptied-sound x n long small (f .0) (f .1);
         lends = omega (arith, f .2);
         records = λ g i w u. never (sym (free-is (emptiedOf x n) i (slots-emptied x n long small i (within-slots g i w))) ∙ u);
-        desktop = rw at-desk (prepared-ok desktopFields (slotOf b 48) (omega arith) (omega arith) 1 1 (placed 22 24));
+        desktop = rw at-desk (prepared-ok desktopFields (slotOf b 48) (omega (arith, e, r)) 1 1 (placed 29 31));
         heads = λ h ne. absurd (ne (ap (λ (r : ℕ → ℕ). r h) (pointer-emptied x n long small)));
       }
 
-  emptied-is : Emptied x b lent (emptiedOf x n) (splice b 43968 bare)
+  emptied-is : Emptied x b lent (emptiedOf x n) (splice b (slotStart 48) bare)
   emptied-is =
       record {
         table = emptied-table;
-        sound = table-is (emptiedOf x n) (splice b 43968 bare) lent emptied-sounded;
+        sound = table-is (emptiedOf x n) (splice b (slotStart 48) bare) lent emptied-sounded;
         past = record { index = emptied-past x n long; bodies = slot-past b 48 bare big (omega arith) bare-long };
       }
 
   -- as the function leaves it, with the desktop's slot lent and come back
-  pub emptied-done : {m : ℕ} {y z : List ℕ} → m ≡ fixedBy lent → y ≡ emptiedOf x m → z ≡ preparedOf true (take 916 (drop 43968 b)) → length z ≡ length (take 916 (drop 43968 b))
-      → Emptied x b lent y (take 43968 b ++ (z ++ drop 916 (drop 43968 b)))
+  pub emptied-done : {m : ℕ} {y z : List ℕ} → m ≡ fixedBy lent → y ≡ emptiedOf x m → z ≡ preparedOf true (take 916 (drop 59200 b)) → length z ≡ length (take 916 (drop 59200 b))
+      → Emptied x b lent y (take 59200 b ++ (z ++ drop 916 (drop 59200 b)))
   emptied-done {m} {y} {z} em ey ez l =
-      let q : take 916 (drop 43968 b) ≡ slotOf b 48 = slot-lent b 43968 916 48 refl refl in
+      let q : take 916 (drop 59200 b) ≡ slotOf b 48 = slot-lent b 59200 916 48 (sym desk-start) (sym desk-length) in
       let k : z ≡ bare = ez ∙ ap (preparedOf true) q in
-      let w : take 43968 b ++ (z ++ drop 916 (drop 43968 b)) ≡ splice b 43968 bare =
-      slots-back b 48 z (ap length k ∙ bare-long) desk-room 43968 916 refl refl ∙ ap (splice b 43968) k in
+      let w : take 59200 b ++ (z ++ drop 916 (drop 59200 b)) ≡ splice b (slotStart 48) bare =
+      slots-back b 48 z (ap length k ∙ bare-long) desk-room 59200 916 (sym desk-start) (sym desk-length) ∙ ap (splice b (slotStart 48)) k in
       rw (ey, em, w) emptied-is

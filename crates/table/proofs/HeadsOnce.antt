@@ -26,13 +26,13 @@ module _ (ms b : List ℕ) (p : ℕ) where
   unfolding markedOk
   marked-none e = rw e
 
-  pub place-room : p < 64 → 45780 ≤ length b → 14 * p + 14 ≤ length (take (length b - 44884) (drop 44884 b))
+  pub place-room : p < 64 → 61012 ≤ length b → 14 * p + 14 ≤ length (take (length b - 60116) (drop 60116 b))
   place-room l big = simp (length-take, length-drop) (omega arith)
 
-  pub marked-head : {r : Bool} → 44884 ≤ length b → (getD ms (p + 1) 0 ≡ 0 → ⊥) → r ≡ headOk (take (length b - 44884) (drop 44884 b)) p → r ≡ markedOk ms b p
+  pub marked-head : {r : Bool} → 60116 ≤ length b → (getD ms (p + 1) 0 ≡ 0 → ⊥) → r ≡ headOk (take (length b - 60116) (drop 60116 b)) p → r ≡ markedOk ms b p
   unfolding markedOk headsOf
   marked-head long ne f =
-      let w : take (length b - 44884) (drop 44884 b) ≡ drop 44884 b = take-all (length b - 44884) (drop 44884 b) (simp length-drop (omega arith)) in
+      let w : take (length b - 60116) (drop 60116 b) ≡ drop 60116 b = take-all (length b - 60116) (drop 60116 b) (simp length-drop (omega arith)) in
       rw (ne-eqb (getD ms (p + 1) 0) 0 ne) (f ∙ ap (λ (y : List ℕ). headOk y p) w)
 
 -- ---- all of them

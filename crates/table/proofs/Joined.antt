@@ -30,7 +30,6 @@ use Rattle.index.proofs.Listed.{none-find}
 use Rattle.index.proofs.Numbered.{Planned}
 use Rattle.index.proofs.After.{plan-after}
 use Rattle.body.specs.Bodies.{desktopFields, setFlagged, slotOf, fieldsOf, bodyOf, emptyFields}
-use Rattle.body.proofs.Slots.{length-slot}
 use Rattle.picture.specs.Kept.{IconThere}
 use Rattle.picture.specs.Pictures.{pictureAt}
 use Rattle.table.specs.Table.{Table, fieldRows, fieldsAt, recordFields, fieldsAfter, changeRecord, changeDesktop, after}
@@ -42,7 +41,8 @@ use Rattle.table.proofs.Decoded.{index-alone}
 use Rattle.table.proofs.Shown.{shown-applied}
 use Rattle.table.proofs.Bodied.{slot-fields, desktop-body}
 use Rattle.table.proofs.Pointed.{same-ids, find-after, other-slot}
-use Rattle.table.proofs.Changed.{bodies-are, desk-is}
+use Rattle.table.proofs.Heads.{desk-slot}
+use Rattle.table.proofs.Changed.{slot-roomy, bodies-are, desk-is}
 
 -- two tables are the same when index, fields, pictures and desktop state are
 pub same-table : (t u : Table) → t .index ≡ u .index → ((f : Family) (a b : ℕ) → t .fields f a b ≡ u .fields f a b)
@@ -69,7 +69,7 @@ joined x b s store ok bytes b' store' pictures fields desktop =
 
 module _ (x b s : List ℕ) (store : List (List ℕ)) (o : RecordOrder) (i place : ℕ) (sound : Sound x) (k : OfRecord s o) (p : Planned x s o i place)
     (fits : Fits (changeOf s o i place)) (a : Able s (changeOf s o i place)) (icon : putsPicture (changeOf s o i place) ≡ true → IconThere s (o .icon))
-    (big : 45780 ≤ length b) where
+    (big : 61012 ≤ length b) where
   abbrev c : Change
   c = changeOf s o i place
 
@@ -85,9 +85,6 @@ module _ (x b s : List ℕ) (store : List (List ℕ)) (o : RecordOrder) (i place
   below : i < 48
   below = a .slot
 
-  room : 916 * i + 916 ≤ length b
-  room = let l = below in omega arith
-
   -- what the record's fields become
   new-fields : isDelete (o .flags) ≡ false → fieldsOf (fieldRows f) 2 (slotOf all i) ≡ recordFields t s o
   unfolding recordFields decode
@@ -95,7 +92,7 @@ module _ (x b s : List ℕ) (store : List (List ℕ)) (o : RecordOrder) (i place
       let l = below in
       let e = bodies-are s c b big a icon .at i (omega arith) in
       ap (fieldsOf (fieldRows f) 2) (e ∙ rw (d, eq-eqb i i refl))
-      ∙ slot-fields s c (slotOf b i) (length-slot b i room) a
+      ∙ slot-fields s c (slotOf b i) (slot-roomy s c b big a icon) a
       ∙ rw d (ap (setFlagged (fieldRows f) (o .flags) s (fieldsAt f)) (go (isNew f (o .flags)) refl))
     where
       go : (n : Bool) → isNew f (o .flags) ≡ n
@@ -139,7 +136,7 @@ module _ (x b s : List ℕ) (store : List (List ℕ)) (o : RecordOrder) (i place
 
 -- ---- the change of the desktop state
 
-module _ (x b s : List ℕ) (store : List (List ℕ)) (flags : ℕ) (sound : Sound x) (k : OfDesktop s flags) (big : 45780 ≤ length b) where
+module _ (x b s : List ℕ) (store : List (List ℕ)) (flags : ℕ) (sound : Sound x) (k : OfDesktop s flags) (big : 61012 ≤ length b) where
   abbrev now : List ℕ
   now = bodiesBy s (ChangeDesktop flags) b
 
@@ -168,4 +165,4 @@ module _ (x b s : List ℕ) (store : List (List ℕ)) (flags : ℕ) (sound : Sou
   unfolding changeDesktop decode
   desktop-is =
       ap (bodyOf desktopFields) (desk-is s flags b big (k .within) (k .fields) .at 48)
-      ∙ desktop-body flags s (slotOf b 48) (length-slot b 48 (omega arith)) (k .within) (k .fields)
+      ∙ desktop-body flags s (slotOf b 48) (desk-slot b (omega (arith, big))) (k .within) (k .fields)

@@ -18,7 +18,7 @@ use Rattle.places.proofs.Bytes.{Holders, holders-first, holders-later, length-p
 use Rattle.index.specs.declared.Change.{Change}
 use Rattle.index.specs.declared.Plan.{Plan}
 use Rattle.index.specs.declared.Plan.the-variants.{ChangeRecord, ChangeDesktop, Refuse}
-use Rattle.index.specs.Orders.{bringsIcon, bringsCached}
+use Rattle.index.specs.Orders.{bringsIcon, bringsCached, clearsOverlay}
 use Rattle.index.specs.Plans.{planOf}
 use Rattle.index.specs.Changes.{listedOf, freedOf, iconsAt, removedOf, picturedOf, changedOf, clearedOf, emptiedOf, appliedOf, Fits, FitsPlan}
 use Rattle.index.specs.Sound.{soundIndex}
@@ -83,14 +83,16 @@ removed-past x i long below =
     drop-splice z (157 + 9 * i) (bytesOf 1 0) (omega arith) 589 (omega arith) ∙ points-past (iconsAt i) x 0 (icons-holders i below) long
 
 pictured-past : (x : List ℕ) (c : Change) → Fits c → 589 ≤ length x → drop 589 (picturedOf x c) ≡ drop 589 x
-unfolding picturedOf shareOf
-pictured-past x c fits long = go (bringsIcon (c .flags)) (bringsCached (c .flags)) refl
+unfolding picturedOf shareOf releaseOf
+pictured-past x c fits long = go (bringsIcon (c .flags)) (bringsCached (c .flags)) (clearsOverlay (c .flags)) refl
   where
-    go : (t u : Bool) → bringsIcon (c .flags) ≡ t
-        → drop 589 (pick t (pointAll x (c .cell ∷ c .pointer ∷ []) (c .place + 1)) (pick u (pointTo x (c .pointer) (pointerAt x (c .cell))) x)) ≡ drop 589 x
-    go true u e = points-past (c .cell ∷ c .pointer ∷ []) x (c .place + 1) (two-holders (c .cell) (c .pointer) (fits .icon e) (fits .pointer)) long
-    go false true e = point-past x (c .pointer) (pointerAt x (c .cell)) (fits .pointer) long
-    go false false e = refl
+    go : (t u n : Bool) → bringsIcon (c .flags) ≡ t
+        → drop 589 (pick t (pointAll x (c .cell ∷ c .pointer ∷ []) (c .place + 1)) (pick u (pointTo x (c .pointer) (pointerAt x (c .cell))) (pick n (pointTo x (c .pointer) 0) x)))
+        ≡ drop 589 x
+    go true u n e = points-past (c .cell ∷ c .pointer ∷ []) x (c .place + 1) (two-holders (c .cell) (c .pointer) (fits .icon e) (fits .pointer)) long
+    go false true n e = point-past x (c .pointer) (pointerAt x (c .cell)) (fits .pointer) long
+    go false false true e = point-past x (c .pointer) 0 (fits .pointer) long
+    go false false false e = refl
 
 changed-past : (x : List ℕ) (c : Change) → Fits c → 589 ≤ length x → drop 589 (changedOf x c) ≡ drop 589 x
 unfolding changedOf

@@ -17,15 +17,16 @@ use Rattle.places.specs.Memory.{pointerAt}
 use Rattle.places.specs.Holder.{sameFamily}
 use Rattle.places.specs.Changes.{pointAll, shareOf, releaseOf}
 use Rattle.places.proofs.Counting.{found}
+use Rattle.places.proofs.Meaning.{holder}
 use Rattle.places.proofs.Bytes.{Holders, pointer-point, pointAll-is, pointer-records}
 use Rattle.index.specs.declared.RecordOrder.{RecordOrder}
 use Rattle.index.specs.declared.Change.{Change}
 use Rattle.index.specs.Families.{start, capacity, highest, sameRecord}
 use Rattle.index.specs.Slots.{isUsed, isAt, slotOf}
-use Rattle.index.specs.Orders.{isNew, isDelete, bringsIcon, bringsCached}
+use Rattle.index.specs.Orders.{isNew, isDelete, bringsIcon, bringsCached, clearsOverlay}
 use Rattle.index.specs.Plans.{changeOf}
 use Rattle.index.specs.Changes.{listedOf, iconsAt, removedOf, picturedOf, changedOf, clearedOf, Fits}
-use Rattle.index.proofs.Memory.{same-used, Listed, listed-is, Slotted, slotted-self, points-slotted, share-slotted, cleared-is}
+use Rattle.index.proofs.Memory.{same-used, Listed, listed-is, Slotted, slotted-self, points-slotted, share-slotted, releases-slotted, cleared-is}
 use Rattle.index.proofs.Soundness.{never, Within, within-slots, family-same, same-family, apart, at-has, at-free, used-is, free-is, Sound}
 use Rattle.index.proofs.Listed.{slotted-find, find-listed, find-freed}
 use Rattle.index.proofs.Ordered.{Ordered, deleted-old}
@@ -45,13 +46,14 @@ two-holders c p l m h e = go (eqb h c) (eqb h p) refl refl e
 
 pub pictured-slotted : (z : List ℕ) (c : Change) → Fits c → 589 ≤ length z → Slotted z (picturedOf z c)
 unfolding picturedOf
-pictured-slotted z c fits long = go (bringsIcon (c .flags)) (bringsCached (c .flags)) refl
+pictured-slotted z c fits long = go (bringsIcon (c .flags)) (bringsCached (c .flags)) (clearsOverlay (c .flags)) refl
   where
-    go : (t u : Bool) → bringsIcon (c .flags) ≡ t
-        → Slotted z (pick t (pointAll z (c .cell ∷ c .pointer ∷ []) (c .place + 1)) (pick u (shareOf z (c .pointer) (c .cell)) z))
-    go true u e = points-slotted (c .cell ∷ c .pointer ∷ []) z (c .place + 1) (two-holders (c .cell) (c .pointer) (fits .icon e) (fits .pointer)) long
-    go false true e = share-slotted z (c .pointer) (c .cell) (fits .pointer) long
-    go false false e = slotted-self z
+    go : (t u n : Bool) → bringsIcon (c .flags) ≡ t
+        → Slotted z (pick t (pointAll z (c .cell ∷ c .pointer ∷ []) (c .place + 1)) (pick u (shareOf z (c .pointer) (c .cell)) (pick n (releaseOf z (c .pointer)) z)))
+    go true u n e = points-slotted (c .cell ∷ c .pointer ∷ []) z (c .place + 1) (two-holders (c .cell) (c .pointer) (fits .icon e) (fits .pointer)) long
+    go false true n e = share-slotted z (c .pointer) (c .cell) (fits .pointer) long
+    go false false true e = releases-slotted (c .pointer ∷ []) z (holder (c .pointer) (fits .pointer)) long
+    go false false false e = slotted-self z
 
 -- ---- where a holder points: at nothing, where some holder pointed, or at the place that an icon takes
 
@@ -76,16 +78,19 @@ module _ (P : ℕ → Type 0) where
         subst P (sym (ap (λ (r : ℕ → ℕ). r h) (removed-still x i long below .pointers))) (points x (iconsAt i) 0 (icons-holders i below) (omega arith) none were h)
 
     pub pictured-pointers : (c : Change) → Fits c → (bringsIcon (c .flags) ≡ true → P (c .place + 1)) → (h : ℕ) → P (pointerAt (picturedOf x c) h)
-    unfolding picturedOf shareOf
-    pictured-pointers c fits new h = go (bringsIcon (c .flags)) (bringsCached (c .flags)) refl
+    unfolding picturedOf shareOf releaseOf
+    pictured-pointers c fits new h = go (bringsIcon (c .flags)) (bringsCached (c .flags)) (clearsOverlay (c .flags)) refl
       where
-        go : (t u : Bool) → bringsIcon (c .flags) ≡ t
-            → P (pointerAt (pick t (pointAll x (c .cell ∷ c .pointer ∷ []) (c .place + 1)) (pick u (shareOf x (c .pointer) (c .cell)) x)) h)
-        go true u e = points x (c .cell ∷ c .pointer ∷ []) (c .place + 1) (two-holders (c .cell) (c .pointer) (fits .icon e) (fits .pointer)) (omega arith) (new e) were h
-        go false true e =
+        go : (t u n : Bool) → bringsIcon (c .flags) ≡ t
+            → P (pointerAt (pick t (pointAll x (c .cell ∷ c .pointer ∷ []) (c .place + 1)) (pick u (shareOf x (c .pointer) (c .cell)) (pick n (releaseOf x (c .pointer)) x))) h)
+        go true u n e = points x (c .cell ∷ c .pointer ∷ []) (c .place + 1) (two-holders (c .cell) (c .pointer) (fits .icon e) (fits .pointer)) (omega arith) (new e) were h
+        go false true n e =
             subst P (sym (ap (λ (r : ℕ → ℕ). r h) (pointer-point x (c .pointer) (pointerAt x (c .cell)) (fits .pointer) (omega arith))))
             (picked P (eqb h (c .pointer)) (pointerAt x (c .cell)) (pointerAt x h) (were (c .cell)) (were h))
-        go false false e = were h
+        go false false true e =
+            subst P (sym (ap (λ (r : ℕ → ℕ). r h) (pointer-point x (c .pointer) 0 (fits .pointer) (omega arith))))
+            (picked P (eqb h (c .pointer)) 0 (pointerAt x h) none (were h))
+        go false false false e = were h
 
 -- ---- a record's change
 

@@ -16,7 +16,7 @@ use Rattle.places.specs.Sharing.{isOne}
 use Rattle.places.specs.Holder.{Holder, cell, icon, sameFamily, sameHolder}
 use Rattle.index.specs.declared.RecordOrder.{RecordOrder}
 use Rattle.index.specs.Families.{sameRecord}
-use Rattle.index.specs.Orders.{onJudged, bringsIcon, bringsCached, cellAt, sentOnce, whichOf, pointerOf, holdersOf}
+use Rattle.index.specs.Orders.{onJudged, bringsIcon, bringsCached, clearsOverlay, cellAt, sentOnce, whichOf, pointerOf, holdersOf}
 use Rattle.index.specs.Index as index
 use Rattle.index.specs.Promises.{touched}
 use Rattle.index.proofs.Soundness.{never, family-same}
@@ -80,10 +80,14 @@ module _ (t : Table) (s : List ℕ) (o : RecordOrder) (u : Updates t s o) where
   unfolding changeRecord shownAfter
   cached-is e f = rw (u .stays, e, f) (ap (λ (b : Bool). pick b (t .shown (cell (cellAt s (o .icon)))) (t .shown (pointerOf o))) own-pointer)
 
+  cleared-is : bringsIcon (o .flags) ≡ false → bringsCached (o .flags) ≡ false → clearsOverlay (o .flags) ≡ true → shown (pointerOf o) ≡ none
+  unfolding changeRecord shownAfter
+  cleared-is e f n = rw (u .stays, e, f, n) (ap (λ (b : Bool). pick b none (t .shown (pointerOf o))) own-pointer)
+
   -- what is not touched
   pictures-are : (h : Holder) → isOne sameHolder (touched s o) h ≡ false → shown h ≡ t .shown h
   unfolding changeRecord shownAfter touched
-  pictures-are h = rw (u .stays) (go (bringsIcon (o .flags)) (bringsCached (o .flags)))
+  pictures-are h = rw (u .stays) (go (bringsIcon (o .flags)) (bringsCached (o .flags)) (clearsOverlay (o .flags)))
     where
       one : (b : Bool) (x y : Option (List ℕ)) → b ≡ false → pick b x y ≡ y
       one true x y e = never (sym e)
@@ -93,17 +97,19 @@ module _ (t : Table) (s : List ℕ) (o : RecordOrder) (u : Updates t s o) where
       left true e = e
       left false e = refl
 
-      go : (i c : Bool) → isOne sameHolder (pick i (holdersOf s o) (pick c (pointerOf o ∷ []) [])) h ≡ false
+      go : (i c n : Bool) → isOne sameHolder (pick i (holdersOf s o) (pick c (pointerOf o ∷ []) (pick n (pointerOf o ∷ []) []))) h ≡ false
           → pick i (pick (isOne sameHolder (holdersOf s o) h) (some (carriedPicture s (o .icon))) (t .shown h))
-          (pick c (pick (sameHolder h (pointerOf o)) (t .shown (cell (cellAt s (o .icon)))) (t .shown h)) (t .shown h)) ≡ t .shown h
-      go true c e = one (isOne sameHolder (holdersOf s o) h) (some (carriedPicture s (o .icon))) (t .shown h) e
-      go false true e = one (sameHolder h (pointerOf o)) (t .shown (cell (cellAt s (o .icon)))) (t .shown h) (left (sameHolder h (pointerOf o)) e)
-      go false false e = refl
+          (pick c (pick (sameHolder h (pointerOf o)) (t .shown (cell (cellAt s (o .icon)))) (t .shown h))
+          (pick n (pick (sameHolder h (pointerOf o)) none (t .shown h)) (t .shown h))) ≡ t .shown h
+      go true c n e = one (isOne sameHolder (holdersOf s o) h) (some (carriedPicture s (o .icon))) (t .shown h) e
+      go false true n e = one (sameHolder h (pointerOf o)) (t .shown (cell (cellAt s (o .icon)))) (t .shown h) (left (sameHolder h (pointerOf o)) e)
+      go false false true e = one (sameHolder h (pointerOf o)) none (t .shown h) (left (sameHolder h (pointerOf o)) e)
+      go false false false e = refl
 
   -- an icon of another record is none of the order's
   other-icon : (g : Family) (x y w : ℕ) → sameRecord family a b g x y ≡ false → isOne sameHolder (touched s o) (icon g x y w) ≡ false
   unfolding touched
-  other-icon g x y w e = rw (u .stays) (go (bringsIcon (o .flags)) (bringsCached (o .flags)) (pointer (sameFamily g family) (eqb x a) (eqb y b) (eqb w (whichOf (o .flags))) e))
+  other-icon g x y w e = rw (u .stays) (go (bringsIcon (o .flags)) (bringsCached (o .flags)) (clearsOverlay (o .flags)) (pointer (sameFamily g family) (eqb x a) (eqb y b) (eqb w (whichOf (o .flags))) e))
     where
       pointer : (f i j k : Bool) → both f (both i j) ≡ false → both f (both i (both j k)) ≡ false
       pointer true true true k e = never (sym e)
@@ -116,10 +122,12 @@ module _ (t : Table) (s : List ℕ) (o : RecordOrder) (u : Updates t s o) where
       own true n = rw n
       own false n = rw n
 
-      go : (i c : Bool) → sameHolder (icon g x y w) (pointerOf o) ≡ false → isOne sameHolder (pick i (holdersOf s o) (pick c (pointerOf o ∷ []) [])) (icon g x y w) ≡ false
-      go true c n = own (sentOnce s (o .icon)) n
-      go false true n = rw n
-      go false false n = refl
+      go : (i c q : Bool) → sameHolder (icon g x y w) (pointerOf o) ≡ false
+          → isOne sameHolder (pick i (holdersOf s o) (pick c (pointerOf o ∷ []) (pick q (pointerOf o ∷ []) []))) (icon g x y w) ≡ false
+      go true c q n = own (sentOnce s (o .icon)) n
+      go false true q n = rw n
+      go false false true n = rw n
+      go false false false n = refl
 
   updated : Updated t s o
   unfolding recordFields changeRecord
@@ -133,6 +141,7 @@ module _ (t : Table) (s : List ℕ) (o : RecordOrder) (u : Updates t s o) where
         desktop = ap (λ (v : Table). v .desktop) after-is;
         brought = λ e h i. ap (λ (v : Table). v .shown h) after-is ∙ brought-is e h i;
         cached = λ e f. ap (λ (v : Table). v .shown (pointerOf o)) after-is ∙ cached-is e f;
+        cleared = λ e f n. ap (λ (v : Table). v .shown (pointerOf o)) after-is ∙ cleared-is e f n;
         pictures = λ h e. ap (λ (v : Table). v .shown h) after-is ∙ pictures-are h e;
         icons = λ g x y w e. ap (λ (v : Table). v .shown (icon g x y w)) after-is ∙ pictures-are (icon g x y w) (other-icon g x y w e);
       }

@@ -24,7 +24,7 @@ use Rattle.table.specs.Table.{fieldRows}
 use Rattle.table.specs.Memory.{headsOf, recordOk, recordsOk, holderOk, soundTable}
 
 pub record TableSound (x b : List ℕ) (lent : ℕ) : Type 0 where
-  pub big : 45780 ≤ length b
+  pub big : 61012 ≤ length b
   pub index : soundIndex x ≡ true
   pub lends : placesOf x ≤ lent
   pub records : (f : Family) (i : ℕ) → Within f i → isUsed x i ≡ true → bodyOk (fieldRows f) 0 0 (slotOf b i) ≡ true
@@ -60,10 +60,10 @@ module _ (x b : List ℕ) (lent : ℕ) where
   pub table-has : soundTable x b lent ≡ true → TableSound x b lent
   unfolding soundTable
   table-has e =
-      go (ltb (length b) 45780) (soundIndex x) (ltb lent (placesOf x)) (recordsOk Windows x b) (recordsOk Notifications x b)
+      go (ltb (length b) 61012) (soundIndex x) (ltb lent (placesOf x)) (recordsOk Windows x b) (recordsOk Notifications x b)
       (bodyOk desktopFields 1 1 (slotOf b 48)) refl refl refl refl refl refl e
     where
-      go : (l i p w n d : Bool) → ltb (length b) 45780 ≡ l → soundIndex x ≡ i → ltb lent (placesOf x) ≡ p → recordsOk Windows x b ≡ w
+      go : (l i p w n d : Bool) → ltb (length b) 61012 ≡ l → soundIndex x ≡ i → ltb lent (placesOf x) ≡ p → recordsOk Windows x b ≡ w
           → recordsOk Notifications x b ≡ n → bodyOk desktopFields 1 1 (slotOf b 48) ≡ d
           → pick l false (pick (not i) false (pick p false (pick (not w) false (pick (not n) false (pick (not d) false (eachBelow 156 (holderOk x b))))))) ≡ true
           → TableSound x b lent
@@ -75,7 +75,7 @@ module _ (x b : List ℕ) (lent : ℕ) where
       go false true false true true false x1 x2 x3 x4 x5 x6 e = never e
       go false true false true true true x1 x2 x3 x4 x5 x6 e =
           record {
-            big = ltb-false (length b) 45780 x1;
+            big = ltb-false (length b) 61012 x1;
             index = x2;
             lends = ltb-false lent (placesOf x) x3;
             records = records-have x4 x5;
@@ -86,7 +86,7 @@ module _ (x b : List ℕ) (lent : ℕ) where
   pub table-is : TableSound x b lent → soundTable x b lent ≡ true
   unfolding soundTable recordOk holderOk
   table-is s =
-      rw (le-ltb (length b) 45780 (s .big), s .index, le-ltb lent (placesOf x) (s .lends), records-are Windows, records-are Notifications, s .desktop)
+      rw (le-ltb (length b) 61012 (s .big), s .index, le-ltb lent (placesOf x) (s .lends), records-are Windows, records-are Notifications, s .desktop)
       (each-is 156 (holderOk x b) (λ h l. holder (eqb (pointerAt x h) 0) h refl))
     where
       records-are : (f : Family) → recordsOk f x b ≡ true

@@ -9,7 +9,7 @@ use lib.Dec.{eqb, ltb}
 use borrow.Author.Tests.{ne-eqb, eqb-false, ltb-true}
 use Rattle.wire.specs.Tests.{pick, both, either, has}
 use Rattle.wire.specs.Numbers.{Bytes}
-use Rattle.protocol.specs.Flags.{desktopNone, flagBigIcon}
+use Rattle.protocol.specs.Flags.{desktopNone}
 use Rattle.order.specs.declared.Judged.{Judged}
 use Rattle.order.specs.declared.Judged.the-variants.{Window, Notification, Desktop, Refused}
 use Rattle.order.specs.Judge.{judgeOf}
@@ -25,13 +25,13 @@ use Rattle.places.proofs.Bytes.{outside, pointAll-is}
 use Rattle.places.proofs.Validity.{valid-has}
 use Rattle.places.proofs.Keyed.{Own, keyed-one}
 use Rattle.places.proofs.Named.{cell-number, icon-number, own-icon, same-record}
-use Rattle.places.proofs.Pictures.{take-shown, share-shown, records-shown}
+use Rattle.places.proofs.Pictures.{take-shown, share-shown, release-shown, records-shown}
 use Rattle.index.specs.declared.RecordOrder.{RecordOrder}
 use Rattle.index.specs.declared.Plan.{Plan}
 use Rattle.index.specs.declared.Plan.the-variants.{ChangeRecord, ChangeDesktop, Refuse}
 use Rattle.index.specs.Families.{start, capacity, sameRecord}
 use Rattle.index.specs.Slots.{isAt, slotOf}
-use Rattle.index.specs.Orders.{onJudged, isNew, isDelete, bringsIcon, bringsCached, cellAt, whichOf, pointerOf, holdersOf}
+use Rattle.index.specs.Orders.{onJudged, isNew, isDelete, bringsIcon, bringsCached, clearsOverlay, cellAt, whichOf, pointerOf, holdersOf}
 use Rattle.index.specs.Index as index
 use Rattle.index.specs.Memory.{indexOf}
 use Rattle.index.specs.Plans.{pointerFor, cellFor, changeOf, planRecord, planOf}
@@ -41,7 +41,7 @@ use Rattle.index.proofs.Memory.{Listed, listed-is, Slotted, points-slotted, sha
 use Rattle.index.proofs.Soundness.{within-slots, Sound, sound-has, free-pointers, slots-of}
 use Rattle.index.proofs.Listed.{slotted-find, find-listed, find-freed, none-find}
 use Rattle.index.proofs.Ordered.{Ordered, deleted-old, windowOrder, notificationOrder, ordered-window, ordered-notification}
-use Rattle.index.proofs.Shared.{listed-at, removed-freed, removed-still, icons-holders}
+use Rattle.index.proofs.Shared.{listed-at, removed-freed, removed-still, icons-holders, none-slotted}
 use Rattle.index.proofs.Held.{which-small, beside-cell, held}
 use Rattle.index.proofs.Numbered.{readied, Ready, ready, Planned, Outcome, refused, changes, outcome}
 use Rattle.cache.specs.Cells.{carriedPicture}
@@ -145,7 +145,7 @@ module _ (x s : List ℕ) (o : RecordOrder) (i place : ℕ) (sound : Sound x) (h
   below = within-slots f i (p .placed .within)
 
   which : w < 3
-  which = which-small (o .flags) (has (o .flags) flagBigIcon)
+  which = which-small (o .flags)
 
   -- a record that has just been listed shows nothing
   new-shown : isNew f (o .flags) ≡ true → (g : Holder) → shownIn (listedOf x i a b) pictures g ≡ shownIn x pictures g
@@ -252,23 +252,40 @@ module _ (x s : List ℕ) (o : RecordOrder) (i place : ℕ) (sound : Sound x) (h
       ∙ ap (λ (q : Option (List ℕ)). pick (sameHolder g (pointerOf o)) q (shown z pictures k)) (ready-shown (cell c))
       ∙ ap (pick (sameHolder g (pointerOf o)) (shownIn x pictures (cell c))) (ready-shown g))
 
+  -- an overlay icon that is set to none shows nothing
+  cleared-icon-shown : (g : Holder) → pick (sameHolder g (pointerOf o)) none (shownIn x pictures g) ≡ shownIn (releaseOf z (pointerFor i (o .flags))) pictures g
+  cleared-icon-shown g =
+      let j = below in
+      let v = which in
+      let ptr = pointerFor i (o .flags) in
+      let m = releaseOf z ptr in
+      let k = numberOf (slotOf z) g in
+      let e : numberOf (slotOf z) (pointerOf o) ≡ ptr = icon-number (slotOf z) (slots-of z) f a b w i (r .at-i) which in
+      sym
+      (ap (shown m pictures) (slotted-number z m (none-slotted z (r .sound) f a b w i (r .at-i) which) g)
+      ∙ release-shown z (r .sound .holders) ptr (omega arith) pictures k
+      ∙ ap (λ (t : Bool). pick t none (shown z pictures k)) (ap (eqb k) (sym e) ∙ own-icon (slotOf z) (slots-of z) f a b w i (r .at-i) which g)
+      ∙ ap (pick (sameHolder g (pointerOf o)) none) (ready-shown g))
+
   -- the whole change
   changed-shown : (t : Table) → ((g : Holder) → t .shown g ≡ shownIn x pictures g) → (g : Holder)
       → shownAfter t s o g ≡ shownIn (changedOf x (changeOf s o i place)) (picturesBy s (ChangeRecord (changeOf s o i place)) pictures) g
   unfolding shownAfter changedOf picturedOf picturesBy
   changed-shown t shows g =
-      rw (shows g, shows (cell c)) (go (isDelete (o .flags)) (bringsIcon (o .flags)) (bringsCached (o .flags)) refl refl refl)
+      rw (shows g, shows (cell c)) (go (isDelete (o .flags)) (bringsIcon (o .flags)) (bringsCached (o .flags)) (clearsOverlay (o .flags)) refl refl refl)
     where
-      go : (u v k : Bool) → isDelete (o .flags) ≡ u → bringsIcon (o .flags) ≡ v → bringsCached (o .flags) ≡ k
+      go : (u v k n : Bool) → isDelete (o .flags) ≡ u → bringsIcon (o .flags) ≡ v → bringsCached (o .flags) ≡ k
           → pick u (pick (isOne sameHolder (iconsOf f a b) g) none (shownIn x pictures g))
           (pick v (pick (isOne sameHolder (holdersOf s o) g) (some (carriedPicture s (o .icon))) (shownIn x pictures g))
-          (pick k (pick (sameHolder g (pointerOf o)) (shownIn x pictures (cell c)) (shownIn x pictures g)) (shownIn x pictures g)))
-          ≡ shownIn (pick u (removedOf x i) (pick v (pointAll z ns (place + 1)) (pick k (shareOf z (pointerFor i (o .flags)) (cellFor s o i)) z)))
+          (pick k (pick (sameHolder g (pointerOf o)) (shownIn x pictures (cell c)) (shownIn x pictures g))
+          (pick n (pick (sameHolder g (pointerOf o)) none (shownIn x pictures g)) (shownIn x pictures g))))
+          ≡ shownIn (pick u (removedOf x i) (pick v (pointAll z ns (place + 1)) (pick k (shareOf z (pointerFor i (o .flags)) (cellFor s o i)) (pick n (releaseOf z (pointerFor i (o .flags))) z))))
           (pick (pick u false v) (withPicture pictures place (carriedPicture s (o .icon))) pictures) g
-      go true v k d e m = removed-shown d g
-      go false true k d e m = brought-shown e (carriedPicture s (o .icon)) g
-      go false false true d e m = rw (beside-cell c (pointerFor i (o .flags)) (p .cached e m)) (cached-shown e m g)
-      go false false false d e m = sym (ready-shown g)
+      go true v k n d e m = removed-shown d g
+      go false true k n d e m = brought-shown e (carriedPicture s (o .icon)) g
+      go false false true n d e m = rw (beside-cell c (pointerFor i (o .flags)) (p .cached e m)) (cached-shown e m g)
+      go false false false true d e m = cleared-icon-shown g
+      go false false false false d e m = sym (ready-shown g)
 
 -- ---- an order for a record, judged
 

@@ -23,7 +23,6 @@ use Rattle.index.proofs.Memory.{cleared-is}
 use Rattle.index.proofs.Soundness.{never, Within, within-slots, one-family, free-is, sound-has}
 use Rattle.index.proofs.Numbered.{Planned}
 use Rattle.body.specs.Bodies.{desktopFields, slotOf, bodyOk}
-use Rattle.body.proofs.Slots.{length-slot}
 use Rattle.picture.specs.Kept.{IconThere}
 use Rattle.picture.specs.Pictures.{headOk}
 use Rattle.table.specs.Table.{fieldRows}
@@ -33,7 +32,8 @@ use Rattle.table.proofs.OfKinds.{OfRecord, OfDesktop}
 use Rattle.table.proofs.Rule.{TableSound}
 use Rattle.table.proofs.Bodied.{slot-ok, desktop-ok}
 use Rattle.table.proofs.Pointed.{used-after, freed-after, was-used, pointers-after, cleared-pointers}
-use Rattle.table.proofs.Changed.{bodies-are, heads-ok, head-there, desk-is}
+use Rattle.table.proofs.Heads.{desk-slot}
+use Rattle.table.proofs.Changed.{slot-roomy, bodies-are, heads-ok, head-there, desk-is}
 
 -- a pointer at nothing, or at a place whose head is in its sets
 abbrev HeadAt : List ℕ → ℕ → Type 0
@@ -55,12 +55,9 @@ module _ (x b s : List ℕ) (lent : ℕ) (g : TableSound x b lent) (o : RecordOr
   below : i < 48
   below = a .slot
 
-  room : 916 * i + 916 ≤ length b
-  room = let l = below in let m = g .big in omega arith
-
   new-ok : bodyOk (fieldRows (o .family)) 0 0 new ≡ true
   new-ok =
-      slot-ok s c (slotOf b i) (length-slot b i room) a
+      slot-ok s c (slotOf b i) (slot-roomy s c b (g .big) a icon) a
       (λ t. g .records (o .family) i (p .placed .within) (was-used x s o i place (sound-has x (g .index)) (k .ordered) p fits t))
 
   slots : (j : ℕ) → j < 49 → slotOf all j ≡ pick (isDelete (o .flags)) (slotOf b j) (pick (eqb i j) new (slotOf b j))
@@ -146,6 +143,6 @@ module _ (x b s : List ℕ) (lent : ℕ) (g : TableSound x b lent) (flags : ℕ)
         index = ok;
         lends = omega arith;
         records = desk-records;
-        desktop = rw (desk-slots 48) (desktop-ok flags s (slotOf b 48) (length-slot b 48 (omega arith)) (k .within) (k .fields) (g .desktop));
+        desktop = rw (desk-slots 48) (desktop-ok flags s (slotOf b 48) (desk-slot b (omega (arith, g .big))) (k .within) (k .fields) (g .desktop));
         heads = desk-holders;
       }

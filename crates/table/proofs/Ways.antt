@@ -15,7 +15,7 @@ use types.Run.{OneOf}
 use Rattle.wire.specs.Tests.{pick, has}
 use Rattle.wire.specs.Parts.{splice}
 use Rattle.wire.proofs.Numbers.{num1-is}
-use Rattle.wire.proofs.Parts.{part-back}
+use Rattle.wire.proofs.Parts.{length-splice, part-back}
 use Rattle.order.specs.declared.Row.{Row}
 use Rattle.order.specs.Icons.{partsOf}
 use Rattle.protocol.specs.Flags.{flagIcon}
@@ -32,14 +32,15 @@ use Rattle.index.specs.Slots.{usedAt, isUsed}
 use Rattle.index.specs.Sound.{eachFrom, soundIndex}
 use Rattle.index.proofs.Plan.{the-type}
 use Rattle.index.proofs.Soundness.{sound-has}
-use Rattle.body.specs.Bodies.{windowFields, notificationFields, desktopFields, slotOf, bodyOk}
+use Rattle.body.specs.Bodies.{windowFields, notificationFields, desktopFields, slotLength, slotStart, slotOf, bodyOk}
 use Rattle.body.specs.Stores.{storeOf, preparedOf, hookedOf, syncedOf, roomAll, EndsWell}
-use Rattle.body.proofs.Slots.{length-slot, slot-lent, slots-back}
+use Rattle.body.proofs.Slots.{slot-within, slot-after, length-slot, slot-lent, slots-back}
 use Rattle.store.specs.Store.{placeLength}
 use Rattle.picture.specs.Pictures.{headOk, headsAfter, storeAfter}
+use Rattle.table.specs.Table.{fieldRows}
 use Rattle.table.specs.Memory.{headsOf, fixedBy, recordOk, holderOk, soundTable}
 use Rattle.table.specs.Changes.{slotAfter, slotsAfter, headsPut, desktopSlot, slotsBy, headsBy, storeBy, Able, Follows}
-use Rattle.table.proofs.Bodied.{family-room}
+use Rattle.table.proofs.Heads.{desk-start, desk-length, desk-ends}
 
 lacks : (flags mask : ℕ) → bitAnd flags mask ≡ 0 → has flags mask ≡ false
 lacks flags mask h = rw (eq-eqb (bitAnd flags mask) 0 h)
@@ -57,11 +58,11 @@ pub slot-stored : (rows : List Row) (flags : ℕ) (s : List ℕ) (at : ℕ) (fre
 slot-stored rows flags s at fresh slot e f = f ∙ ap (storeOf rows 2 flags s at) e
 
 module _ (s : List ℕ) (c : Change) (slot : List ℕ) where
-  pub window-asks : c .family ≡ Windows → Able s c → (11 ≤ length s) × (2 + roomAll windowFields ≤ 916) × EndsWell windowFields (c .flags) s 11
-  window-asks e a = let w : 11 ≤ length s = rw e at (a .within) in (w, family-room Windows, rw e at (a .fields))
+  pub window-asks : c .family ≡ Windows → 2 + roomAll (fieldRows (c .family)) ≤ length slot → Able s c → (11 ≤ length s) × (2 + roomAll windowFields ≤ length slot) × EndsWell windowFields (c .flags) s 11
+  window-asks e l a = let w : 11 ≤ length s = rw e at (a .within) in (w, rw e at l, rw e at (a .fields))
 
-  pub notification-asks : c .family ≡ Notifications → Able s c → (15 ≤ length s) × (2 + roomAll notificationFields ≤ 916) × EndsWell notificationFields (c .flags) s 15
-  notification-asks e a = let w : 15 ≤ length s = rw e at (a .within) in (w, family-room Notifications, rw e at (a .fields))
+  pub notification-asks : c .family ≡ Notifications → 2 + roomAll (fieldRows (c .family)) ≤ length slot → Able s c → (15 ≤ length s) × (2 + roomAll notificationFields ≤ length slot) × EndsWell notificationFields (c .flags) s 15
+  notification-asks e l a = let w : 15 ≤ length s = rw e at (a .within) in (w, rw e at l, rw e at (a .fields))
 
   pub window-slot : {x : List ℕ} → c .family ≡ Windows → x ≡ storeOf windowFields 2 (c .flags) s 11 (preparedOf (c .fresh) slot) → x ≡ slotAfter s c slot
   unfolding slotAfter
@@ -86,12 +87,25 @@ module _ (flags : ℕ) (s slot : List ℕ) where
 -- ---- the slots of the bodies
 
 -- a slot that was lent and came back changed
-slot-back : (b : List ℕ) (k base n : ℕ) (change : List ℕ → List ℕ) {x : List ℕ} → 916 * k + 916 ≤ length b → base ≡ 916 * k → n ≡ 916
+slot-back : (b : List ℕ) (k base n : ℕ) (change : List ℕ → List ℕ) {x : List ℕ} → slotStart k + slotLength k ≤ length b → base ≡ slotStart k → n ≡ slotLength k
     → length x ≡ length (take n (drop base b)) → x ≡ change (take n (drop base b))
-    → take base b ++ (x ++ drop n (drop base b)) ≡ splice b (916 * k) (change (slotOf b k))
+    → take base b ++ (x ++ drop n (drop base b)) ≡ splice b (slotStart k) (change (slotOf b k))
 slot-back b k base n change {x} room at all size e =
     let l = slot-lent b base n k at all in
-    slots-back b k x (size ∙ ap length l ∙ length-slot b k room) room base n at all ∙ ap (splice b (916 * k)) (e ∙ ap change l)
+    slots-back b k x (size ∙ ap length l ∙ length-slot b k room) room base n at all ∙ ap (splice b (slotStart k)) (e ∙ ap change l)
+
+-- the part that is lent for slot k, from where it begins to where the next one does
+module _ (b : List ℕ) (k : ℕ) {base end : ℕ} (eb : base ≡ slotStart k) (ee : end ≡ slotStart (k + 1)) where
+  pub part-in-order : base ≤ end
+  part-in-order = omega (arith, eb, ee, slot-after k)
+
+  pub part-is : end - base ≡ slotLength k
+  part-is = omega (arith, eb, ee, slot-after k)
+
+  pub part-roomy : (n : ℕ) → k < 49 → 61012 ≤ length b → n ≤ slotLength k → n ≤ length (take (end - base) (drop base b))
+  part-roomy n l big h =
+      let e : length (take (end - base) (drop base b)) ≡ slotLength k = ap length (slot-lent b base (end - base) k eb part-is) ∙ length-slot b k (omega (arith, slot-within k l, big)) in
+      omega (arith, e, h)
 
 module _ (s b : List ℕ) (p : Plan) where
   pub plan-able : {c : Change} → p ≡ ChangeRecord c → Follows s p → Able s c
@@ -106,24 +120,34 @@ module _ (s b : List ℕ) (p : Plan) where
   unfolding slotsBy slotsAfter
   slots-deleted e t = rw (e, t)
 
-  pub slots-changed : (c : Change) {x : List ℕ} → p ≡ ChangeRecord c → c .deleted ≡ false → 45780 ≤ length b → Able s c
-      → length x ≡ length (take (916 * c .slot + 916 - 916 * c .slot) (drop (916 * c .slot) b)) → x ≡ slotAfter s c (take (916 * c .slot + 916 - 916 * c .slot) (drop (916 * c .slot) b))
-      → take (916 * c .slot) b ++ (x ++ drop (916 * c .slot + 916 - 916 * c .slot) (drop (916 * c .slot) b)) ≡ slotsBy s p b
+  pub slots-changed : (c : Change) {base end : ℕ} {x : List ℕ} → p ≡ ChangeRecord c → c .deleted ≡ false → 61012 ≤ length b → Able s c
+      → base ≡ slotStart (c .slot) → end ≡ slotStart (c .slot + 1)
+      → length x ≡ length (take (end - base) (drop base b)) → x ≡ slotAfter s c (take (end - base) (drop base b))
+      → take base b ++ (x ++ drop (end - base) (drop base b)) ≡ slotsBy s p b
   unfolding slotsBy slotsAfter
-  slots-changed c e t big a size h =
-      let l = a .slot in
+  slots-changed c {base} {end} e t big a eb ee size h =
+      let l : c .slot < 49 = omega (arith, a .slot) in
+      let ends = slot-within (c .slot) l in
       rw e
-      (slot-back b (c .slot) (916 * c .slot) (916 * c .slot + 916 - 916 * c .slot) (slotAfter s c) (omega arith) refl (omega arith) size h
-      ∙ stays (c .deleted) b (splice b (916 * c .slot) (slotAfter s c (slotOf b (c .slot)))) t)
+      (slot-back b (c .slot) base (end - base) (slotAfter s c) (omega (arith, ends, big)) eb (part-is b (c .slot) eb ee) size h
+      ∙ stays (c .deleted) b (splice b (slotStart (c .slot)) (slotAfter s c (slotOf b (c .slot)))) t)
 
-  pub slots-desktop : (flags : ℕ) {x : List ℕ} → p ≡ ChangeDesktop flags → 45780 ≤ length b
-      → length x ≡ length (take 916 (drop 43968 b)) → x ≡ desktopSlot flags s (take 916 (drop 43968 b)) → take 43968 b ++ (x ++ drop 916 (drop 43968 b)) ≡ slotsBy s p b
+  pub slots-desktop : (flags : ℕ) {x : List ℕ} → p ≡ ChangeDesktop flags → 61012 ≤ length b
+      → length x ≡ length (take 916 (drop 59200 b)) → x ≡ desktopSlot flags s (take 916 (drop 59200 b)) → take 59200 b ++ (x ++ drop 916 (drop 59200 b)) ≡ slotsBy s p b
   unfolding slotsBy
-  slots-desktop flags e big size h = rw e (slot-back b 48 43968 916 (desktopSlot flags s) (omega arith) refl refl size h)
+  slots-desktop flags e big size h = rw e (slot-back b 48 59200 916 (desktopSlot flags s) (desk-ends b (omega (arith, big))) (sym desk-start) (sym desk-length) size h)
 
   pub slots-refused : {n : ℕ} → p ≡ Refuse n → b ≡ slotsBy s p b
   unfolding slotsBy
   slots-refused e = rw e
+
+  -- the heads that were lent and came back are as long
+  pub heads-same : (x : List ℕ) → 61012 ≤ length b → length x ≡ length (take (length b - 60116) (drop 60116 b))
+      → length (take 60116 b ++ (x ++ drop (length b - 60116) (drop 60116 b))) ≡ length b
+  heads-same x big size =
+      let w : take (length b - 60116) (drop 60116 b) ≡ drop 60116 b = take-all (length b - 60116) (drop 60116 b) (simp length-drop (omega arith)) in
+      let l : length x ≡ length b - 60116 = size ∙ ap length w ∙ length-drop 60116 b in
+      ap length (part-back b x 60116 (length b - 60116) l) ∙ length-splice b 60116 x (omega (arith, l))
 
   -- ---- the picture of an order
 
@@ -140,15 +164,15 @@ module _ (s b : List ℕ) (p : Plan) where
     put-none {c} e t h = let n = lacks (c .flags) flagIcon h in (rw (e, t, n), rw (e, t, n))
 
     pub put-there : (c : Change) {x : List ℕ} {q : List (List ℕ)} → p ≡ ChangeRecord c → c .deleted ≡ false → (bitAnd (c .flags) flagIcon ≡ 0 → ⊥)
-        → length x ≡ length (take (length b - 44884) (drop 44884 b)) → x ≡ headsAfter (take (length b - 44884) (drop 44884 b)) (c .place) s (c .icon)
-        → q ≡ storeAfter store (c .place) s (c .icon) → Put (take 44884 b ++ (x ++ drop (length b - 44884) (drop 44884 b))) q
+        → length x ≡ length (take (length b - 60116) (drop 60116 b)) → x ≡ headsAfter (take (length b - 60116) (drop 60116 b)) (c .place) s (c .icon)
+        → q ≡ storeAfter store (c .place) s (c .icon) → Put (take 60116 b ++ (x ++ drop (length b - 60116) (drop 60116 b))) q
     unfolding headsBy headsPut storeBy headsOf
     put-there c {x} e t h size f g =
         let n = holds (c .flags) flagIcon h in
-        let w : take (length b - 44884) (drop 44884 b) ≡ drop 44884 b = take-all (length b - 44884) (drop 44884 b) (simp length-drop (omega arith)) in
-        let l : length x ≡ length b - 44884 = size ∙ ap length w ∙ length-drop 44884 b in
-        let k : x ≡ headsAfter (drop 44884 b) (c .place) s (c .icon) = f ∙ ap (λ (y : List ℕ). headsAfter y (c .place) s (c .icon)) w in
-        (rw (e, t, n) (part-back b x 44884 (length b - 44884) l ∙ ap (splice b 44884) k), rw (e, t, n) g)
+        let w : take (length b - 60116) (drop 60116 b) ≡ drop 60116 b = take-all (length b - 60116) (drop 60116 b) (simp length-drop (omega arith)) in
+        let l : length x ≡ length b - 60116 = size ∙ ap length w ∙ length-drop 60116 b in
+        let k : x ≡ headsAfter (drop 60116 b) (c .place) s (c .icon) = f ∙ ap (λ (y : List ℕ). headsAfter y (c .place) s (c .icon)) w in
+        (rw (e, t, n) (part-back b x 60116 (length b - 60116) l ∙ ap (splice b 60116) k), rw (e, t, n) g)
 
 -- a plan of another kind, by its tag
 pub put-other : (s b : List ℕ) (p : Plan) (store : List (List ℕ)) → OneOf (1 ∷ 2 ∷ []) (tagOf the-type p) → (b ≡ headsBy s p b) × (store ≡ storeBy s p store)
@@ -164,7 +188,7 @@ icon-asks s c a h = let t = holds (c .flags) flagIcon h in (a .icon .low t, a .i
 
 -- ---- soundness
 
-pub body-lent : (rows : List Row) (m : ℕ) (b : List ℕ) (i base k : ℕ) {r : Bool} → base ≡ 916 * i → k ≡ 916 → r ≡ bodyOk rows m m (take k (drop base b))
+pub body-lent : (rows : List Row) (m : ℕ) (b : List ℕ) (i base k : ℕ) {r : Bool} → base ≡ slotStart i → k ≡ slotLength i → r ≡ bodyOk rows m m (take k (drop base b))
     → r ≡ bodyOk rows m m (slotOf b i)
 body-lent rows m b i base k at all e = e ∙ ap (bodyOk rows m m) (slot-lent b base k i at all)
 
@@ -195,15 +219,15 @@ module _ (x b : List ℕ) (h : ℕ) (below : h < 156) where
       let e = inside x h below in
       omega arith
 
-  pub holder-head : {r : Bool} → 44884 ≤ length b → (getD x (h + 1) 0 ≡ 0 → ⊥) → r ≡ headOk (take (length b - 44884) (drop 44884 b)) (getD x (h + 1) 0 - 1) → r ≡ holderOk x b h
+  pub holder-head : {r : Bool} → 60116 ≤ length b → (getD x (h + 1) 0 ≡ 0 → ⊥) → r ≡ headOk (take (length b - 60116) (drop 60116 b)) (getD x (h + 1) 0 - 1) → r ≡ holderOk x b h
   unfolding holderOk headsOf
   holder-head long ne f =
-      let w : take (length b - 44884) (drop 44884 b) ≡ drop 44884 b = take-all (length b - 44884) (drop 44884 b) (simp length-drop (omega arith)) in
+      let w : take (length b - 60116) (drop 60116 b) ≡ drop 60116 b = take-all (length b - 60116) (drop 60116 b) (simp length-drop (omega arith)) in
       rw (inside x h below, ne-eqb (getD x (h + 1) 0) 0 ne) (f ∙ ap (λ (y : List ℕ). headOk y (getD x (h + 1) 0 - 1)) w)
 
   -- the heads lie behind the slots
-  pub head-room : soundIndex x ≡ true → 45780 ≤ length b → (getD x (h + 1) 0 ≡ 0 → ⊥)
-      → 14 * (getD x (h + 1) 0 - 1) + 14 ≤ length (take (length b - 44884) (drop 44884 b))
+  pub head-room : soundIndex x ≡ true → 61012 ≤ length b → (getD x (h + 1) 0 ≡ 0 → ⊥)
+      → 14 * (getD x (h + 1) 0 - 1) + 14 ≤ length (take (length b - 60116) (drop 60116 b))
   head-room ok big ne = let s = pointer-small ok in simp (length-take, length-drop) (omega (arith, ne))
 
 -- every number below h passed
@@ -231,38 +255,38 @@ module _ (test : ℕ → Bool) where
 -- ---- the whole rule
 
 module _ (x b : List ℕ) (lent : ℕ) where
-  pub sound-bodies : length b < 45780 → false ≡ soundTable x b lent
+  pub sound-bodies : length b < 61012 → false ≡ soundTable x b lent
   unfolding soundTable
-  sound-bodies h = rw (lt-ltb (length b) 45780 h)
+  sound-bodies h = rw (lt-ltb (length b) 61012 h)
 
-  module _ (h : 45780 ≤ length b) {t : Bool} (e : t ≡ soundIndex x) where
+  module _ (h : 61012 ≤ length b) {t : Bool} (e : t ≡ soundIndex x) where
     pub sound-index : t ≡ false → false ≡ soundTable x b lent
     unfolding soundTable
-    sound-index d = rw (le-ltb (length b) 45780 h, ← e, d)
+    sound-index d = rw (le-ltb (length b) 61012 h, ← e, d)
 
     module _ (d : t ≡ true) where
       pub sound-lent : lent < getD x 0 0 → false ≡ soundTable x b lent
       unfolding soundTable placesOf
-      sound-lent l = rw (le-ltb (length b) 45780 h, ← e, d, lt-ltb lent (getD x 0 0) l)
+      sound-lent l = rw (le-ltb (length b) 61012 h, ← e, d, lt-ltb lent (getD x 0 0) l)
 
       module _ (l : getD x 0 0 ≤ lent) {w : Bool} (f : w ≡ eachFrom 32 0 (recordOk windowFields x b)) where
         pub sound-windows : w ≡ false → false ≡ soundTable x b lent
         unfolding soundTable placesOf
-        sound-windows y = rw (le-ltb (length b) 45780 h, ← e, d, le-ltb lent (getD x 0 0) l, ← f, y)
+        sound-windows y = rw (le-ltb (length b) 61012 h, ← e, d, le-ltb lent (getD x 0 0) l, ← f, y)
 
         module _ (y : w ≡ true) {n : Bool} (k : n ≡ eachFrom 16 32 (recordOk notificationFields x b)) where
           pub sound-notifications : n ≡ false → false ≡ soundTable x b lent
           unfolding soundTable placesOf
-          sound-notifications z = rw (le-ltb (length b) 45780 h, ← e, d, le-ltb lent (getD x 0 0) l, ← f, y, ← k, z)
+          sound-notifications z = rw (le-ltb (length b) 61012 h, ← e, d, le-ltb lent (getD x 0 0) l, ← f, y, ← k, z)
 
           module _ (z : n ≡ true) {q : Bool} (m : q ≡ bodyOk desktopFields 1 1 (slotOf b 48)) where
             pub sound-desktop : q ≡ false → false ≡ soundTable x b lent
             unfolding soundTable placesOf
-            sound-desktop u = rw (le-ltb (length b) 45780 h, ← e, d, le-ltb lent (getD x 0 0) l, ← f, y, ← k, z, ← m, u)
+            sound-desktop u = rw (le-ltb (length b) 61012 h, ← e, d, le-ltb lent (getD x 0 0) l, ← f, y, ← k, z, ← m, u)
 
             pub sound-holders : {r : Bool} → q ≡ true → r ≡ eachBelow 156 (holderOk x b) → r ≡ soundTable x b lent
             unfolding soundTable placesOf
-            sound-holders u r = rw (le-ltb (length b) 45780 h, ← e, d, le-ltb lent (getD x 0 0) l, ← f, y, ← k, z, ← m, u) r
+            sound-holders u r = rw (le-ltb (length b) 61012 h, ← e, d, le-ltb lent (getD x 0 0) l, ← f, y, ← k, z, ← m, u) r
 
 -- ---- emptying
 

@@ -1,5 +1,5 @@
 -- What the change of a plan does to the memory of the bodies and to the store. Assumes nothing.
-use Prim.Native.Nat.{ℕ, _*_, _-_, _≤_, _<_}
+use Prim.Native.Nat.{ℕ, _+_, _-_, _≤_, _<_}
 use mathlib.Core.Path.{_≡_}
 use mathlib.Core.Bool.{Bool, true, false}
 use mathlib.Core.List.{List}
@@ -14,8 +14,8 @@ use Rattle.index.specs.declared.Change.{Change}
 use Rattle.index.specs.declared.Plan.{Plan}
 use Rattle.index.specs.declared.Plan.the-variants.{ChangeRecord, ChangeDesktop, Refuse}
 use Rattle.index.specs.Orders.{bringsIcon}
-use Rattle.body.specs.Bodies.{desktopFields, slotOf}
-use Rattle.body.specs.Stores.{storeOf, preparedOf, hookedOf, syncedOf, EndsWell}
+use Rattle.body.specs.Bodies.{desktopFields, slotLength, slotStart, slotOf}
+use Rattle.body.specs.Stores.{storeOf, preparedOf, hookedOf, syncedOf, roomAll, EndsWell}
 use Rattle.cache.specs.Cells.{carriedPicture}
 use Rattle.store.specs.Store.{placeLength}
 use Rattle.picture.specs.Pictures.{headsAfter, storeAfter}
@@ -32,7 +32,7 @@ putsPicture c = pick (c .deleted) false (bringsIcon (c .flags))
 
 -- the slots after a change; then the heads
 unfoldable pub slotsAfter : List ℕ → Change → List ℕ → List ℕ
-slotsAfter s c bodies = pick (c .deleted) bodies (splice bodies (916 * c .slot) (slotAfter s c (slotOf bodies (c .slot))))
+slotsAfter s c bodies = pick (c .deleted) bodies (splice bodies (slotStart (c .slot)) (slotAfter s c (slotOf bodies (c .slot))))
 
 unfoldable pub headsPut : List ℕ → Change → List ℕ → List ℕ
 headsPut s c bodies = pick (putsPicture c) (splice bodies headsStart (headsAfter (headsOf bodies) (c .place) s (c .icon))) bodies
@@ -45,7 +45,7 @@ desktopSlot flags s slot =
 
 unfoldable pub slotsBy : List ℕ → Plan → List ℕ → List ℕ
 slotsBy s (ChangeRecord c) bodies = slotsAfter s c bodies
-slotsBy s (ChangeDesktop flags) bodies = splice bodies 43968 (desktopSlot flags s (slotOf bodies 48))
+slotsBy s (ChangeDesktop flags) bodies = splice bodies (slotStart 48) (desktopSlot flags s (slotOf bodies 48))
 slotsBy s (Refuse n) bodies = bodies
 
 unfoldable pub headsBy : List ℕ → Plan → List ℕ → List ℕ
@@ -77,6 +77,7 @@ pub record IconFits (s : List ℕ) (flags icon : ℕ) : Type 0 where
 
 pub record Able (s : List ℕ) (c : Change) : Type 0 where
   pub slot : c .slot < slotCount
+  pub room : 2 + roomAll (fieldRows (c .family)) ≤ slotLength (c .slot)
   pub place : c .place < mostPlaces
   pub within : fieldsAt (c .family) ≤ length s
   pub fields : EndsWell (fieldRows (c .family)) (c .flags) s (fieldsAt (c .family))

@@ -24,11 +24,11 @@ use Rattle.table.specs.Table.{Table, fieldRows}
 
 -- the slots of the bodies end where the heads begin
 abbrev pub headsStart : ℕ
-headsStart = 44884
+headsStart = 60116
 
 -- 64 heads of 14 bytes
 abbrev pub bodiesLength : ℕ
-bodiesLength = 45780
+bodiesLength = 61012
 
 unfoldable pub headsOf : List ℕ → List ℕ
 headsOf bodies = drop headsStart bodies

@@ -11,7 +11,7 @@ use Rattle.places.specs.Sharing.{isOne}
 use Rattle.places.specs.Holder.{Holder, cell, icon, sameHolder}
 use Rattle.index.specs.declared.RecordOrder.{RecordOrder}
 use Rattle.index.specs.Families.{sameRecord}
-use Rattle.index.specs.Orders.{onJudged, isDelete, bringsIcon, bringsCached, cellAt, sentOnce, pointerOf, holdersOf}
+use Rattle.index.specs.Orders.{onJudged, isDelete, bringsIcon, bringsCached, clearsOverlay, cellAt, sentOnce, pointerOf, holdersOf}
 use Rattle.index.specs.Index.{indexAfter}
 use Rattle.index.specs.Promises.{touched}
 use Rattle.body.specs.Bodies.{SetsFlagged}
@@ -29,7 +29,7 @@ pub record Updates (t : Table) (s : List ℕ) (o : RecordOrder) : Type 0 where
   pub stays : isDelete (o .flags) ≡ false
 
 -- exactly the flagged fields are set, each to the carried value; no other record and no desktop state changes. An icon's holders
--- show its picture, a cached icon's pointer shows what its cell shows; no other window and no other notification icon shows
+-- show its picture, a cached icon's pointer shows what its cell shows, an overlay icon set to none nothing; no other window and no other notification icon shows
 -- another picture, and no cell but the one that an icon names
 pub record Updated (t : Table) (s : List ℕ) (o : RecordOrder) : Type 0 where
   pub listed : after t s .index .listed (o .family) (o .window .id) (o .notify .id) ≡ true
@@ -39,6 +39,7 @@ pub record Updated (t : Table) (s : List ℕ) (o : RecordOrder) : Type 0 where
   pub desktop : after t s .desktop ≡ t .desktop
   pub brought : bringsIcon (o .flags) ≡ true → (h : Holder) → isOne sameHolder (holdersOf s o) h ≡ true → after t s .shown h ≡ some (carriedPicture s (o .icon))
   pub cached : bringsIcon (o .flags) ≡ false → bringsCached (o .flags) ≡ true → after t s .shown (pointerOf o) ≡ t .shown (cell (cellAt s (o .icon)))
+  pub cleared : bringsIcon (o .flags) ≡ false → bringsCached (o .flags) ≡ false → clearsOverlay (o .flags) ≡ true → after t s .shown (pointerOf o) ≡ none
   pub pictures : (h : Holder) → isOne sameHolder (touched s o) h ≡ false → after t s .shown h ≡ t .shown h
   pub icons : (g : Family) (x y w : ℕ) → sameRecord (o .family) (o .window .id) (o .notify .id) g x y ≡ false → after t s .shown (icon g x y w) ≡ t .shown (icon g x y w)
 

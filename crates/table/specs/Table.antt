@@ -16,7 +16,7 @@ use Rattle.places.specs.Sharing.{isOne}
 use Rattle.places.specs.Holder.{Holder, cell, sameHolder, isCellHolder, iconsOf}
 use Rattle.index.specs.declared.RecordOrder.{RecordOrder}
 use Rattle.index.specs.Families.{sameRecord}
-use Rattle.index.specs.Orders.{onJudged, isNew, isDelete, bringsIcon, bringsCached, cellAt, pointerOf, holdersOf}
+use Rattle.index.specs.Orders.{onJudged, isNew, isDelete, bringsIcon, bringsCached, clearsOverlay, cellAt, pointerOf, holdersOf}
 use Rattle.index.specs.Index as index
 use Rattle.body.specs.Bodies.{Body, windowFields, notificationFields, desktopFields, setFlagged, emptyFields, emptyBody}
 use Rattle.cache.specs.Cells.{carriedPicture}
@@ -61,14 +61,15 @@ recordFields t s o =
 unfoldable pub fieldsAfter : Table → List ℕ → RecordOrder → Family → ℕ → ℕ → List (List ℕ)
 fieldsAfter t s o g x y = pick (sameRecord (o .family) (o .window .id) (o .notify .id) g x y) (recordFields t s o) (t .fields g x y)
 
--- what holders show: a deleted record's icons nothing, an icon's holders its picture, a cached icon's pointer what its cell shows; all
--- others what they did
+-- what holders show: a deleted record's icons nothing, an icon's holders its picture, a cached icon's pointer what its cell shows, an
+-- overlay icon that is set to none nothing; all others what they did
 unfoldable pub shownAfter : Table → List ℕ → RecordOrder → Holder → Option (List ℕ)
 shownAfter t s o h =
     pick (isDelete (o .flags)) (pick (isOne sameHolder (iconsOf (o .family) (o .window .id) (o .notify .id)) h) none (t .shown h))
     (pick (bringsIcon (o .flags)) (pick (isOne sameHolder (holdersOf s o) h) (some (carriedPicture s (o .icon))) (t .shown h))
     (pick (bringsCached (o .flags)) (pick (sameHolder h (pointerOf o)) (t .shown (cell (cellAt s (o .icon)))) (t .shown h))
-    (t .shown h)))
+    (pick (clearsOverlay (o .flags)) (pick (sameHolder h (pointerOf o)) none (t .shown h))
+    (t .shown h))))
 
 unfoldable pub changeRecord : Table → List ℕ → RecordOrder → Table
 changeRecord t s o =

@@ -7,6 +7,7 @@ ghost use Rattle.order.specs.Rows.{rowsFrom};
 ghost use Rattle.body.specs.Bodies.{desktopFields};
 ghost use Rattle.body.specs.Stores.{roomAll, storeOf, preparedOf, EndsWell};
 ghost use Rattle.store.specs.Store.{five};
+ghost use Rattle.table.specs.Table.{fieldRows};
 ghost use Rattle.table.specs.Memory.{bodiesLength};
 ghost use Rattle.table.specs.Changes.{slotAfter, slotsBy, headsBy, storeBy, desktopSlot, Able, Follows};
 use index::Change;
@@ -23,7 +24,7 @@ fn store_fields(
     low: usize,
     high: usize,
 )
-    requires { ⌜ (length (now slot) ≡ 916) × (1 ≤ at) × (at ≤ length (now s)) × (low ≤ high) × (high ≤ 24) × (2 + roomAll (rowsFrom low high) ≤ 916) ⌝ }
+    requires { ⌜ (1 ≤ at) × (at ≤ length (now s)) × (low ≤ high) × (high ≤ 31) × (2 + roomAll (rowsFrom low high) ≤ length (now slot)) ⌝ }
     requires { ⌜ EndsWell (rowsFrom low high) flags (now s) at ⌝ }
     ensures { λ _. ⌜ now (slot .exit) ≡ storeOf (rowsFrom low high) 2 flags (now (s .entry)) at (preparedOf fresh (now (slot .entry))) ⌝ }
 {
@@ -33,13 +34,13 @@ fn store_fields(
 
 // Changes the slot of a record.
 pub fn change_slot(slot: &mut [u8], s: &[u8], c: Change)
-    requires { ⌜ (length (now slot) ≡ 916) × Able (now s) c ⌝ }
+    requires { ⌜ (2 + roomAll (fieldRows (c .family)) ≤ length (now slot)) × Able (now s) c ⌝ }
     ensures { λ _. ⌜ now (slot .exit) ≡ slotAfter (now (s .entry)) c (now (slot .entry)) ⌝ }
 {
     let family = c.family;
     match family {
-        Family::Windows => store_fields(slot, s, c.flags, c.fresh, 11, 1, 15),
-        Family::Notifications => store_fields(slot, s, c.flags, c.fresh, 15, 16, 22),
+        Family::Windows => store_fields(slot, s, c.flags, c.fresh, 11, 1, 22),
+        Family::Notifications => store_fields(slot, s, c.flags, c.fresh, 15, 23, 29),
     }
 }
 
@@ -55,7 +56,7 @@ pub fn desktop_slot(slot: &mut [u8], s: &[u8], flags: u32)
     }
     body::hook(slot, flags);
     body::sync(slot, flags);
-    body::store(slot, s, 7, flags, 22, 24);
+    body::store(slot, s, 7, flags, 29, 31);
 }
 
 // Changes the slots of the bodies.
@@ -68,8 +69,8 @@ pub fn bodies(bodies: &mut [u8], s: &[u8], p: Plan)
             if c.deleted {
                 return;
             }
-            let base = body::SLOT * c.slot;
-            let end = base + body::SLOT;
+            let base = body::start(c.slot);
+            let end = body::start(c.slot + 1);
             change_slot(&mut bodies[base..end], s, c);
         }
         Plan::ChangeDesktop(flags) => {

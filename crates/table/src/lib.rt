@@ -15,12 +15,12 @@ pub mod changes;
 pub mod sound;
 
 // Where the heads of the pictures begin, and the bytes of the bodies with them.
-pub const HEADS: usize = 44884;
+pub const HEADS: usize = 60116;
 
-pub const BODIES: usize = 45780;
+pub const BODIES: usize = 61012;
 
 // Where the slot of the desktop state begins.
-pub const DESKTOP: usize = 43968;
+pub const DESKTOP: usize = 59200;
 
 // The number of places that emptying fixes: those lent, at most 64.
 fn fixed(lent: usize) -> u8

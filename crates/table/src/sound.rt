@@ -14,17 +14,17 @@ use index::slots;
 
 // Whether slot i of the bodies holds a body of rows low to high, with marks up to m.
 fn body_ok(bodies: &[u8], i: usize, low: usize, high: usize, m: u8) -> bool
-    requires { ⌜ (bodiesLength ≤ length (now bodies)) × (i < 49) × (low ≤ high) × (high ≤ 24) ⌝ }
+    requires { ⌜ (bodiesLength ≤ length (now bodies)) × (i < 49) × (low ≤ high) × (high ≤ 31) ⌝ }
     ensures { λ r. ⌜ r ≡ bodyOk (rowsFrom low high) m m (slotOf (now (bodies .entry)) i) ⌝ }
 {
-    let base = body::SLOT * i;
-    let end = base + body::SLOT;
+    let base = body::start(i);
+    let end = body::start(i + 1);
     body::sound(&bodies[base..end], low, high, m, m)
 }
 
 // Whether slot i is free or holds a body of rows low to high.
 fn record_ok(index: &[u8], bodies: &[u8], i: usize, low: usize, high: usize) -> bool
-    requires { ⌜ (indexLength ≤ length (now index)) × (bodiesLength ≤ length (now bodies)) × (i < slotCount) × (low ≤ high) × (high ≤ 24) ⌝ }
+    requires { ⌜ (indexLength ≤ length (now index)) × (bodiesLength ≤ length (now bodies)) × (i < slotCount) × (low ≤ high) × (high ≤ 31) ⌝ }
     ensures { λ r. ⌜ r ≡ recordOk (rowsFrom low high) (now (index .entry)) (now (bodies .entry)) i ⌝ }
 {
     if index[places::LENGTH + slots::SLOT * i] != 1 {
@@ -42,7 +42,7 @@ fn records_ok(
     low: usize,
     high: usize,
 ) -> bool
-    requires { ⌜ (indexLength ≤ length (now index)) × (bodiesLength ≤ length (now bodies)) × (first + count ≤ slotCount) × (low ≤ high) × (high ≤ 24) ⌝ }
+    requires { ⌜ (indexLength ≤ length (now index)) × (bodiesLength ≤ length (now bodies)) × (first + count ≤ slotCount) × (low ≤ high) × (high ≤ 31) ⌝ }
     ensures { λ r. ⌜ r ≡ eachFrom count first (recordOk (rowsFrom low high) (now (index .entry)) (now (bodies .entry))) ⌝ }
 {
     let end = first + count;
@@ -106,13 +106,13 @@ pub fn is_sound(index: &[u8], bodies: &[u8], lent: usize) -> bool
     if lent < (index[0] as usize) {
         return false;
     }
-    if !records_ok(index, bodies, 0, slots::WINDOWS, 1, 15) {
+    if !records_ok(index, bodies, 0, slots::WINDOWS, 1, 22) {
         return false;
     }
-    if !records_ok(index, bodies, slots::WINDOWS, slots::NOTIFICATIONS, 16, 22) {
+    if !records_ok(index, bodies, slots::WINDOWS, slots::NOTIFICATIONS, 23, 29) {
         return false;
     }
-    if !body_ok(bodies, 48, 22, 24, 1) {
+    if !body_ok(bodies, 48, 29, 31, 1) {
         return false;
     }
     holders_ok(index, bodies)

@@ -1,12 +1,12 @@
 -- The typed view of a picture loses nothing, memory holds valid records and pictures, and what is handed out is shown as what
 -- the table has. Assumes nothing.
-use mathlib.Core.Path.{_≡_, refl, sym, ap, _∙_}
+use mathlib.Core.Path.{_≡_, refl, sym, ap, ap₂, _∙_}
 use mathlib.Core.Bool.{Bool, true, false}
-use mathlib.Core.List.{List, [], _∷_, _++_}
-use Prim.Native.Nat.{ℕ, _+_, _-_, _≤_, _<_}
+use mathlib.Core.List.{List, [], _∷_, _++_, append-assoc}
+use Prim.Native.Nat.{ℕ, zero, suc, _+_, _-_, _≤_, _<_}
 use native.Mathlib.Omega.{arith}
-use lib.ListN.{length, getD, take, drop, length-drop, take-append-drop}
-use lib.Seq.{getD-drop}
+use lib.ListN.{length, getD, take, drop, length-append, length-drop, take-append-drop}
+use lib.Seq.{getD-drop, drop-append-seam}
 use Rattle.wire.specs.Tests.{pick}
 use Rattle.wire.specs.Numbers.{numAt, numsAt, total, Bytes}
 use Rattle.wire.specs.Parts.{slice, padded}
@@ -16,15 +16,17 @@ use Rattle.order.specs.declared.IconParts.{IconParts}
 use Rattle.order.specs.declared.Row.{Row}
 use Rattle.order.specs.Rows.{rowsFrom, roomOf, lenOf}
 use Rattle.order.specs.Icons.{tabled, partsFrom, partsOf}
-use Rattle.body.specs.Bodies.{fieldIn, fieldsOf, bodyOf, bodyOk}
+use Rattle.body.specs.Bodies.{Body, windowFields, fieldIn, fieldsOf, bodyOf, bodyOk}
 use Rattle.body.specs.Stores.{roomAll}
 use Rattle.cache.specs.Cells.{cellOk, pictureOf}
-use Rattle.layout.specs.Layouts.{fieldAt, pictureBytes}
-use Rattle.layout.proofs.LayoutsLossless.{content-few, in-cell, keeps-record}
+use Rattle.layout.specs.Valid.{ValidFields, ValidBody}
+use Rattle.layout.specs.Layouts.{pictureSize, newerStart, olderFields, newerFields, fieldAt, recordBytes, pictureBytes}
+use Rattle.layout.proofs.LayoutsLossless.{sizes-hold, content-few, in-cell, keeps-record}
+use Rattle.layout.proofs.LayoutsParts.{valid-older, valid-newer, keeps-older, keeps-newer}
 use Rattle.layout.proofs.ValidMemory.{valid-body}
 use Rattle.view.specs.declared.PictureRecord.{PictureRecord}
-use Rattle.view.specs.Views.{windowOf, notificationOf, desktopOf, headSize, pictureView}
-use Rattle.view.specs.Lossless.{BytesEach, ValidRecord, contentSize, ValidPicture, MemoryValid, ViewsLoseNothing, ShownAsHeld}
+use Rattle.view.specs.Views.{windowIn, windowOf, notificationOf, desktopOf, headSize, pictureView}
+use Rattle.view.specs.Lossless.{windowParts, BytesEach, ValidRecord, ValidWindow, contentSize, ValidPicture, MemoryValid, ViewsLoseNothing, ShownAsHeld}
 use Rattle.view.proofs.ViewsLossless.{window-same, notification-same, desktop-same}
 
 -- ---- the view of a picture, by whether it has a color table
@@ -203,8 +205,29 @@ valid-record low high m n slot b inside ok = record { body = valid-body low high
     each : BytesEach (bodyOf (rowsFrom low high) slot .fields)
     each = unfold bodyOf in bytes-each (rowsFrom low high) 2 slot b
 
+each-take : (n : ℕ) (fs : List (List ℕ)) → BytesEach fs → BytesEach (take n fs)
+each-take zero fs b = tt
+each-take (suc n) [] b = tt
+each-take (suc n) (f ∷ fs) b = (b .0, each-take n fs (b .1))
+
+each-drop : (n : ℕ) (fs : List (List ℕ)) → BytesEach fs → BytesEach (drop n fs)
+each-drop zero fs b = b
+each-drop (suc n) [] b = tt
+each-drop (suc n) (f ∷ fs) b = each-drop n fs (b .1)
+
+each-join : (fs gs : List (List ℕ)) → BytesEach fs → BytesEach gs → BytesEach (fs ++ gs)
+each-join [] gs b c = c
+each-join (f ∷ fs) gs b c = (b .0, each-join fs gs (b .1) c)
+
+valid-window : (small big overlay : ℕ) (fs : List (List ℕ)) → small ≤ 1 → big ≤ 1 → overlay ≤ 1 → ValidFields windowFields fs → BytesEach fs → ValidWindow (windowParts small big overlay fs)
+valid-window small big overlay fs s b o v e =
+    record {
+      older = record { body = record { first = s; second = b; fields = valid-older fs v }; bytes = each-join (take 6 fs) (take 8 (drop 8 fs)) (each-take 6 fs e) (each-take 8 (drop 8 fs) (each-drop 8 fs e)) };
+      newer = record { body = record { first = o; second = omega arith; fields = valid-newer fs v }; bytes = each-join (take 2 (drop 6 fs)) (drop 16 fs) (each-take 2 (drop 6 fs) (each-drop 6 fs e)) (each-drop 16 fs e) };
+    }
+
 pub memory-valid : MemoryValid
-memory-valid = record { body = valid-record; picture = valid-picture }
+memory-valid = record { body = valid-record; window = valid-window; picture = valid-picture }
 
 -- ---- what is handed out
 
@@ -227,11 +250,30 @@ shown-picture p =
       rest-padded 9 p (omega arith),
     )
 
+module _ (a b : Body) (pictures more : List ℕ) (va : ValidBody olderFields 1 1 a) (vb : ValidBody newerFields 1 0 b) (l : length pictures ≡ pictureSize + pictureSize) where
+  abbrev after : List ℕ
+  after = recordBytes newerFields b ++ more
+
+  after-all : drop newerStart (recordBytes olderFields a ++ (pictures ++ after)) ≡ after
+  after-all =
+      let x = recordBytes olderFields a in
+      let n : newerStart ≡ length (x ++ pictures) = sym (length-append x pictures ∙ omega (arith, keeps-older 1 1 a va .long, sizes-hold .window, l)) in
+      ap (drop newerStart) (sym (append-assoc x pictures after))
+      ∙ ap (λ (k : ℕ). drop k ((x ++ pictures) ++ after)) n
+      ∙ drop-append-seam (x ++ pictures) after
+
+  shown-window : windowOf (windowIn (recordBytes olderFields a ++ (pictures ++ after))) ≡ windowOf (record { older = a; newer = b })
+  unfolding windowIn
+  shown-window =
+      let o = keeps-older 1 1 a va .before (pictures ++ after) in
+      let n = ap (bodyOf newerFields) after-all ∙ keeps-newer 1 0 b vb .before more in
+      ap₂ (λ (x y : Body). windowOf (record { older = x; newer = y })) o n
+
 pub shown-as-held : ShownAsHeld
 shown-as-held =
     record {
-      window = λ b v. ap windowOf (keeps-record 1 15 1 1 b v .back);
-      notification = λ b v. ap notificationOf (keeps-record 16 22 1 0 b v .back);
-      desktop = λ b v. ap desktopOf (keeps-record 22 24 1 1 b v .back);
+      window = shown-window;
+      notification = λ b v. ap notificationOf (keeps-record 23 29 1 0 b v .back);
+      desktop = λ b v. ap desktopOf (keeps-record 29 31 1 1 b v .back);
       picture = shown-picture;
     }

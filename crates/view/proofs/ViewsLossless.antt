@@ -20,9 +20,10 @@ use Rattle.signs.proofs.TwosComplement.{forth-4, num-under}
 use Rattle.protocol.specs.declared.WindowId.{WindowId}
 use Rattle.order.specs.declared.Row.{Row}
 use Rattle.order.specs.Rows.{noRow, textRow, rectanglesRow, idsRow, firstOf, lenOf}
-use Rattle.body.specs.Bodies.{Body, windowFields, notificationFields, desktopFields}
+use Rattle.body.specs.Bodies.{Body, notificationFields, desktopFields}
 use Rattle.body.proofs.Placed.{Placed}
 use Rattle.layout.specs.Valid.{ValidField, ValidFields}
+use Rattle.layout.specs.Layouts.{olderFields, newerFields}
 use Rattle.layout.proofs.LayoutsWritten.{placed-at}
 use Rattle.layout.proofs.LayoutsLossless.{short-field}
 use Rattle.view.specs.declared.Point.{Point}
@@ -30,11 +31,12 @@ use Rattle.view.specs.declared.Pair.{Pair}
 use Rattle.view.specs.declared.Text.{Text}
 use Rattle.view.specs.declared.Rectangles.{Rectangles}
 use Rattle.view.specs.declared.Stack.{Stack}
+use Rattle.view.specs.declared.NewerRecord.{NewerRecord}
 use Rattle.view.specs.declared.WindowRecord.{WindowRecord}
 use Rattle.view.specs.declared.NotificationRecord.{NotificationRecord}
 use Rattle.view.specs.declared.DesktopRecord.{DesktopRecord}
-use Rattle.view.specs.Views.{windowId, eachOf, pointOf, pairOf, textOf, rectanglesOf, stackOf, isMarked, windowOf, notificationOf, desktopOf}
-use Rattle.view.specs.Lossless.{BytesEach, ValidRecord}
+use Rattle.view.specs.Views.{windowId, eachOf, pointOf, pairOf, textOf, rectanglesOf, stackOf, isMarked, newerOf, WindowParts, windowOf, notificationOf, desktopOf}
+use Rattle.view.specs.Lossless.{BytesEach, ValidRecord, ValidWindow}
 use Rattle.view.proofs.ViewsRead.{length-each}
 
 -- a valid field, in bytes
@@ -196,13 +198,14 @@ module _ (rows : List Row) (m n : ℕ) (a b : Body) (va : ValidRecord rows m n a
   fb : (k : ℕ) → k < length rows → Whole (getD rows k noRow) (getD (b .fields) k [])
   fb = valid-at rows (b .fields) (vb .body .fields) (vb .bytes)
 
-pub window-same : (a b : Body) → ValidRecord windowFields 1 1 a → ValidRecord windowFields 1 1 b → windowOf a ≡ windowOf b → a ≡ b
+-- the older fields of a window
+older-same : (a b x y : Body) → ValidRecord olderFields 1 1 a → ValidRecord olderFields 1 1 b → windowOf (record { older = a; newer = x }) ≡ windowOf (record { older = b; newer = y }) → a ≡ b
 unfolding windowOf pointOf pairOf
-window-same a b va vb e =
-    let u = fa windowFields 1 1 a b va vb in
-    let v = fb windowFields 1 1 a b va vb in
-    let r : ℕ → Row = λ k. getD windowFields k noRow in
-    body-same windowFields 1 1 a b va vb
+older-same a b x y va vb e =
+    let u = fa olderFields 1 1 a b va vb in
+    let v = fb olderFields 1 1 a b va vb in
+    let r : ℕ → Row = λ k. getD olderFields k noRow in
+    body-same olderFields 1 1 a b va vb
     (switch (a .first) (b .first) (va .body .first) (vb .body .first) (ap (λ (x : WindowRecord). x .small) e))
     (switch (a .second) (b .second) (va .body .second) (vb .body .second) (ap (λ (x : WindowRecord). x .big) e)) (
       number (r 0) (u 0 (omega arith)) (v 0 (omega arith)) 4 refl refl (ap (λ (x : WindowRecord). x .owner .id) e),
@@ -228,11 +231,11 @@ window-same a b va vb e =
                         (
                           pair (r 10) (u 10 (omega arith)) (v 10 (omega arith)) refl refl (ap (λ (x : WindowRecord). x .«window_size») e),
                           (
-                            rectangles 0x00000100 (placed-at 12 (omega arith)) (u 11 (omega arith)) (v 11 (omega arith)) (ap (λ (x : WindowRecord). x .«window_rects») e),
+                            rectangles 0x00000100 (placed-at 14 (omega arith)) (u 11 (omega arith)) (v 11 (omega arith)) (ap (λ (x : WindowRecord). x .«window_rects») e),
                             (
                               point (r 12) (u 12 (omega arith)) (v 12 (omega arith)) refl refl (ap (λ (x : WindowRecord). x .«visible_offset») e),
                               (
-                                rectangles 0x00000200 (placed-at 14 (omega arith)) (u 13 (omega arith)) (v 13 (omega arith)) (ap (λ (x : WindowRecord). x .«visibility_rects») e),
+                                rectangles 0x00000200 (placed-at 16 (omega arith)) (u 13 (omega arith)) (v 13 (omega arith)) (ap (λ (x : WindowRecord). x .«visibility_rects») e),
                                 tt,
                               ),
                             ),
@@ -249,6 +252,47 @@ window-same a b va vb e =
       ),
     )
 
+-- its newer ones
+newer-same : (a b : Body) → ValidRecord newerFields 1 0 a → ValidRecord newerFields 1 0 b → newerOf a ≡ newerOf b → a ≡ b
+unfolding newerOf
+newer-same a b va vb e =
+    let u = fa newerFields 1 0 a b va vb in
+    let v = fb newerFields 1 0 a b va vb in
+    let r : ℕ → Row = λ k. getD newerFields k noRow in
+    body-same newerFields 1 0 a b va vb
+    (switch (a .first) (b .first) (va .body .first) (vb .body .first) (ap (λ (x : NewerRecord). x .overlay) e))
+    (omega (arith, va .body .second, vb .body .second)) (
+      fixed (r 0) (u 0 (omega arith)) (v 0 (omega arith)) (4 ∷ 4 ∷ []) refl eight
+          (nums-two (getD (a .fields) 0 []) (getD (b .fields) 0 []) (ap (λ (x : NewerRecord). x .«left_resize_margin») e) (ap (λ (x : NewerRecord). x .«right_resize_margin») e)),
+      (
+        fixed (r 1) (u 1 (omega arith)) (v 1 (omega arith)) (4 ∷ 4 ∷ []) refl eight
+            (nums-two (getD (a .fields) 1 []) (getD (b .fields) 1 []) (ap (λ (x : NewerRecord). x .«top_resize_margin») e) (ap (λ (x : NewerRecord). x .«bottom_resize_margin») e)),
+        (
+          text 0x00400000 520 (omega arith) (placed-at 17 (omega arith)) (u 2 (omega arith)) (v 2 (omega arith)) (ap (λ (x : NewerRecord). x .«overlay_description») e),
+          (
+            number (r 3) (u 3 (omega arith)) (v 3 (omega arith)) 1 refl refl (ap (λ (x : NewerRecord). x .«taskbar_button») e),
+            (
+              number (r 4) (u 4 (omega arith)) (v 4 (omega arith)) 1 refl refl (ap (λ (x : NewerRecord). x .«enforce_server_z_order») e),
+              (
+                number (r 5) (u 5 (omega arith)) (v 5 (omega arith)) 1 refl refl (ap (λ (x : NewerRecord). x .«app_bar_state») e),
+                (
+                  number (r 6) (u 6 (omega arith)) (v 6 (omega arith)) 1 refl refl (ap (λ (x : NewerRecord). x .«app_bar_edge») e),
+                  tt,
+                ),
+              ),
+            ),
+          ),
+        ),
+      ),
+    )
+
+pub window-same : (a b : WindowParts) → ValidWindow a → ValidWindow b → windowOf a ≡ windowOf b → a ≡ b
+unfolding windowOf
+window-same a b va vb e =
+    let o : a .older ≡ b .older = older-same (a .older) (b .older) (a .newer) (b .newer) (va .older) (vb .older) e in
+    let n : a .newer ≡ b .newer = newer-same (a .newer) (b .newer) (va .newer) (vb .newer) (ap (λ (x : WindowRecord). x .newer) e) in
+    λ i. record { older = o i; newer = n i }
+
 pub notification-same : (a b : Body) → ValidRecord notificationFields 1 0 a → ValidRecord notificationFields 1 0 b → notificationOf a ≡ notificationOf b → a ≡ b
 unfolding notificationOf
 notification-same a b va vb e =
@@ -260,14 +304,14 @@ notification-same a b va vb e =
     (omega (arith, va .body .second, vb .body .second)) (
       number (r 0) (u 0 (omega arith)) (v 0 (omega arith)) 4 refl refl (ap (λ (x : NotificationRecord). x .version) e),
       (
-        text 0x00000001 256 (omega arith) (placed-at 17 (omega arith)) (u 1 (omega arith)) (v 1 (omega arith)) (ap (λ (x : NotificationRecord). x .tip) e),
+        text 0x00000001 256 (omega arith) (placed-at 24 (omega arith)) (u 1 (omega arith)) (v 1 (omega arith)) (ap (λ (x : NotificationRecord). x .tip) e),
         (
           fixed (r 2) (u 2 (omega arith)) (v 2 (omega arith)) (4 ∷ 4 ∷ []) refl eight
               (nums-two (getD (a .fields) 2 []) (getD (b .fields) 2 []) (ap (λ (x : NotificationRecord). x .timeout) e) (ap (λ (x : NotificationRecord). x .flags) e)),
           (
-            text 0x00000002 510 (omega arith) (placed-at 19 (omega arith)) (u 3 (omega arith)) (v 3 (omega arith)) (ap (λ (x : NotificationRecord). x .text) e),
+            text 0x00000002 510 (omega arith) (placed-at 26 (omega arith)) (u 3 (omega arith)) (v 3 (omega arith)) (ap (λ (x : NotificationRecord). x .text) e),
             (
-              text 0x00000002 126 (omega arith) (placed-at 20 (omega arith)) (u 4 (omega arith)) (v 4 (omega arith)) (ap (λ (x : NotificationRecord). x .title) e),
+              text 0x00000002 126 (omega arith) (placed-at 27 (omega arith)) (u 4 (omega arith)) (v 4 (omega arith)) (ap (λ (x : NotificationRecord). x .title) e),
               (
                 number (r 5) (u 5 (omega arith)) (v 5 (omega arith)) 4 refl refl (ap (λ (x : NotificationRecord). x .state) e),
                 tt,
@@ -288,7 +332,7 @@ desktop-same a b va vb e =
     (switch (a .second) (b .second) (va .body .second) (vb .body .second) (ap (λ (x : DesktopRecord). x .syncing) e)) (
       number (getD desktopFields 0 noRow) (u 0 (omega arith)) (v 0 (omega arith)) 4 refl refl (ap (λ (x : DesktopRecord). x .active .id) e),
       (
-        stack 0x00000010 (placed-at 23 (omega arith)) (u 1 (omega arith)) (v 1 (omega arith)) (ap (λ (x : DesktopRecord). x .stack) e),
+        stack 0x00000010 (placed-at 30 (omega arith)) (u 1 (omega arith)) (v 1 (omega arith)) (ap (λ (x : DesktopRecord). x .stack) e),
         tt,
       ),
     )

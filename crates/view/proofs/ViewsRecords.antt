@@ -5,36 +5,97 @@ use mathlib.Core.List.{List}
 use Prim.Native.Nat.{ℕ, _+_}
 use native.Mathlib.Omega.{arith}
 use lib.Dec.{eqb}
-use lib.ListN.{getD, drop, replicate}
+use lib.ListN.{getD, take, drop, replicate}
+use lib.Seq.{drop-drop}
 use Rattle.wire.specs.Numbers.{numAt}
 use Rattle.wire.specs.Parts.{slice, splice, padded}
+use Rattle.wire.proofs.Numbers.{num-drop}
 use Rattle.protocol.specs.declared.WindowId.{WindowId}
 use Rattle.order.specs.declared.Row.{Row}
-use Rattle.order.specs.Rows.{noRow, numbersRow, textRow, rectanglesRow, idsRow}
+use Rattle.order.specs.Rows.{noRow, numbersRow, textRow, rectanglesRow, idsRow, roomOf}
 use Rattle.order.specs.Icons.{tabled}
-use Rattle.body.specs.Bodies.{Body, windowFields, notificationFields, desktopFields, fieldsOf, bodyOf}
-use Rattle.layout.specs.Layouts.{fieldAt}
+use Rattle.body.specs.Bodies.{Body, notificationFields, desktopFields, fieldIn, fieldsOf, bodyOf}
+use Rattle.layout.specs.Layouts.{newerStart, olderFields, newerFields, fieldAt}
 use Rattle.view.specs.declared.Point.{Point}
 use Rattle.view.specs.declared.Pair.{Pair}
 use Rattle.view.specs.declared.Text.{Text}
 use Rattle.view.specs.declared.Rectangles.{Rectangles}
 use Rattle.view.specs.declared.Stack.{Stack}
-use Rattle.view.specs.Views.{windowId, pointOf, pairOf, textOf, rectanglesOf, stackOf, isMarked, fieldOf, windowOf, notificationOf, desktopOf, pictureView}
+use Rattle.view.specs.declared.NewerRecord.{NewerRecord}
+use Rattle.view.specs.Views.{windowId, pointOf, pairOf, textOf, rectanglesOf, stackOf, isMarked, fieldOf, newerOf, WindowParts, windowIn, windowOf, notificationOf, desktopOf, pictureView}
 use Rattle.view.proofs.ViewsRead.{num-field, num-start, numbers-flag, text-flag, rectangles-flag, ids-flag, content-is}
 
 -- a mark that is read
 marked : {p : Bool} {v w : ℕ} → p ≡ isMarked v → v ≡ w → p ≡ isMarked w
 marked e f = e ∙ ap isMarked f
 
+-- ---- the newer fields of a window
+
+newer-parts : (b : Body) {left right top bottom : ℕ} {description : Text} {button order bar edge : ℕ} {overlay : Bool}
+    → left ≡ numAt 4 (fieldOf b 0) 0 → right ≡ numAt 4 (fieldOf b 0) 4 → top ≡ numAt 4 (fieldOf b 1) 0 → bottom ≡ numAt 4 (fieldOf b 1) 4 → description ≡ textOf (fieldOf b 2)
+    → button ≡ numAt 1 (fieldOf b 3) 0 → order ≡ numAt 1 (fieldOf b 4) 0 → bar ≡ numAt 1 (fieldOf b 5) 0 → edge ≡ numAt 1 (fieldOf b 6) 0 → overlay ≡ isMarked (b .first)
+    → record {
+      «left_resize_margin» = left;
+      «right_resize_margin» = right;
+      «top_resize_margin» = top;
+      «bottom_resize_margin» = bottom;
+      «overlay_description» = description;
+      «taskbar_button» = button;
+      «enforce_server_z_order» = order;
+      «app_bar_state» = bar;
+      «app_bar_edge» = edge;
+      overlay = overlay;
+    } ≡ newerOf b
+unfolding newerOf
+newer-parts b e0 e1 e2 e3 e4 e5 e6 e7 e8 e9 = rw (e0, e1, e2, e3, e4, e5, e6, e7, e8, e9)
+
+-- a field after k bytes
+place-drop : (r : Row) (k off : ℕ) (s : List ℕ) → fieldAt r s (k + off) ≡ fieldAt r (drop k s) off
+unfolding slice
+place-drop r k off s = ap (λ (x : List ℕ). fieldIn r (take (roomOf r) x)) (sym (drop-drop off k s))
+
+module _ (t : List ℕ) where
+  pub newer-is : {left right top bottom : ℕ} {description : Text} {button order bar edge v : ℕ} {overlay : Bool}
+      → description ≡ textOf (fieldAt (textRow 0 520) t (newerStart + 18)) → v ≡ numAt 1 t (newerStart + 0) → overlay ≡ isMarked v → left ≡ numAt 4 t (newerStart + 2)
+      → right ≡ numAt 4 t (newerStart + 6) → top ≡ numAt 4 t (newerStart + 10) → bottom ≡ numAt 4 t (newerStart + 14) → button ≡ numAt 1 t (newerStart + 540)
+      → order ≡ numAt 1 t (newerStart + 541) → bar ≡ numAt 1 t (newerStart + 542) → edge ≡ numAt 1 t (newerStart + 543)
+      → record {
+        «left_resize_margin» = left;
+        «right_resize_margin» = right;
+        «top_resize_margin» = top;
+        «bottom_resize_margin» = bottom;
+        «overlay_description» = description;
+        «taskbar_button» = button;
+        «enforce_server_z_order» = order;
+        «app_bar_state» = bar;
+        «app_bar_edge» = edge;
+        overlay = overlay;
+      } ≡ newerOf (bodyOf newerFields (drop newerStart t))
+  unfolding bodyOf fieldsOf
+  newer-is description v overlay left right top bottom button order bar edge =
+      let s = drop newerStart t in
+      let r : ℕ → Row = λ k. getD newerFields k noRow in
+      newer-parts (bodyOf newerFields s)
+      (left ∙ sym (num-drop 4 newerStart 2 t) ∙ num-start (r 0) s 2 4 (omega arith) (omega arith))
+      (right ∙ sym (num-drop 4 newerStart 6 t) ∙ num-field (r 0) s 2 4 4 (omega arith) (omega arith))
+      (top ∙ sym (num-drop 4 newerStart 10 t) ∙ num-start (r 1) s 10 4 (omega arith) (omega arith))
+      (bottom ∙ sym (num-drop 4 newerStart 14 t) ∙ num-field (r 1) s 10 4 4 (omega arith) (omega arith))
+      (description ∙ ap textOf (place-drop (textRow 0 520) newerStart 18 t ∙ text-flag 0x00400000 520 s 18))
+      (button ∙ sym (num-drop 1 newerStart 540 t) ∙ num-start (r 3) s 540 1 (omega arith) (omega arith))
+      (order ∙ sym (num-drop 1 newerStart 541 t) ∙ num-start (r 4) s 541 1 (omega arith) (omega arith))
+      (bar ∙ sym (num-drop 1 newerStart 542 t) ∙ num-start (r 5) s 542 1 (omega arith) (omega arith))
+      (edge ∙ sym (num-drop 1 newerStart 543 t) ∙ num-start (r 6) s 543 1 (omega arith) (omega arith))
+      (marked overlay (v ∙ sym (num-drop 1 newerStart 0 t)))
+
 -- ---- a window
 
 -- by the parts of a body
-window-parts : (b : Body) {owner : WindowId} {style extended show : ℕ} {title : Text} {offset : Point} {size : Pair} {content : ℕ} {root : WindowId} {place delta : Point} {whole : Pair} {rects : Rectangles} {visible : Point} {shown : Rectangles}
-    {small big : Bool}
-    → owner ≡ windowId (numAt 4 (fieldOf b 0) 0) → style ≡ numAt 4 (fieldOf b 1) 0 → extended ≡ numAt 4 (fieldOf b 1) 4 → show ≡ numAt 1 (fieldOf b 2) 0 → title ≡ textOf (fieldOf b 3)
-    → offset ≡ pointOf (fieldOf b 4) → size ≡ pairOf (fieldOf b 5) → content ≡ numAt 1 (fieldOf b 6) 0 → root ≡ windowId (numAt 4 (fieldOf b 7) 0) → place ≡ pointOf (fieldOf b 8)
-    → delta ≡ pointOf (fieldOf b 9) → whole ≡ pairOf (fieldOf b 10) → rects ≡ rectanglesOf (fieldOf b 11) → visible ≡ pointOf (fieldOf b 12) → shown ≡ rectanglesOf (fieldOf b 13)
-    → small ≡ isMarked (b .first) → big ≡ isMarked (b .second)
+window-parts : (w : WindowParts) {owner : WindowId} {style extended show : ℕ} {title : Text} {offset : Point} {size : Pair} {content : ℕ} {root : WindowId} {place delta : Point} {whole : Pair} {rects : Rectangles} {visible : Point} {shown : Rectangles}
+    {small big : Bool} {newer : NewerRecord}
+    → owner ≡ windowId (numAt 4 (fieldOf (w .older) 0) 0) → style ≡ numAt 4 (fieldOf (w .older) 1) 0 → extended ≡ numAt 4 (fieldOf (w .older) 1) 4 → show ≡ numAt 1 (fieldOf (w .older) 2) 0 → title ≡ textOf (fieldOf (w .older) 3)
+    → offset ≡ pointOf (fieldOf (w .older) 4) → size ≡ pairOf (fieldOf (w .older) 5) → content ≡ numAt 1 (fieldOf (w .older) 6) 0 → root ≡ windowId (numAt 4 (fieldOf (w .older) 7) 0) → place ≡ pointOf (fieldOf (w .older) 8)
+    → delta ≡ pointOf (fieldOf (w .older) 9) → whole ≡ pairOf (fieldOf (w .older) 10) → rects ≡ rectanglesOf (fieldOf (w .older) 11) → visible ≡ pointOf (fieldOf (w .older) 12) → shown ≡ rectanglesOf (fieldOf (w .older) 13)
+    → small ≡ isMarked (w .older .first) → big ≡ isMarked (w .older .second) → newer ≡ newerOf (w .newer)
     → record {
       owner = owner;
       style = style;
@@ -53,13 +114,14 @@ window-parts : (b : Body) {owner : WindowId} {style extended show : ℕ} {title 
       «visibility_rects» = shown;
       small = small;
       big = big;
-    } ≡ windowOf b
+      newer = newer;
+    } ≡ windowOf w
 unfolding windowOf
-window-parts b e0 e1 e2 e3 e4 e5 e6 e7 e8 e9 e10 e11 e12 e13 e14 e15 e16 = rw (e0, e1, e2, e3, e4, e5, e6, e7, e8, e9, e10, e11, e12, e13, e14, e15, e16)
+window-parts w e0 e1 e2 e3 e4 e5 e6 e7 e8 e9 e10 e11 e12 e13 e14 e15 e16 e17 = rw (e0, e1, e2, e3, e4, e5, e6, e7, e8, e9, e10, e11, e12, e13, e14, e15, e16, e17)
 
 module _ (s : List ℕ) where
   pub window-is : {owner : WindowId} {style extended show : ℕ} {title : Text} {offset : Point} {size : Pair} {content : ℕ} {root : WindowId} {place delta : Point} {whole : Pair} {rects : Rectangles}
-      {visible : Point} {shown : Rectangles} {v w : ℕ} {small big : Bool}
+      {visible : Point} {shown : Rectangles} {v w : ℕ} {small big : Bool} {newer : NewerRecord} → newer ≡ newerOf (bodyOf newerFields (drop newerStart s))
       → title ≡ textOf (fieldAt (textRow 0 520) s 15) → offset ≡ pointOf (fieldAt (numbersRow 0 8) s 537) → size ≡ pairOf (fieldAt (numbersRow 0 8) s 545)
       → place ≡ pointOf (fieldAt (numbersRow 0 8) s 558) → delta ≡ pointOf (fieldAt (numbersRow 0 8) s 566) → whole ≡ pairOf (fieldAt (numbersRow 0 8) s 574)
       → rects ≡ rectanglesOf (fieldAt (rectanglesRow 0) s 582) → visible ≡ pointOf (fieldAt (numbersRow 0 8) s 712) → shown ≡ rectanglesOf (fieldAt (rectanglesRow 0) s 720)
@@ -83,11 +145,12 @@ module _ (s : List ℕ) where
         «visibility_rects» = shown;
         small = small;
         big = big;
-      } ≡ windowOf (bodyOf windowFields s)
-  unfolding bodyOf fieldsOf
-  window-is title offset size place delta whole rects visible shown v small w big owner root style extended show content =
-      let r : ℕ → Row = λ k. getD windowFields k noRow in
-      window-parts (bodyOf windowFields s)
+        newer = newer;
+      } ≡ windowOf (windowIn s)
+  unfolding windowIn bodyOf fieldsOf
+  window-is newer title offset size place delta whole rects visible shown v small w big owner root style extended show content =
+      let r : ℕ → Row = λ k. getD olderFields k noRow in
+      window-parts (windowIn s)
       (owner ∙ ap windowId (num-start (r 0) s 2 4 (omega arith) (omega arith)))
       (style ∙ num-start (r 1) s 6 4 (omega arith) (omega arith))
       (extended ∙ num-field (r 1) s 6 4 4 (omega arith) (omega arith))
@@ -105,6 +168,7 @@ module _ (s : List ℕ) where
       (shown ∙ ap rectanglesOf (rectangles-flag 0x00000200 s 720))
       (marked small v)
       (marked big w)
+      newer
 
 -- ---- a notification icon
 

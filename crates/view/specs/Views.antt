@@ -10,12 +10,14 @@ use Rattle.wire.specs.Parts.{padded}
 use Rattle.signs.specs.TwosComplement.{signedAt}
 use Rattle.protocol.specs.declared.WindowId.{WindowId}
 use Rattle.order.specs.Icons.{tabled}
-use Rattle.body.specs.Bodies.{Body}
+use Rattle.body.specs.Bodies.{Body, bodyOf}
+use Rattle.layout.specs.Layouts.{newerStart, olderFields, newerFields}
 use Rattle.view.specs.declared.Point.{Point}
 use Rattle.view.specs.declared.Pair.{Pair}
 use Rattle.view.specs.declared.Text.{Text}
 use Rattle.view.specs.declared.Rectangles.{Rectangles}
 use Rattle.view.specs.declared.Stack.{Stack}
+use Rattle.view.specs.declared.NewerRecord.{NewerRecord}
 use Rattle.view.specs.declared.WindowRecord.{WindowRecord}
 use Rattle.view.specs.declared.NotificationRecord.{NotificationRecord}
 use Rattle.view.specs.declared.DesktopRecord.{DesktopRecord}
@@ -59,26 +61,51 @@ isMarked v = eqb v 1
 abbrev pub fieldOf : Body → ℕ → List ℕ
 fieldOf b k = getD (b .fields) k []
 
-unfoldable pub windowOf : Body → WindowRecord
-windowOf b =
+-- the newer fields of a window
+unfoldable pub newerOf : Body → NewerRecord
+newerOf b =
     record {
-      owner = windowId (numAt 4 (fieldOf b 0) 0);
-      style = numAt 4 (fieldOf b 1) 0;
-      «extended_style» = numAt 4 (fieldOf b 1) 4;
-      «show_state» = numAt 1 (fieldOf b 2) 0;
-      title = textOf (fieldOf b 3);
-      «client_offset» = pointOf (fieldOf b 4);
-      «client_size» = pairOf (fieldOf b 5);
-      «rp_content» = numAt 1 (fieldOf b 6) 0;
-      «root_parent» = windowId (numAt 4 (fieldOf b 7) 0);
-      «window_offset» = pointOf (fieldOf b 8);
-      «client_delta» = pointOf (fieldOf b 9);
-      «window_size» = pairOf (fieldOf b 10);
-      «window_rects» = rectanglesOf (fieldOf b 11);
-      «visible_offset» = pointOf (fieldOf b 12);
-      «visibility_rects» = rectanglesOf (fieldOf b 13);
-      small = isMarked (b .first);
-      big = isMarked (b .second);
+      «left_resize_margin» = numAt 4 (fieldOf b 0) 0;
+      «right_resize_margin» = numAt 4 (fieldOf b 0) 4;
+      «top_resize_margin» = numAt 4 (fieldOf b 1) 0;
+      «bottom_resize_margin» = numAt 4 (fieldOf b 1) 4;
+      «overlay_description» = textOf (fieldOf b 2);
+      «taskbar_button» = numAt 1 (fieldOf b 3) 0;
+      «enforce_server_z_order» = numAt 1 (fieldOf b 4) 0;
+      «app_bar_state» = numAt 1 (fieldOf b 5) 0;
+      «app_bar_edge» = numAt 1 (fieldOf b 6) 0;
+      overlay = isMarked (b .first);
+    }
+
+-- a window's two records, and where they stand in its bytes
+pub record WindowParts : Type 0 where
+  pub older : Body
+  pub newer : Body
+
+unfoldable pub windowIn : List ℕ → WindowParts
+windowIn s = record { older = bodyOf olderFields s; newer = bodyOf newerFields (drop newerStart s) }
+
+unfoldable pub windowOf : WindowParts → WindowRecord
+windowOf w =
+    record {
+      owner = windowId (numAt 4 (fieldOf (w .older) 0) 0);
+      style = numAt 4 (fieldOf (w .older) 1) 0;
+      «extended_style» = numAt 4 (fieldOf (w .older) 1) 4;
+      «show_state» = numAt 1 (fieldOf (w .older) 2) 0;
+      title = textOf (fieldOf (w .older) 3);
+      «client_offset» = pointOf (fieldOf (w .older) 4);
+      «client_size» = pairOf (fieldOf (w .older) 5);
+      «rp_content» = numAt 1 (fieldOf (w .older) 6) 0;
+      «root_parent» = windowId (numAt 4 (fieldOf (w .older) 7) 0);
+      «window_offset» = pointOf (fieldOf (w .older) 8);
+      «client_delta» = pointOf (fieldOf (w .older) 9);
+      «window_size» = pairOf (fieldOf (w .older) 10);
+      «window_rects» = rectanglesOf (fieldOf (w .older) 11);
+      «visible_offset» = pointOf (fieldOf (w .older) 12);
+      «visibility_rects» = rectanglesOf (fieldOf (w .older) 13);
+      small = isMarked (w .older .first);
+      big = isMarked (w .older .second);
+      newer = newerOf (w .newer);
     }
 
 unfoldable pub notificationOf : Body → NotificationRecord

@@ -1,8 +1,10 @@
 // The bytes that a lookup hands out, in the fixed layout of their kind, as a typed record: numbers, ids, strings, rectangles, and
 // whether a picture is there. A byte past the end counts 0.
 ghost use mathlib.Core.Path.{_≡_};
-ghost use Rattle.body.specs.Bodies.{windowFields, notificationFields, desktopFields, bodyOf};
-ghost use Rattle.view.specs.Views.{windowOf, notificationOf, desktopOf, pictureView};
+ghost use lib.ListN.{drop};
+ghost use Rattle.body.specs.Bodies.{notificationFields, desktopFields, bodyOf};
+ghost use Rattle.layout.specs.Layouts.{newerStart, newerFields};
+ghost use Rattle.view.specs.Views.{newerOf, windowIn, windowOf, notificationOf, desktopOf, pictureView};
 use protocol::WindowId;
 
 mod parts;
@@ -31,6 +33,20 @@ pub struct Rectangles {
     pub sides: [u16; 64],
 }
 
+// What newer servers say of a window besides. Its overlay says whether it shows a picture, which follows.
+pub struct NewerRecord {
+    pub left_resize_margin: u32,
+    pub right_resize_margin: u32,
+    pub top_resize_margin: u32,
+    pub bottom_resize_margin: u32,
+    pub overlay_description: Text,
+    pub taskbar_button: u8,
+    pub enforce_server_z_order: u8,
+    pub app_bar_state: u8,
+    pub app_bar_edge: u8,
+    pub overlay: bool,
+}
+
 // Its small and big say whether it shows a picture, which follows the record.
 pub struct WindowRecord {
     pub owner: WindowId,
@@ -50,6 +66,7 @@ pub struct WindowRecord {
     pub visibility_rects: Rectangles,
     pub small: bool,
     pub big: bool,
+    pub newer: NewerRecord,
 }
 
 // Its icon says whether it shows a picture.
@@ -88,10 +105,31 @@ pub struct PictureRecord {
     pub bytes: [u8; 4224],
 }
 
-// A window's record in its layout (layout::WINDOW bytes).
-pub fn window(bytes: &[u8]) -> WindowRecord
-    ensures { λ r. ⌜ r ≡ windowOf (bodyOf windowFields (now (bytes .entry))) ⌝ }
+// The newer fields of a window, after its older ones and two pictures.
+fn newer(bytes: &[u8]) -> NewerRecord
+    ensures { λ r. ⌜ r ≡ newerOf (bodyOf newerFields (drop newerStart (now (bytes .entry)))) ⌝ }
 {
+    let overlay_description = parts::text(bytes, 9338, 520);
+    let overlay = parts::marked(wire::read_u8(bytes, 9320));
+    NewerRecord {
+        left_resize_margin: wire::read_u32(bytes, 9322),
+        right_resize_margin: wire::read_u32(bytes, 9326),
+        top_resize_margin: wire::read_u32(bytes, 9330),
+        bottom_resize_margin: wire::read_u32(bytes, 9334),
+        overlay_description,
+        taskbar_button: wire::read_u8(bytes, 9860),
+        enforce_server_z_order: wire::read_u8(bytes, 9861),
+        app_bar_state: wire::read_u8(bytes, 9862),
+        app_bar_edge: wire::read_u8(bytes, 9863),
+        overlay,
+    }
+}
+
+// A window in its layout: its older fields (layout::WINDOW bytes), two pictures, its newer fields (layout::NEWER bytes).
+pub fn window(bytes: &[u8]) -> WindowRecord
+    ensures { λ r. ⌜ r ≡ windowOf (windowIn (now (bytes .entry))) ⌝ }
+{
+    let newer = newer(bytes);
     let title = parts::text(bytes, 15, 520);
     let client_offset = parts::point(bytes, 537);
     let client_size = parts::pair(bytes, 545);
@@ -123,6 +161,7 @@ pub fn window(bytes: &[u8]) -> WindowRecord
         visibility_rects,
         small,
         big,
+        newer,
     }
 }
 

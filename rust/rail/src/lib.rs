@@ -78,8 +78,8 @@ pub use order::{orders, Change, Changed, Orders};
 pub use profile::Profile;
 pub use record::lists::LIST_SIZE;
 pub use record::{
-    CacheCell, Desktop, Holder, NotificationIcon, Picture, Point, Rectangle, ShowState, Size,
-    Window,
+    CacheCell, Desktop, Holder, Margins, NotificationIcon, Picture, Point, Rectangle, ShowState,
+    Size, Window,
 };
 pub use run::{answers, run, script, Call, HandedOut, Run};
 pub use session::{NotificationIcons, Session, Windows};

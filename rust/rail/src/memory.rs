@@ -13,7 +13,7 @@ use crate::view::View;
 /// each cell, window and notification icon has its picture.
 pub const INDEX_SIZE: usize = 589;
 /// The bytes needed of the bodies: the records and the desktop state.
-pub const BODIES_SIZE: usize = 45_780;
+pub const BODIES_SIZE: usize = 61_012;
 /// The bytes of a place of the store, for one picture.
 pub const PLACE_SIZE: usize = 4_224;
 /// The bytes needed of the journal: the orders since the checkpoint.

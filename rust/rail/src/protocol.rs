@@ -1,5 +1,5 @@
-//! Names and values of MS-RDPERP (v20130722), and of its later edition for Client
-//! Execute, as the C header `rail/protocol.h` has them. The document has no names for
+//! Names and values of MS-RDPERP (v20130722), and of its later editions for Client
+//! Execute and for newer servers' window fields, as the C header `rail/protocol.h` has them. The document has no names for
 //! what begins with `RAIL_SHOW`.
 #![allow(missing_docs)] // a name says what it says in the document
 
@@ -33,6 +33,9 @@ pub const WINDOW_ORDER_FIELD_SHOW: u32 = 0x0000_0010;
 pub const WINDOW_ORDER_FIELD_TITLE: u32 = 0x0000_0004;
 pub const WINDOW_ORDER_FIELD_CLIENTAREAOFFSET: u32 = 0x0000_4000;
 pub const WINDOW_ORDER_FIELD_CLIENTAREASIZE: u32 = 0x0001_0000;
+/// Of newer servers, as the next.
+pub const WINDOW_ORDER_FIELD_RESIZE_MARGIN_X: u32 = 0x0000_0080;
+pub const WINDOW_ORDER_FIELD_RESIZE_MARGIN_Y: u32 = 0x0800_0000;
 pub const WINDOW_ORDER_FIELD_RPCONTENT: u32 = 0x0002_0000;
 pub const WINDOW_ORDER_FIELD_ROOTPARENT: u32 = 0x0004_0000;
 pub const WINDOW_ORDER_FIELD_WNDOFFSET: u32 = 0x0000_0800;
@@ -41,8 +44,18 @@ pub const WINDOW_ORDER_FIELD_WNDSIZE: u32 = 0x0000_0400;
 pub const WINDOW_ORDER_FIELD_WNDRECTS: u32 = 0x0000_0100;
 pub const WINDOW_ORDER_FIELD_VISOFFSET: u32 = 0x0000_1000;
 pub const WINDOW_ORDER_FIELD_VISIBILITY: u32 = 0x0000_0200;
+/// Of newer servers, as the next four.
+pub const WINDOW_ORDER_FIELD_OVERLAY_DESCRIPTION: u32 = 0x0040_0000;
+pub const WINDOW_ORDER_FIELD_TASKBAR_BUTTON: u32 = 0x0080_0000;
+pub const WINDOW_ORDER_FIELD_ENFORCE_SERVER_ZORDER: u32 = 0x0008_0000;
+pub const WINDOW_ORDER_FIELD_APPBAR_STATE: u32 = 0x0000_0040;
+pub const WINDOW_ORDER_FIELD_APPBAR_EDGE: u32 = 0x0000_0001;
 /// Beside an icon or cached icon: the big one.
 pub const WINDOW_ORDER_FIELD_ICON_BIG: u32 = 0x0000_2000;
+/// Of newer servers, beside an icon or cached icon: the overlay icon.
+pub const WINDOW_ORDER_FIELD_ICON_OVERLAY: u32 = 0x0010_0000;
+/// Of newer servers, beside fields: no overlay icon.
+pub const WINDOW_ORDER_FIELD_ICON_OVERLAY_NULL: u32 = 0x0020_0000;
 
 // ShowState; the document gives the values and no names.
 pub const RAIL_SHOW_HIDDEN: u8 = 0x00;

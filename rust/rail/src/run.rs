@@ -264,6 +264,7 @@ mod tests {
             Call::Picture(cell),
             Call::Shared(cell.into(), Holder::SmallIcon(window)),
             Call::Shared(cell.into(), Holder::BigIcon(window)),
+            Call::Shared(Holder::OverlayIcon(window), cell.into()),
             Call::Desktop,
             Call::WindowIds,
             Call::NotificationIconIds,
@@ -282,7 +283,7 @@ mod tests {
         memory.index.fill(0xFF);
         let mut out = vec![0; calls.iter().map(Call::block_size).sum()];
         let ran = run(&mut memory.lend(), &script(&calls), &mut out);
-        assert_eq!((ran.calls, ran.ended), (22, None));
+        assert_eq!((ran.calls, ran.ended), (23, None));
         let mut alone = Memory::new();
         alone.lend().reset().unwrap();
         let ours = calls.map(|call| make(&mut alone, &call));

@@ -32,7 +32,7 @@ impl Differences {
         Self {
             windows: windows
                 .filter(|&id| {
-                    let pictures = [Holder::Small(id), Holder::Big(id)];
+                    let pictures = Holder::of_window(id);
                     before.window(id) != after.window(id) || pictures.into_iter().any(shown)
                 })
                 .map(|id| id.0)

@@ -11,7 +11,7 @@ use crate::why::{on_book, Explanation};
 const NUMBERS: [u8; 14] = [0, 1, 2, 3, 4, 5, 6, 7, 8, 9, 10, 11, 12, 17];
 
 /// The fields of a window, those of more than one byte first.
-const WINDOW: [&str; 31] = [
+const WINDOW: [&str; 41] = [
     "owner",
     "style",
     "extended style",
@@ -40,9 +40,19 @@ const WINDOW: [&str; 31] = [
     "visible top",
     "visible right",
     "visible bottom",
+    "left margin",
+    "right margin",
+    "top margin",
+    "bottom margin",
+    "overlay text length",
+    "overlay text",
     "window id",
     "show state",
     "RPContent",
+    "taskbar",
+    "server z",
+    "application bar",
+    "edge",
 ];
 const NOTIFICATION: [&str; 12] = [
     "window id",
@@ -75,21 +85,30 @@ const ICON: [&str; 11] = [
 const CACHED: [&str; 2] = ["entry", "cache id"];
 
 /// Fields of one byte, which cannot be cut inside.
-const BYTES: [&str; 5] = [
+const BYTES: [&str; 9] = [
     "show state",
     "RPContent",
+    "taskbar",
+    "server z",
+    "application bar",
+    "edge",
     "stack count",
     "cache id",
     "bits per pixel",
 ];
 
 /// Fields with a set, of each of the lists above.
-const WINDOW_SETS: [&str; 5] = [
+const WINDOW_SETS: [&str; 10] = [
     "show state",
     "title length",
     "RPContent",
     "window rectangles",
     "visible rectangles",
+    "overlay text length",
+    "taskbar",
+    "server z",
+    "application bar",
+    "edge",
 ];
 const NOTIFICATION_SETS: [&str; 3] = ["tip length", "balloon text length", "balloon title length"];
 const ICON_SETS: [&str; 6] = [
@@ -105,14 +124,19 @@ const ICON_SETS: [&str; 6] = [
 type Expected = (&'static str, [&'static [&'static str]; 4]);
 
 /// Every sort of order.
-const SORTS: [Expected; 16] = [
+const SORTS: [Expected; 18] = [
     ("new window", [&WINDOW, &[], &WINDOW_SETS, &[]]),
     ("update window", [&WINDOW, &[], &WINDOW_SETS, &[]]),
     ("delete window", [&["window id"], &[], &[], &[]]),
     ("small icon", [&["window id"], &ICON, &ICON_SETS, &[]]),
     ("big icon", [&["window id"], &ICON, &ICON_SETS, &[]]),
+    ("overlay icon", [&["window id"], &ICON, &ICON_SETS, &[]]),
     ("small cached icon", [&["window id"], &CACHED, &CACHED, &[]]),
     ("big cached icon", [&["window id"], &CACHED, &CACHED, &[]]),
+    (
+        "overlay cached icon",
+        [&["window id"], &CACHED, &CACHED, &[]],
+    ),
     (
         "new notification",
         [&NOTIFICATION, &[], &NOTIFICATION_SETS, &[]],
@@ -294,6 +318,10 @@ fn sort(order: &[u8]) -> Option<&'static str> {
     let deleted = has(flags::DELETED);
     Some(match flags & flags::TYPES {
         flags::WINDOW if deleted => "delete window",
+        flags::WINDOW if has(flags::OVERLAY) => match has(flags::ICON) {
+            true => "overlay icon",
+            false => "overlay cached icon",
+        },
         flags::WINDOW => match (has(flags::ICON), has(flags::CACHED_ICON), has(flags::BIG)) {
             (true, _, false) => "small icon",
             (true, _, true) => "big icon",

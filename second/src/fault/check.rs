@@ -158,7 +158,7 @@ fn without_pictures(line: &[u8]) -> Vec<u8> {
         // Of a whole picture the bits and the sides come first.
         let skipped = match &word[..at] {
             b"mask" | b"table" | b"color" => 0,
-            b"small" | b"big" | b"picture" if word[at + 1..] != *b"none" => 3,
+            b"small" | b"big" | b"overlay" | b"picture" if word[at + 1..] != *b"none" => 3,
             _ => continue,
         };
         let mut commas = 0;

@@ -3,8 +3,8 @@
 
 use crate::ids::WindowId;
 use crate::order::rules::{
-    self, BALLOON_TEXT_LIMIT, BALLOON_TITLE_LIMIT, ID_SIZE, RECTS_LIMIT, RECT_SIZE, STACK_LIMIT,
-    TIP_LIMIT, TITLE_LIMIT,
+    self, BALLOON_TEXT_LIMIT, BALLOON_TITLE_LIMIT, ID_SIZE, OVERLAY_TEXT_LIMIT, RECTS_LIMIT,
+    RECT_SIZE, STACK_LIMIT, TIP_LIMIT, TITLE_LIMIT,
 };
 use crate::table::{Desktop, NotificationIcon, Rect, Window};
 
@@ -34,7 +34,9 @@ impl<'a> Fields<'a> {
             title: self.string(TITLE_LIMIT)?,
             client_offset: self.offset(),
             client_size: self.size(),
-            rp_content: Some(self.u8()).filter(|&rp| rules::rp_content(rp))?,
+            margin_x: self.size(),
+            margin_y: self.size(),
+            rp_content: self.yes_or_no()?,
             root_parent: self.id(),
             window_offset: self.offset(),
             client_delta: self.offset(),
@@ -42,6 +44,11 @@ impl<'a> Fields<'a> {
             window_rects: self.rects()?,
             visible_offset: self.offset(),
             visibility_rects: self.rects()?,
+            overlay_text: self.string(OVERLAY_TEXT_LIMIT)?,
+            taskbar: self.yes_or_no()?,
+            server_z: self.yes_or_no()?,
+            app_bar: self.yes_or_no()?,
+            edge: Some(self.u8()).filter(|&edge| rules::edge(edge))?,
         })
     }
 
@@ -88,6 +95,10 @@ impl<'a> Fields<'a> {
 
     fn u8(&mut self) -> u8 {
         u8::from_le_bytes(self.array())
+    }
+
+    fn yes_or_no(&mut self) -> Option<u8> {
+        Some(self.u8()).filter(|&number| rules::yes_or_no(number))
     }
 
     fn u16(&mut self) -> u16 {

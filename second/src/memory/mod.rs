@@ -18,7 +18,7 @@ use crate::table::{
 use body::Fields;
 
 /// The bytes of the index, the bodies and the journal.
-pub const PARTS: [usize; 3] = [589, 45_780, 32_770];
+pub const PARTS: [usize; 3] = [589, 61_012, 32_770];
 /// The bytes of all three.
 pub const STATE_SIZE: usize = PARTS[0] + PARTS[1] + PARTS[2];
 /// The bytes of a file that say anything: past the most places nothing does.
@@ -32,13 +32,22 @@ const POINTERS_EACH: usize = 3;
 const POINTERS_AT: usize = 1;
 const SLOTS_AT: usize = POINTERS_AT + CELL_COUNT + POINTERS_EACH * SLOTS;
 const SLOT_SIZE: usize = 9;
-/// The bytes of a body; the desktop's follows those of the slots.
+/// The bytes of a window's body, and of another; the desktop's follows those of the slots.
+const WINDOW_SIZE: usize = 1_392;
 const BODY_SIZE: usize = 916;
 /// Where in the bodies the heads of pictures begin, and the bytes of one.
-const HEADS_AT: usize = BODY_SIZE * (SLOTS + 1);
+const HEADS_AT: usize = body_at(SLOTS + 1);
 const HEAD_SIZE: usize = 14;
 /// Where in the journal the orders begin.
 const ORDERS_AT: usize = 2;
+
+/// Where in the bodies that of a slot begins.
+const fn body_at(slot: usize) -> usize {
+    match slot.checked_sub(WINDOWS) {
+        None => WINDOW_SIZE * slot,
+        Some(further) => WINDOW_SIZE * WINDOWS + BODY_SIZE * further,
+    }
+}
 
 /// What a file describes.
 #[derive(Clone, Debug, PartialEq, Eq)]
@@ -47,8 +56,8 @@ pub enum Memory {
     Unfit,
     /// This book.
     Book(Box<Book>),
-    /// A state with a pointer that no call sets and no book has: the third one of a
-    /// window, or the second or third of a notification icon.
+    /// A state with a pointer that no call sets and no book has: the second or third one
+    /// of a notification icon.
     Beyond,
 }
 
@@ -128,7 +137,7 @@ impl<'a> Parts<'a> {
                 if windows.insert(window, fields.window()?).is_some() {
                     return None;
                 }
-                [Some(Holder::Small(window)), Some(Holder::Big(window)), None]
+                Holder::of_window(window).map(Some)
             } else {
                 let ids = (window, icon);
                 if icons.insert(ids, fields.notification()?).is_some() {
@@ -174,7 +183,7 @@ impl<'a> Parts<'a> {
     }
 
     fn body(&self, slot: usize) -> &'a [u8] {
-        &self.bodies[BODY_SIZE * slot..][..BODY_SIZE]
+        &self.bodies[body_at(slot)..body_at(slot + 1)]
     }
 
     /// The picture at a place, if its head is one: an icon's numbers without meaning in

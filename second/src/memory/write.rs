@@ -5,15 +5,15 @@
 use std::collections::BTreeMap;
 
 use super::{
-    BODY_SIZE, CELL_COUNT, HEADS_AT, HEAD_SIZE, ORDERS_AT, PARTS, POINTERS_AT, POINTERS_EACH,
-    SLOTS, SLOTS_AT, SLOT_SIZE, STATE_SIZE,
+    body_at, CELL_COUNT, HEADS_AT, HEAD_SIZE, ORDERS_AT, PARTS, POINTERS_AT, POINTERS_EACH, SLOTS,
+    SLOTS_AT, SLOT_SIZE, STATE_SIZE,
 };
 use crate::book::Book;
 use crate::generate::random::Random;
 use crate::ids::{NotifyIconId, WindowId};
 use crate::order::rules::{
-    BALLOON_TEXT_LIMIT, BALLOON_TITLE_LIMIT, CELLS, ID_SIZE, RECTS_LIMIT, RECT_SIZE, STACK_LIMIT,
-    TIP_LIMIT, TITLE_LIMIT,
+    BALLOON_TEXT_LIMIT, BALLOON_TITLE_LIMIT, CELLS, ID_SIZE, OVERLAY_TEXT_LIMIT, RECTS_LIMIT,
+    RECT_SIZE, STACK_LIMIT, TIP_LIMIT, TITLE_LIMIT,
 };
 use crate::table::{Cell, Holder, NotificationIcon, Rect, Table, Window};
 use crate::table::{NOTIFICATION_ICONS, PLACE_SIZE, WINDOWS};
@@ -108,7 +108,7 @@ impl Writer<'_> {
 
     /// Each field at its place, with room for so many bytes.
     fn body(&mut self, slot: usize, fields: &[(Vec<u8>, usize)]) {
-        let mut at = BODY_SIZE * slot;
+        let mut at = body_at(slot);
         for (field, room) in fields {
             self.bodies[at..at + field.len()].copy_from_slice(field);
             at += room;
@@ -122,6 +122,7 @@ impl Writer<'_> {
             Holder::Cell(cache, entry) => cache as usize * CELLS + entry as usize,
             Holder::Small(id) => icon((id, None), 0),
             Holder::Big(id) => icon((id, None), 1),
+            Holder::Overlay(id) => icon((id, None), 2),
             Holder::Notification(window, id) => icon((window, Some(id)), 0),
         }
     }
@@ -191,6 +192,8 @@ fn window(window: &Window) -> Vec<(Vec<u8>, usize)> {
         string(&window.title, TITLE_LIMIT),
         (offset(window.client_offset), 8),
         (pair(window.client_size), 8),
+        (pair(window.margin_x), 8),
+        (pair(window.margin_y), 8),
         (vec![window.rp_content], 1),
         (bytes(window.root_parent.0), 4),
         (offset(window.window_offset), 8),
@@ -199,6 +202,11 @@ fn window(window: &Window) -> Vec<(Vec<u8>, usize)> {
         rects(&window.window_rects),
         (offset(window.visible_offset), 8),
         rects(&window.visibility_rects),
+        string(&window.overlay_text, OVERLAY_TEXT_LIMIT),
+        (vec![window.taskbar], 1),
+        (vec![window.server_z], 1),
+        (vec![window.app_bar], 1),
+        (vec![window.edge], 1),
     ]
 }
 

@@ -48,7 +48,7 @@ enum Part {
 use Part::{Any, Ids, Rects, Set, String};
 
 /// The fields of each window flag.
-const WINDOW: [(u32, &[Part]); 14] = [
+const WINDOW: [(u32, &[Part]); 21] = [
     (flags::OWNER, &[Any("owner", 4)]),
     (flags::STYLE, &[Any("style", 4), Any("extended style", 4)]),
     (flags::SHOW, &[Set("show state", rules::show_state)]),
@@ -64,7 +64,15 @@ const WINDOW: [(u32, &[Part]); 14] = [
         flags::CLIENT_SIZE,
         &[Any("client width", 4), Any("client height", 4)],
     ),
-    (flags::RP_CONTENT, &[Set("RPContent", rules::rp_content)]),
+    (
+        flags::MARGIN_X,
+        &[Any("left margin", 4), Any("right margin", 4)],
+    ),
+    (
+        flags::MARGIN_Y,
+        &[Any("top margin", 4), Any("bottom margin", 4)],
+    ),
+    (flags::RP_CONTENT, &[Set("RPContent", rules::yes_or_no)]),
     (flags::ROOT_PARENT, &[Any("root parent", 4)]),
     (
         flags::WINDOW_OFFSET,
@@ -99,6 +107,17 @@ const WINDOW: [(u32, &[Part]); 14] = [
             "visible bottom",
         ])],
     ),
+    (
+        flags::OVERLAY_TEXT,
+        &[String(
+            ["overlay text length", "overlay text"],
+            rules::OVERLAY_TEXT_LIMIT,
+        )],
+    ),
+    (flags::TASKBAR, &[Set("taskbar", rules::yes_or_no)]),
+    (flags::SERVER_Z, &[Set("server z", rules::yes_or_no)]),
+    (flags::APP_BAR, &[Set("application bar", rules::yes_or_no)]),
+    (flags::EDGE, &[Set("edge", rules::edge)]),
 ];
 
 /// The fields of each notification flag.

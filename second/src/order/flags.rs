@@ -49,6 +49,35 @@ pub const RP_CONTENT: u32 = 0x0002_0000;
 /// Window: root parent.
 pub const ROOT_PARENT: u32 = 0x0004_0000;
 
+/// Window, newer servers: left and right resize margin.
+pub const MARGIN_X: u32 = 0x0000_0080;
+/// Window, newer servers: top and bottom resize margin.
+pub const MARGIN_Y: u32 = 0x0800_0000;
+/// Window, newer servers: overlay description.
+pub const OVERLAY_TEXT: u32 = 0x0040_0000;
+/// Window, newer servers: taskbar button.
+pub const TASKBAR: u32 = 0x0080_0000;
+/// Window, newer servers: stacking by the server.
+pub const SERVER_Z: u32 = 0x0008_0000;
+/// Window, newer servers: application bar.
+pub const APP_BAR: u32 = 0x0000_0040;
+/// Window, newer servers: the application bar's edge.
+pub const EDGE: u32 = 0x0000_0001;
+/// Window, newer servers: the icon is the overlay icon.
+pub const OVERLAY: u32 = 0x0010_0000;
+/// Window, newer servers: the overlay icon is none from now on.
+pub const OVERLAY_NONE: u32 = 0x0020_0000;
+/// The bits that only newer servers set.
+pub const NEWER: u32 = MARGIN_X
+    | MARGIN_Y
+    | OVERLAY_TEXT
+    | TASKBAR
+    | SERVER_Z
+    | APP_BAR
+    | EDGE
+    | OVERLAY
+    | OVERLAY_NONE;
+
 /// Notification: tip.
 pub const TIP: u32 = 0x0000_0001;
 /// Notification: balloon.
@@ -74,7 +103,7 @@ pub const ACTIVE: u32 = 0x0000_0020;
 /// The closed list of a kind's bits.
 pub const fn closed_list(kind: u32) -> u32 {
     match kind {
-        WINDOW => 0xF107_FF1E,
+        WINDOW => 0xF9FF_FFDF,
         NOTIFICATION => 0xF200_000F,
         _ => 0x0400_003F,
     }
@@ -95,8 +124,9 @@ pub fn clash(kind: u32, flags: u32) -> bool {
         return false;
     }
     if any(ICON | CACHED_ICON) {
-        besides(WINDOW | NEW | BIG | ICON | CACHED_ICON)
+        let both = any(BIG) && any(OVERLAY);
+        both || besides(WINDOW | NEW | BIG | OVERLAY | ICON | CACHED_ICON)
     } else {
-        any(BIG)
+        any(BIG | OVERLAY)
     }
 }

@@ -39,13 +39,22 @@ pub enum WindowChange<'a> {
     Update(WindowFields<'a>),
     /// It goes.
     Delete,
-    /// Its small or big icon changes; whether the order says new is not kept.
+    /// One of its icons changes; whether the order says new is not kept.
     Picture {
-        /// The big icon, not the small one.
-        big: bool,
+        /// Which one.
+        which: WindowIcon,
         /// The icon.
         picture: Picture<'a>,
     },
+}
+
+/// The icons of a window.
+#[derive(Clone, Copy, Debug, PartialEq, Eq)]
+#[allow(missing_docs)]
+pub enum WindowIcon {
+    Small,
+    Big,
+    Overlay,
 }
 
 /// The fields of a window that an order carries.
@@ -59,6 +68,10 @@ pub struct WindowFields<'a> {
     pub title: Option<&'a [u8]>,
     pub client_offset: Option<(i32, i32)>,
     pub client_size: Option<(u32, u32)>,
+    /// Left and right.
+    pub margin_x: Option<(u32, u32)>,
+    /// Top and bottom.
+    pub margin_y: Option<(u32, u32)>,
     pub rp_content: Option<u8>,
     pub root_parent: Option<WindowId>,
     pub window_offset: Option<(i32, i32)>,
@@ -69,6 +82,13 @@ pub struct WindowFields<'a> {
     pub visible_offset: Option<(i32, i32)>,
     /// Rectangles of 8 bytes each.
     pub visibility_rects: Option<&'a [u8]>,
+    pub overlay_text: Option<&'a [u8]>,
+    pub taskbar: Option<u8>,
+    pub server_z: Option<u8>,
+    pub app_bar: Option<u8>,
+    pub edge: Option<u8>,
+    /// The overlay icon is none from now on.
+    pub overlay_none: bool,
 }
 
 /// An order about a notification icon.

@@ -5,7 +5,7 @@ use super::rules::{self, ID_SIZE, RECT_SIZE};
 use super::{Balloon, CellPlace, Icon, Picture};
 use super::{DesktopFields, DesktopOrder, Order};
 use super::{NotificationChange, NotificationFields, NotificationOrder};
-use super::{WindowChange, WindowFields, WindowOrder};
+use super::{WindowChange, WindowFields, WindowIcon, WindowOrder};
 use crate::ids::{NotifyIconId, WindowId};
 use crate::number::{
     CLASH, LENGTH_DIFFERS, NOT_FILLED, OUTSIDE_LIST, OUTSIDE_SET, TOO_SHORT, UNKNOWN_TYPE,
@@ -68,8 +68,14 @@ impl<'a> Body<'a> {
         let change = if self.has(flags::DELETED) {
             WindowChange::Delete
         } else if let Some(picture) = self.picture()? {
-            let big = self.has(flags::BIG);
-            WindowChange::Picture { big, picture }
+            let which = if self.has(flags::BIG) {
+                WindowIcon::Big
+            } else if self.has(flags::OVERLAY) {
+                WindowIcon::Overlay
+            } else {
+                WindowIcon::Small
+            };
+            WindowChange::Picture { which, picture }
         } else if self.has(flags::NEW) {
             WindowChange::New(self.window_fields()?)
         } else {
@@ -87,6 +93,8 @@ impl<'a> Body<'a> {
             title: self.field(flags::TITLE, Self::string)?,
             client_offset: self.field(flags::CLIENT_OFFSET, Self::offset)?,
             client_size: self.field(flags::CLIENT_SIZE, Self::pair)?,
+            margin_x: self.field(flags::MARGIN_X, Self::pair)?,
+            margin_y: self.field(flags::MARGIN_Y, Self::pair)?,
             rp_content: self.field(flags::RP_CONTENT, Self::u8)?,
             root_parent: self.field(flags::ROOT_PARENT, Self::window_id)?,
             window_offset: self.field(flags::WINDOW_OFFSET, Self::offset)?,
@@ -95,6 +103,12 @@ impl<'a> Body<'a> {
             window_rects: self.field(flags::WINDOW_RECTS, Self::rects)?,
             visible_offset: self.field(flags::VISIBLE_OFFSET, Self::offset)?,
             visibility_rects: self.field(flags::VISIBILITY, Self::rects)?,
+            overlay_text: self.field(flags::OVERLAY_TEXT, Self::string)?,
+            taskbar: self.field(flags::TASKBAR, Self::u8)?,
+            server_z: self.field(flags::SERVER_Z, Self::u8)?,
+            app_bar: self.field(flags::APP_BAR, Self::u8)?,
+            edge: self.field(flags::EDGE, Self::u8)?,
+            overlay_none: self.has(flags::OVERLAY_NONE),
         })
     }
 

@@ -12,6 +12,8 @@ pub const NO_CACHE: u8 = 0xFF;
 
 /// The most bytes of a window's title.
 pub const TITLE_LIMIT: usize = 520;
+/// The most bytes of a window's overlay description.
+pub const OVERLAY_TEXT_LIMIT: usize = 520;
 /// The most bytes of a tip.
 pub const TIP_LIMIT: usize = 256;
 /// The most bytes of a balloon's text.
@@ -56,9 +58,16 @@ fn window(fields: &WindowFields<'_>) -> bool {
         && fields
             .title
             .is_none_or(|title| string(title.len(), TITLE_LIMIT))
-        && fields.rp_content.is_none_or(rp_content)
+        && fields.rp_content.is_none_or(yes_or_no)
         && rects_allowed(fields.window_rects)
         && rects_allowed(fields.visibility_rects)
+        && fields
+            .overlay_text
+            .is_none_or(|text| string(text.len(), OVERLAY_TEXT_LIMIT))
+        && fields.taskbar.is_none_or(yes_or_no)
+        && fields.server_z.is_none_or(yes_or_no)
+        && fields.app_bar.is_none_or(yes_or_no)
+        && fields.edge.is_none_or(edge)
 }
 
 fn notification(fields: &NotificationFields<'_>) -> bool {
@@ -95,9 +104,14 @@ pub fn show_state(number: u8) -> bool {
     matches!(number, 0 | 2 | 3 | 5)
 }
 
-/// RPContent is 0 or 1.
-pub fn rp_content(number: u8) -> bool {
+/// RPContent, taskbar button, stacking by the server and application bar are 0 or 1.
+pub fn yes_or_no(number: u8) -> bool {
     number <= 1
+}
+
+/// An application bar's edge is 0 to 3.
+pub fn edge(number: u8) -> bool {
+    number <= 3
 }
 
 /// A string has an even number of bytes, at most its limit.

@@ -15,6 +15,7 @@ pub fn push_found(line: &mut Vec<u8>, table: &Table, call: &Call<'_>) {
                 push_window(line, id, window);
                 push_picture(line, "small", table.shown(Holder::Small(id)));
                 push_picture(line, "big", table.shown(Holder::Big(id)));
+                push_picture(line, "overlay", table.shown(Holder::Overlay(id)));
             }
         }
         Call::Icon(window, icon) => {
@@ -63,6 +64,8 @@ fn push_window(line: &mut Vec<u8>, id: WindowId, window: &Window) {
         .string("title", &window.title)
         .text("client", &pair(window.client_offset))
         .text("client_size", &pair(window.client_size))
+        .text("margin_x", &pair(window.margin_x))
+        .text("margin_y", &pair(window.margin_y))
         .number("rp", window.rp_content)
         .number("root", window.root_parent.0)
         .text("offset", &pair(window.window_offset))
@@ -70,7 +73,12 @@ fn push_window(line: &mut Vec<u8>, id: WindowId, window: &Window) {
         .text("size", &pair(window.window_size))
         .text("rects", &rects(&window.window_rects))
         .text("visible", &pair(window.visible_offset))
-        .text("vis_rects", &rects(&window.visibility_rects));
+        .text("vis_rects", &rects(&window.visibility_rects))
+        .string("overlay_text", &window.overlay_text)
+        .number("taskbar", window.taskbar)
+        .number("server_z", window.server_z)
+        .number("app_bar", window.app_bar)
+        .number("edge", window.edge);
 }
 
 /// Adds the fields of a notification icon, its picture aside.

@@ -9,7 +9,7 @@ pub const PART_LIMIT: u32 = 65_536;
 /// The most parts that an item can name.
 const PARTS_LIMIT: usize = 256;
 /// The parts of state memory that the program compared has, if no others are named.
-const STATE_PARTS: [u32; 3] = [589, 45_780, 32_770];
+const STATE_PARTS: [u32; 3] = [589, 61_012, 32_770];
 
 /// The parts of the store.
 pub const STORE_PARTS: usize = 5;

@@ -139,6 +139,7 @@ fn holder(&[kind, ref numbers @ ..]: &[u8; HOLDER_SIZE]) -> Option<Holder> {
         (1, 0) => Holder::Small(WindowId(one)),
         (2, 0) => Holder::Big(WindowId(one)),
         (3, _) => Holder::Notification(WindowId(one), NotifyIconId(other)),
+        (4, 0) => Holder::Overlay(WindowId(one)),
         _ => return None,
     })
 }
@@ -150,6 +151,7 @@ pub fn holder_bytes(holder: Holder) -> [u8; HOLDER_SIZE] {
         Holder::Small(id) => (1, id.0, 0),
         Holder::Big(id) => (2, id.0, 0),
         Holder::Notification(window, icon) => (3, window.0, icon.0),
+        Holder::Overlay(id) => (4, id.0, 0),
     };
     let mut bytes = [kind; HOLDER_SIZE];
     bytes[1..5].copy_from_slice(&one.to_le_bytes());

@@ -11,9 +11,9 @@ use crate::update::first;
 
 /// Fields whose bytes are texts, those whose bytes are parts of a picture, and those that
 /// are a picture or none.
-const TEXTS: [&str; 3] = ["title", "tip", "text"];
+const TEXTS: [&str; 4] = ["title", "overlay_text", "tip", "text"];
 const PARTS_OF_PICTURES: [&str; 3] = ["mask", "table", "color"];
-const PICTURES: [&str; 3] = ["small", "big", "picture"];
+const PICTURES: [&str; 4] = ["small", "big", "overlay", "picture"];
 /// Fields that are two's complement numbers.
 const OFFSETS: [&str; 4] = ["client", "offset", "delta", "visible"];
 
@@ -127,6 +127,7 @@ fn holder(holder: Holder) -> String {
         Holder::Cell(cache, entry) => format!("cell {cache}/{entry}"),
         Holder::Small(id) => format!("the small icon of window {}", id.0),
         Holder::Big(id) => format!("the big icon of window {}", id.0),
+        Holder::Overlay(id) => format!("the overlay icon of window {}", id.0),
         Holder::Notification(window, icon) => {
             format!("notification icon {}/{}", window.0, icon.0)
         }

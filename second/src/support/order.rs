@@ -6,7 +6,7 @@ use super::words::quoted;
 use crate::order::rules::{self, ID_SIZE, NO_CACHE, RECT_SIZE};
 use crate::order::{
     decode, DesktopFields, DesktopOrder, Icon, NotificationChange, NotificationFields, Order,
-    Picture, WindowChange, WindowFields,
+    Picture, WindowChange, WindowFields, WindowIcon,
 };
 
 /// What the bytes of a delivery say, also where they are refused.
@@ -18,8 +18,12 @@ pub fn told(order: &[u8]) -> String {
                 WindowChange::New(fields) => joined(format!("{about} new"), &window(&fields)),
                 WindowChange::Update(fields) => joined(about, &window(&fields)),
                 WindowChange::Delete => format!("{about} deleted"),
-                WindowChange::Picture { big, picture: of } => {
-                    let which = if big { "big" } else { "small" };
+                WindowChange::Picture { which, picture: of } => {
+                    let which = match which {
+                        WindowIcon::Small => "small",
+                        WindowIcon::Big => "big",
+                        WindowIcon::Overlay => "overlay",
+                    };
                     format!("{about} {which} {}", picture(&of))
                 }
             }
@@ -83,6 +87,8 @@ fn window(f: &WindowFields<'_>) -> Vec<String> {
         "title" f.title.map(quoted),
         "client" f.client_offset.map(pair),
         "client_size" f.client_size.map(pair),
+        "margin_x" f.margin_x.map(pair),
+        "margin_y" f.margin_y.map(pair),
         "rp" f.rp_content,
         "root" f.root_parent.map(|id| id.0),
         "offset" f.window_offset.map(pair),
@@ -91,6 +97,12 @@ fn window(f: &WindowFields<'_>) -> Vec<String> {
         "rects" f.window_rects.map(rects),
         "visible" f.visible_offset.map(pair),
         "vis_rects" f.visibility_rects.map(rects),
+        "overlay_text" f.overlay_text.map(quoted),
+        "taskbar" f.taskbar,
+        "server_z" f.server_z,
+        "app_bar" f.app_bar,
+        "edge" f.edge,
+        "overlay" f.overlay_none.then_some("none"),
     )
 }
 
@@ -175,19 +187,31 @@ fn outside_string(name: &str, bytes: Option<&[u8]>, limit: usize, found: &mut Ve
     }
 }
 
+fn outside_yes_or_no(name: &str, number: Option<u8>, found: &mut Vec<String>) {
+    if let Some(number) = number.filter(|&number| !rules::yes_or_no(number)) {
+        found.push(format!("{name}={number}, not 0 or 1"));
+    }
+}
+
 fn outside_window(f: &WindowFields<'_>, found: &mut Vec<String>) {
     if let Some(show) = f.show_state.filter(|&show| !rules::show_state(show)) {
         found.push(format!("show={show}, not 0, 2, 3 or 5"));
     }
     outside_string("title", f.title, rules::TITLE_LIMIT, found);
-    if let Some(rp) = f.rp_content.filter(|&rp| !rules::rp_content(rp)) {
-        found.push(format!("rp={rp}, not 0 or 1"));
-    }
+    outside_yes_or_no("rp", f.rp_content, found);
     for (name, list) in [("rects", f.window_rects), ("vis_rects", f.visibility_rects)] {
         let count = list.map_or(0, |list| list.len() / RECT_SIZE);
         if !rules::rects(count) {
             found.push(format!("{name} of {count}, over {}", rules::RECTS_LIMIT));
         }
+    }
+    let limit = rules::OVERLAY_TEXT_LIMIT;
+    outside_string("overlay_text", f.overlay_text, limit, found);
+    outside_yes_or_no("taskbar", f.taskbar, found);
+    outside_yes_or_no("server_z", f.server_z, found);
+    outside_yes_or_no("app_bar", f.app_bar, found);
+    if let Some(edge) = f.edge.filter(|&edge| !rules::edge(edge)) {
+        found.push(format!("edge={edge}, not 0 to 3"));
     }
 }
 

@@ -60,11 +60,8 @@ pub fn setting(place: CellPlace, pointer: Holder) -> Vec<Holder> {
 fn given<'a>(order: &Order<'a>) -> Option<(Holder, Picture<'a>)> {
     match order {
         Order::Window(order) => match order.change {
-            WindowChange::Picture { big: true, picture } => {
-                Some((Holder::Big(order.window_id), picture))
-            }
-            WindowChange::Picture { picture, .. } => {
-                Some((Holder::Small(order.window_id), picture))
+            WindowChange::Picture { which, picture } => {
+                Some((Holder::icon(order.window_id, which), picture))
             }
             WindowChange::New(_) | WindowChange::Update(_) | WindowChange::Delete => None,
         },
@@ -123,11 +120,13 @@ impl Table {
         match &order.change {
             WindowChange::New(fields) | WindowChange::Update(fields) => {
                 self.windows.entry(id).or_default().set(fields);
+                if fields.overlay_none {
+                    self.store.retain(|&holder| holder != Holder::Overlay(id));
+                }
             }
             WindowChange::Delete => {
                 self.windows.remove(&id);
-                let own = [Holder::Small(id), Holder::Big(id)];
-                self.store.retain(|holder| !own.contains(holder));
+                self.store.retain(|holder| holder.window() != Some(id));
             }
             WindowChange::Picture { .. } => {}
         }
@@ -170,6 +169,8 @@ impl Window {
         set_bytes(&mut self.title, fields.title);
         set(&mut self.client_offset, fields.client_offset);
         set(&mut self.client_size, fields.client_size);
+        set(&mut self.margin_x, fields.margin_x);
+        set(&mut self.margin_y, fields.margin_y);
         set(&mut self.rp_content, fields.rp_content);
         set(&mut self.root_parent, fields.root_parent);
         set(&mut self.window_offset, fields.window_offset);
@@ -181,6 +182,11 @@ impl Window {
             &mut self.visibility_rects,
             fields.visibility_rects.map(rects),
         );
+        set_bytes(&mut self.overlay_text, fields.overlay_text);
+        set(&mut self.taskbar, fields.taskbar);
+        set(&mut self.server_z, fields.server_z);
+        set(&mut self.app_bar, fields.app_bar);
+        set(&mut self.edge, fields.edge);
     }
 }
 

@@ -44,6 +44,10 @@ pub struct Window {
     pub title: Vec<u8>,
     pub client_offset: (i32, i32),
     pub client_size: (u32, u32),
+    /// Left and right.
+    pub margin_x: (u32, u32),
+    /// Top and bottom.
+    pub margin_y: (u32, u32),
     pub rp_content: u8,
     pub root_parent: WindowId,
     pub window_offset: (i32, i32),
@@ -52,6 +56,11 @@ pub struct Window {
     pub window_rects: Vec<Rect>,
     pub visible_offset: (i32, i32),
     pub visibility_rects: Vec<Rect>,
+    pub overlay_text: Vec<u8>,
+    pub taskbar: u8,
+    pub server_z: u8,
+    pub app_bar: u8,
+    pub edge: u8,
 }
 
 /// A rectangle, its sides in any relation.

@@ -5,7 +5,7 @@ use std::collections::BTreeSet;
 
 use super::Cell;
 use crate::ids::{NotifyIconId, WindowId};
-use crate::order::CellPlace;
+use crate::order::{CellPlace, WindowIcon};
 
 /// The fewest places of a store.
 pub const FEWEST_PLACES: usize = 12;
@@ -23,8 +23,42 @@ pub enum Holder {
     Small(WindowId),
     /// A window's big icon.
     Big(WindowId),
+    /// A window's overlay icon.
+    Overlay(WindowId),
     /// A notification icon.
     Notification(WindowId, NotifyIconId),
+}
+
+impl Holder {
+    /// The icons of a window.
+    pub fn of_window(id: WindowId) -> [Self; 3] {
+        [Self::Small(id), Self::Big(id), Self::Overlay(id)]
+    }
+
+    /// An icon of a window.
+    pub fn icon(id: WindowId, which: WindowIcon) -> Self {
+        match which {
+            WindowIcon::Small => Self::Small(id),
+            WindowIcon::Big => Self::Big(id),
+            WindowIcon::Overlay => Self::Overlay(id),
+        }
+    }
+
+    /// The other icons of the window whose icon it is.
+    pub fn others(self) -> impl Iterator<Item = Self> {
+        let all = self.window().map(Self::of_window);
+        all.into_iter()
+            .flatten()
+            .filter(move |&other| other != self)
+    }
+
+    /// Whose icon it is, if it is a window's.
+    pub fn window(self) -> Option<WindowId> {
+        match self {
+            Self::Small(id) | Self::Big(id) | Self::Overlay(id) => Some(id),
+            Self::Cell(..) | Self::Notification(..) => None,
+        }
+    }
 }
 
 impl From<CellPlace> for Holder {

@@ -44,7 +44,7 @@ fn a_refused_call_changes_nothing() {
     let before = book.clone();
     for (flags, rest, number) in [
         (0x0700_0000, "", 4),
-        (0x0100_0001, ID, 5),
+        (0x0100_0020, ID, 5),
         (0x0100_2000, ID, 6),
         (0x0100_0010, ID, 7),
         // A good field before a bad one sets nothing.

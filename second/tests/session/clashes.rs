@@ -16,13 +16,13 @@ fn bits(mask: u32) -> impl Iterator<Item = u32> {
         .filter(move |bit| mask & bit != 0)
 }
 
-const WINDOW_FIELDS: u32 = 0x0007_DF1E;
+const WINDOW_FIELDS: u32 = 0x08EF_DFDF;
 
 #[test]
 fn deleted_with_anything() {
     assert!(!clashes(0x2100_0000));
     assert!(!clashes(0x2200_0000));
-    for bit in bits(0xD007_FF1E) {
+    for bit in bits(0xD8FF_FFDF) {
         assert!(clashes(0x2100_0000 | bit), "{bit:08X}");
     }
     for bit in bits(0xD000_000F) {
@@ -43,7 +43,7 @@ fn icon_with_cached_icon() {
 #[test]
 fn window_icons_stand_alone() {
     for icon in [0x4100_0000, 0x8100_0000] {
-        for beside in [0, 0x1000_0000, 0x2000, 0x1000_2000] {
+        for beside in [0, 0x1000_0000, 0x2000, 0x1000_2000, 0x10_0000, 0x1010_0000] {
             assert!(!clashes(icon | beside));
             for bit in bits(WINDOW_FIELDS) {
                 assert!(clashes(icon | beside | bit), "{bit:08X}");
@@ -63,11 +63,20 @@ fn notification_icons_go_with_fields() {
 }
 
 #[test]
-fn big_without_an_icon() {
-    assert!(clashes(0x0100_2000));
-    assert!(clashes(0x1100_2000));
-    for bit in bits(WINDOW_FIELDS) {
-        assert!(clashes(0x0100_2000 | bit), "{bit:08X}");
+fn big_or_overlay_without_an_icon() {
+    for which in [0x2000, 0x10_0000, 0x10_2000] {
+        assert!(clashes(0x0100_0000 | which));
+        assert!(clashes(0x1100_0000 | which));
+        for bit in bits(WINDOW_FIELDS) {
+            assert!(clashes(0x0100_0000 | which | bit), "{bit:08X}");
+        }
+    }
+}
+
+#[test]
+fn big_with_overlay() {
+    for icon in [0x4100_0000, 0x8100_0000, 0x5100_0000, 0x9100_0000] {
+        assert!(clashes(icon | 0x10_2000));
     }
 }
 

@@ -178,8 +178,9 @@ fn faults_in_the_store_change_pictures_alone() {
     };
     let window =
         "W 0 2 37 id=65624 owner=0 style=0 ext=0 show=0 title= client=0,0 client_size=0,0 \
-        rp=0 root=0 offset=0,0 delta=0,0 size=0,0 rects= visible=0,0 vis_rects= \
-        small=32,1,1,a1,,b1b2 big=none";
+        margin_x=0,0 margin_y=0,0 rp=0 root=0 offset=0,0 delta=0,0 size=0,0 rects= visible=0,0 vis_rects= \
+        overlay_text= taskbar=0 server_z=0 app_bar=0 edge=0 \
+        small=32,1,1,a1,,b1b2 big=none overlay=none";
     let cell = "C 0 2 37 bpp=32 width=1 height=1 mask=a1 table= color=b1b2";
     let printed = format!("D 0 1 11\nD 0 2 37\n{window}\n{cell}\nM 0 0 0\nE 0 0 0\nM 0 0 0\n");
     let checked = |old: &str, new: &str| {

@@ -96,7 +96,7 @@ fn bad_ends_differ() {
                 (b'X', &[part, 0, 0, 0, 0, 1]) if part == past => "part of X",
                 (b'X', [_, 0, 0, 1, 0, 1]) => "offset of X",
                 (b'L', lengths) if lengths.len() == 20 => "length of a part",
-                (b'H', holders) if holders.len() == 18 && holders.contains(&4) => "kind of H",
+                (b'H', holders) if holders.len() == 18 && holders.contains(&5) => "kind of H",
                 (b'H', holders) if holders.len() == 18 => "second number of H",
                 _ => "length",
             },
@@ -123,7 +123,7 @@ fn what_is_missing_is_named() {
 }
 
 /// The calls, the limits of document 01's table and history rules, and those of the store.
-const NAMED: [&str; 88] = [
+const NAMED: [&str; 96] = [
     "E lent=11 1",
     "E lent=70 0",
     "E places=12 0",
@@ -143,6 +143,14 @@ const NAMED: [&str; 88] = [
     "17 undone by desktop none",
     "W small kept, its cell has another",
     "W small and big at one place",
+    "W big and overlay at one place",
+    "D newer=00000000 0",
+    "D newer=08E800C1 0",
+    "D newer=08F800C1 6",
+    "D overlay none that shares a place",
+    "B restores an overlay that was none",
+    "17 undone by overlay none",
+    "H overlay notification shared=1",
     "H shared by 6 or more",
     "H equal pictures apart",
     "Z again, nothing between",

@@ -1,7 +1,7 @@
 //! Numbers 2 to 7: lengths, types, closed lists, and which refusal comes first.
 
 use super::{common::hex, judged, order, ID, IDS};
-use second::order::{judge, NotificationChange, Order, WindowChange};
+use second::order::{judge, NotificationChange, Order, WindowChange, WindowIcon};
 
 const WINDOW: u32 = 0x0100_0000;
 const NOTIFICATION: u32 = 0x0200_0000;
@@ -59,7 +59,7 @@ fn exactly_one_type_bit() {
 #[test]
 fn closed_lists() {
     let lists = [
-        (WINDOW, 0xF107_FF1E_u32),
+        (WINDOW, 0xF9FF_FFDF_u32),
         (NOTIFICATION, 0xF200_000F),
         (DESKTOP, 0x0400_003F),
     ];
@@ -93,7 +93,7 @@ fn ids_that_are_cut_do_not_fill() {
 /// Each flag's field has its size; a byte less or more meets 7.
 #[test]
 fn each_field_fills_its_bytes() {
-    let fields: [(u32, &str); 28] = [
+    let fields: [(u32, &str); 39] = [
         (0x0100_0002, "01000000"),
         (0x0100_0008, "01000000 02000000"),
         (0x0100_0010, "05"),
@@ -101,6 +101,8 @@ fn each_field_fills_its_bytes() {
         (0x0100_0004, "0000"),
         (0x0100_4000, "01000000 02000000"),
         (0x0101_0000, "01000000 02000000"),
+        (0x0100_0080, "01000000 02000000"),
+        (0x0900_0000, "01000000 02000000"),
         (0x0102_0000, "01"),
         (0x0104_0000, "01000000"),
         (0x0100_0800, "01000000 02000000"),
@@ -109,12 +111,21 @@ fn each_field_fills_its_bytes() {
         (0x0100_0100, "0100 0100020003000400"),
         (0x0100_1000, "01000000 02000000"),
         (0x0100_0200, "0200 0100020003000400 0500060007000800"),
+        (0x0140_0000, "0200 4100"),
+        (0x0140_0000, "0000"),
+        (0x0180_0000, "01"),
+        (0x0108_0000, "01"),
+        (0x0100_0040, "01"),
+        (0x0100_0001, "03"),
+        (0x0120_0000, ""),
         (0x4100_0000, "0000 00 20 0100 0100 0100 0200 AA BBBB"),
+        (0x4110_0000, "0000 00 20 0100 0100 0100 0200 AA BBBB"),
         (
             0x4100_2000,
             "0000 00 08 0100 0100 0300 0100 0200 AA CCCCCC BBBB",
         ),
         (0x8100_2000, "0000 00"),
+        (0x8110_0000, "0000 00"),
         (0x0200_0008, "01000000"),
         (0x0200_0001, "0200 4100"),
         (0x0200_0002, "01000000 02000000 0200 4100 0400 42004300"),
@@ -167,7 +178,7 @@ fn sums_and_products_do_not_wrap() {
 /// An order with every fault meets the first number; mended, the next.
 #[test]
 fn the_first_refusal_is_given() {
-    let mut bytes = hex("2F 0000 01000027");
+    let mut bytes = hex("2F 0000 20000027");
     assert_eq!(judged(&bytes[..6]), 2);
     assert_eq!(judged(&bytes), 3);
     bytes[1] = 7;
@@ -219,8 +230,11 @@ fn kinds_of_changes() {
             WindowChange::New(_) => "new window",
             WindowChange::Update(_) => "update window",
             WindowChange::Delete => "delete window",
-            WindowChange::Picture { big: true, .. } => "big icon",
-            WindowChange::Picture { big: false, .. } => "small icon",
+            WindowChange::Picture { which, .. } => match which {
+                WindowIcon::Small => "small icon",
+                WindowIcon::Big => "big icon",
+                WindowIcon::Overlay => "overlay icon",
+            },
         },
         Order::Notification(order) => match order.change {
             NotificationChange::New(_) => "new icon",
@@ -234,6 +248,7 @@ fn kinds_of_changes() {
     assert_eq!(change(0x2100_0000, ID), "delete window");
     assert_eq!(change(0x9100_2000, &format!("{ID} 000000")), "big icon");
     assert_eq!(change(0x8100_0000, &format!("{ID} 000000")), "small icon");
+    assert_eq!(change(0x8110_0000, &format!("{ID} 000000")), "overlay icon");
     assert_eq!(change(0x1200_0000, IDS), "new icon");
     assert_eq!(change(0x0200_0000, IDS), "update icon");
     assert_eq!(change(0x2200_0000, IDS), "delete icon");

@@ -21,31 +21,35 @@ W 57000100";
             "D 0 2 151",
             "D 0 3 165",
             "W 0 3 165 id=65624 owner=1 style=2 ext=3 show=5 title=41004200 client=4,5 \
-             client_size=6,7 rp=1 root=8 offset=9,10 delta=11,12 size=13,14 \
+             client_size=6,7 margin_x=0,0 margin_y=0,0 rp=1 root=8 offset=9,10 delta=11,12 size=13,14 \
              rects=1,2,3,4;65535,6,7,8 visible=15,-1 \
-             vis_rects=9,8,7,6;5,4,3,2;1,0,0,32768 small=24,2,3,99,, big=24,2,3,99,,",
+             vis_rects=9,8,7,6;5,4,3,2;1,0,0,32768 overlay_text= taskbar=0 server_z=0 app_bar=0 edge=0 small=24,2,3,99,, big=24,2,3,99,, overlay=none",
             "W 9",
         ]
     );
 }
 
 #[test]
-fn small_and_big_icons() {
+fn small_big_and_overlay_icons() {
     let text = "\
 D 2E0B00 00000011 58000100
 D 2E1700 00000041 58000100 0200 00 20 0100 0100 0000 0000
 W 58000100
 D 2E1700 00200041 58000100 0400 01 20 0100 0100 0000 0000
+D 2E1700 00001041 58000100 0500 01 20 0200 0100 0000 0000
 W 58000100";
     let output = run_text(text);
     let ends: Vec<&str> = output
         .lines()
-        .filter_map(|line| line.split_once("vis_rects= "))
+        .filter_map(|line| line.split_once("edge=0 "))
         .map(|(_, end)| end)
         .collect();
     assert_eq!(
         ends,
-        ["small=32,1,1,,, big=none", "small=32,1,1,,, big=32,1,1,,,"]
+        [
+            "small=32,1,1,,, big=none overlay=none",
+            "small=32,1,1,,, big=32,1,1,,, overlay=32,2,1,,,"
+        ]
     );
 }
 

@@ -11,6 +11,7 @@ mod generator;
 mod judging;
 mod lookups;
 mod memory;
+mod newer;
 mod places;
 mod scripts;
 mod sets;

@@ -1,7 +1,8 @@
 //! How generated scripts lend places, and numbered places beside the sets of holders.
 
 use second::generate::session::script;
-use second::order::{judge, DesktopOrder, NotificationChange, Order, Picture, WindowChange};
+use second::order::{judge, DesktopOrder, NotificationChange, Order};
+use second::order::{Picture, WindowChange, WindowIcon};
 use second::script::parts::{first_places, places, Parts};
 use second::script::session::{call, Call, Session};
 use second::script::take_item;
@@ -94,14 +95,22 @@ impl Numbered {
             Order::Window(order) => match order.change {
                 WindowChange::Delete => {
                     let id = order.window_id;
-                    self.let_go(|h| [Holder::Small(id), Holder::Big(id)].contains(h));
+                    let own = [Holder::Small(id), Holder::Big(id), Holder::Overlay(id)];
+                    self.let_go(|holder| own.contains(holder));
                 }
                 WindowChange::Picture {
-                    big,
+                    which,
                     picture: Picture::Cached(cell),
                 } => {
-                    let of = if big { Holder::Big } else { Holder::Small };
+                    let of = match which {
+                        WindowIcon::Small => Holder::Small,
+                        WindowIcon::Big => Holder::Big,
+                        WindowIcon::Overlay => Holder::Overlay,
+                    };
                     self.point(of(order.window_id), cell.into());
+                }
+                WindowChange::New(fields) | WindowChange::Update(fields) if fields.overlay_none => {
+                    self.let_go(|holder| *holder == Holder::Overlay(order.window_id));
                 }
                 _ => {}
             },
@@ -198,7 +207,9 @@ fn numbered_of(table: &Table) -> Numbered {
 fn others_keep(before: &Table, after: &Table, order: &Order<'_>) {
     let is_own = |holder: Holder| match (order, holder) {
         (Order::Desktop(DesktopOrder::None), holder) => !matches!(holder, Holder::Cell(..)),
-        (Order::Window(order), Holder::Small(id) | Holder::Big(id)) => id == order.window_id,
+        (Order::Window(order), Holder::Small(id) | Holder::Big(id) | Holder::Overlay(id)) => {
+            id == order.window_id
+        }
         (Order::Notification(order), Holder::Notification(window, icon)) => {
             (window, icon) == (order.window_id, order.notify_icon_id)
         }

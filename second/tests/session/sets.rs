@@ -40,9 +40,30 @@ fn show_state_and_rp_content() {
     );
 }
 
+/// The newer servers' bytes: the edge goes to 3, the others to 1.
+#[test]
+fn newer_bytes() {
+    for (flags, most) in [
+        (0x0180_0000, 1),
+        (0x1108_0000, 1),
+        (0x0100_0040, 1),
+        (0x1100_0001, 3),
+    ] {
+        check(
+            0..=255_u8,
+            |n| n <= most,
+            flags,
+            |n| format!("{ID} {n:02X}"),
+        );
+    }
+}
+
 #[test]
 fn strings() {
     check(0..=540, even_to(520), 0x0100_0004, |n| {
+        format!("{ID} {}", string(n))
+    });
+    check(0..=540, even_to(520), 0x1140_0000, |n| {
         format!("{ID} {}", string(n))
     });
     check(0..=270, even_to(256), 0x0200_0001, |n| {
@@ -150,7 +171,9 @@ fn any_number() {
         for flags in [0x0100_0002, 0x0104_0000] {
             assert_eq!(judged(&order(flags, &format!("{ID} {four}"))), 0);
         }
-        for flags in [0x8, 0x4000, 0x1_0000, 0x800, 0x8000, 0x400, 0x1000] {
+        for flags in [
+            0x8, 0x4000, 0x1_0000, 0x80, 0x800_0000, 0x800, 0x8000, 0x400, 0x1000,
+        ] {
             assert_eq!(
                 judged(&order(0x0100_0000 | flags, &format!("{ID} {eight}"))),
                 0

@@ -16,7 +16,7 @@ fn document_01() {
 
 #[test]
 fn open_points() {
-    check(include_str!("../../vectors/session-open-points.txt"), 117);
+    check(include_str!("../../vectors/session-open-points.txt"), 124);
 }
 
 #[test]
@@ -43,7 +43,7 @@ fn stored_script() {
     let text = include_str!("../../scripts/session.txt");
     let expected = text.lines().filter_map(|line| line.split_once("# => "));
     let expected: Vec<&str> = expected.map(|(_, line)| line).collect();
-    assert_eq!(expected.len(), 553);
+    assert_eq!(expected.len(), 647);
     assert_lines(&run_text(text), &expected);
 }
 

@@ -237,6 +237,51 @@ fn pictures_that_changed() {
     );
 }
 
+/// Newer servers' fields: as carried, as looked up, outside their sets, and their names.
+#[test]
+fn newer_fields_in_words() {
+    let text = "D 2E2000 C100C819 07000000 01000000 02000000 03000000 04000000 0200 4100 01\n\
+        D 2E2300 C100C819 07000000 01000000 02000000 03000000 04000000 0200 4100 01 00 01 03\n\
+        D 2E1700 00001041 07000000 0000 FF 20 0100 0100 0000 0000\n\
+        W 07000000\n\
+        H 04 07000000 00000000 00 00000000 00000000\n\
+        D 2E0B00 00002001 07000000\n\
+        D 2E1200 4100C801 07000000 0100 41 02 02 02 04\n";
+    let script = second::hex::script(second::script::session::KINDS, text).expect("a text form");
+    let told = explained(&script).expect("an explanation");
+    let lines: Vec<&str> = told.lines().collect();
+    let fields =
+        "margin_x=1,2 margin_y=3,4 overlay_text=\"A\" taskbar=1 server_z=0 app_bar=1 edge=3";
+    assert_eq!(
+        lines[2],
+        format!("2: deliver 35 bytes: window 7 new {fields}")
+    );
+    assert_eq!(
+        lines[4],
+        "3: deliver 23 bytes: window 7 overlay icon into cell 255/0, 1 by 1, 32 bits"
+    );
+    assert!(lines[7].contains(" overlay_text=\"A\" taskbar=1 server_z=0 app_bar=1 edge=3 "));
+    assert!(lines[7].ends_with(" overlay=(1 by 1, 32 bits, 0 bytes)"));
+    let holder = "the overlay icon of window 7";
+    assert_eq!(
+        lines[8],
+        format!("5: look up whether {holder} and cell 0/0 share a place")
+    );
+    assert_eq!(lines[10], "6: deliver 11 bytes: window 7 overlay=none");
+    assert!(lines[13].ends_with(
+        "(overlay_text of 1 bytes, not an even number up to 520; taskbar=2, not 0 or 1; \
+         server_z=2, not 0 or 1; app_bar=2, not 0 or 1; edge=4, not 0 to 3)"
+    ));
+    let record = second(&["record"], &script).stdout;
+    let listed = second(&["list-record"], &record).stdout;
+    let listed = String::from_utf8(listed).expect("a text");
+    assert!(
+        listed.contains("|WINDOW_ORDER_FIELD_RESIZE_MARGIN_X|WINDOW_ORDER_FIELD_RESIZE_MARGIN_Y|")
+    );
+    assert!(listed.contains("|WINDOW_ORDER_ICON|WINDOW_ORDER_FIELD_ICON_OVERLAY\n"));
+    assert!(listed.contains("|WINDOW_ORDER_FIELD_ICON_OVERLAY_NULL\n"));
+}
+
 /// Every refusal 8 of a delivery names a field, and of granted orders none is named.
 #[test]
 fn fields_outside_their_sets_are_named() {

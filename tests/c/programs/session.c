@@ -65,6 +65,8 @@ static void print_window(uint32_t id) {
     print_hex(" title=", w.title.at, w.title.bytes);
     print_point("client", w.client_offset_x, w.client_offset_y);
     print_pair("client_size", w.client_area_width, w.client_area_height);
+    print_pair("margin_x", w.left_resize_margin, w.right_resize_margin);
+    print_pair("margin_y", w.top_resize_margin, w.bottom_resize_margin);
     printf(" rp=%u root=%u", w.rp_content, w.root_parent_handle);
     print_point("offset", w.window_offset_x, w.window_offset_y);
     print_point("delta", w.window_client_delta_x, w.window_client_delta_y);
@@ -72,8 +74,11 @@ static void print_window(uint32_t id) {
     print_rectangles("rects", w.window_rects, w.num_window_rects);
     print_point("visible", w.visible_offset_x, w.visible_offset_y);
     print_rectangles("vis_rects", w.visibility_rects, w.num_visibility_rects);
+    print_hex(" overlay_text=", w.overlay_description.at, w.overlay_description.bytes);
+    printf(" taskbar=%u server_z=%u app_bar=%u edge=%u", w.taskbar_button, w.enforce_server_z_order, w.app_bar_state, w.app_bar_edge);
     print_picture("small", w.small_icon);
     print_picture("big", w.big_icon);
+    print_picture("overlay", w.overlay_icon);
 }
 
 static void print_notification(uint32_t window_id, uint32_t notify_icon_id) {
@@ -339,8 +344,8 @@ static int run(const struct item *item) {
 
 /* A holder of H: its kind, and the second number of a window, which is 0. */
 static int is_holder(const uint8_t *p) {
-    return p[0] <= RAIL_HOLDER_NOTIFICATION &&
-           ((p[0] != RAIL_HOLDER_SMALL_ICON && p[0] != RAIL_HOLDER_BIG_ICON) || rail_get32(p + 5) == 0);
+    const int of_window = p[0] == RAIL_HOLDER_SMALL_ICON || p[0] == RAIL_HOLDER_BIG_ICON || p[0] == RAIL_HOLDER_OVERLAY_ICON;
+    return p[0] <= RAIL_HOLDER_OVERLAY_ICON && (!of_window || rail_get32(p + 5) == 0);
 }
 
 /* The item's kind and length are listed. */

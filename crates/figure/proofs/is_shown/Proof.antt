@@ -24,7 +24,7 @@ shared-slice-read-result : tie.Need-shared-slice-read-result
 shared-slice-read-result c = search needs
 
 returns : tie.Need-returns
-returns c = let a = c .before .before .args in shown-is (now (a .index)) (now (a .bodies)) (a .i)
+returns c = let a = c .before .before .args in shown-is (now (a .index)) (now (a .bodies)) (a .i) (c .before .before .pre .0)
 
 pub is-shown-spec : {M : Type 1} → statement M
 is-shown-spec =

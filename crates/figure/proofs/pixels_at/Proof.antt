@@ -35,7 +35,7 @@ area-requires c κs = search needs
 returns-2 : tie.Need-returns-2
 returns-2 c = let w = c .before .before .before .before .before in
     let a = w .args in
-    visible (now (a .index)) (now (a .bodies)) (a .i) (916 * a .i + 720) (916 * a .i + 720 + 130 - (916 * a .i + 720)) (w .pre .2) (c .before .before .if1 .left) refl (omega arith) (c .area .ensures)
+    visible (now (a .index)) (now (a .bodies)) (a .i) (1392 * a .i + 736) (1392 * a .i + 736 + 130 - (1392 * a .i + 736)) (w .pre .0) (w .pre .2) (c .before .before .if1 .left) refl (omega arith) (c .area .ensures)
 
 pub pixels-at-spec : {M : Type 1} → statement M
 pixels-at-spec =

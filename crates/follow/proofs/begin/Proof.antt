@@ -1,7 +1,7 @@
 -- Each kind that may be wanted is begun by its own function.
 use Rattle.follow.specs.declared.Want.{Want}
 use Rattle.follow.specs.Follow.{roomFor, beginOf}
-use Rattle.body.specs.Bodies.{slotOf}
+use Rattle.body.specs.Bodies.{slotLength, slotStart, slotOf}
 use mathlib.Core.Path.{_≡_, sym, ap, _∙_}
 use lib.ListN.{length}
 use denote.Ref.{now}
@@ -29,7 +29,7 @@ returns-3 c =
     c .before .before .clear .ensures ∙ ap (λ (w : Want). beginOf w (now (a .index)) (now (a .bodies)) (now (a .m))) (sym (c .before .before .before .before .enum-told .given .1))
 
 returns-4 : tie.Need-returns-4
-unfolding beginOf slotOf
+unfolding beginOf slotOf slotStart slotLength
 returns-4 c =
     let a = c .before .before .before .before .before .before .before .before .before .args in
     c .before .before .copy-part .ensures ∙ ap (λ (w : Want). beginOf w (now (a .index)) (now (a .bodies)) (now (a .m))) (sym (c .before .before .before .before .enum-told2 .given .1))

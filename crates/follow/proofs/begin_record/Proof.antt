@@ -1,7 +1,8 @@
 -- The slot is copied, and the origins are cleared.
-use mathlib.Core.Path.{ap, _∙_}
+use mathlib.Core.Path.{ap₂, _∙_}
 use mathlib.Core.List.{List}
 use Prim.Native.Nat.{ℕ}
+use native.Mathlib.Omega.{arith}
 use Rattle.wire.specs.Parts.{splice}
 use Rattle.follow.specs.Follow.{noOrigins}
 use borrow.Author.Needs.{needs}
@@ -14,6 +15,7 @@ begin-record-spec =
     (tie.spec
     (λ c κs. search needs)
     (λ c κs. search needs)
+    (λ c κs. omega (arith, c .before .before .before .before .before .before .before .before .before .pre .0, c .before .slot-room .ensures, c .before .before .before .before .begin-slot .kept .0))  -- clear-requires
     (λ c. search needs)
     (λ c.  -- returns
-    c .before .before .clear .ensures ∙ ap (λ (x : List ℕ). splice x 916 noOrigins) (c .before .before .before .before .before .before .begin-slot .ensures)))
+    c .before .before .clear .ensures ∙ ap₂ (λ (n : ℕ) (x : List ℕ). splice x n noOrigins) (c .before .before .before .before .slot-room .ensures) (c .before .before .before .before .before .before .before .begin-slot .ensures)))

@@ -1,5 +1,5 @@
 -- The record's slot is searched and, where it is found, copied.
-use Rattle.follow.proofs.Ways.{slot-below, begun-nothing, begun-slot}
+use Rattle.follow.proofs.Ways.{slot-below, slot-found, begun-nothing, begun-slot}
 use denote.Ref.{now}
 use native.Mathlib.Omega.{arith}
 use borrow.Author.Needs.{needs}
@@ -16,17 +16,19 @@ begin-slot-spec =
     (λ c.  -- returns
     let a = c .before .before .before .before .before .before .args in
     begun-nothing (now (a .index)) (a .family) (a .window .id) (a .notify .id) (c .before .before .find .ensures) (now (a .bodies)) (now (a .m)) (c .enum-told .given .1))
-    (λ c.  -- mul-copy-part
-    let b = c .before .before .before .before .before .before .before .before in
-    let a = b .args in
-    let l = slot-below (now (a .index)) (a .family) (a .window .id) (a .notify .id) (c .before .before .before .before .find .ensures) (c .before .before .f .given .0 .0) (c .before .before .f .given .1) in
-    omega (arith, l))
+    (λ c κs. search needs)
+    (λ c κs.  -- start-requires
+    let f = c .before .before .before in
+    let a = c .before .before .before .before .before .before .before .before .before .args in
+    omega (arith, slot-below (now (a .index)) (a .family) (a .window .id) (a .notify .id) (f .before .before .find .ensures) (f .f .given .0 .0) (f .f .given .1)))
     (λ c κs.  -- copy-part-requires
-    let b = c .before .before .before .before .before .before .before .before in
+    let f = c .before .before .before .before in
+    let b = c .before .before .before .before .before .before .before .before .before .before in
     let a = b .args in
-    let l = slot-below (now (a .index)) (a .family) (a .window .id) (a .notify .id) (c .before .before .before .before .find .ensures) (c .before .before .f .given .0 .0) (c .before .before .f .given .1) in
-    (omega (arith, b .pre .0), omega (arith, l, b .pre .2)))
+    let n = c .before .before .slot-room .ensures in
+    (omega (arith, n, b .pre .0), slot-found (now (a .index)) (a .family) (a .window .id) (a .notify .id) (f .before .before .find .ensures) (now (a .bodies)) (now (a .m)) (f .f .given .0 .0) (f .f .given .1) (c .start .ensures .0) n (b .pre .2)))
     (λ c. search needs)
     (λ c.  -- returns-2
-    let a = c .before .before .before .before .before .before .before .before .before .before .before .args in
-    begun-slot (now (a .index)) (a .family) (a .window .id) (a .notify .id) (c .before .before .before .before .before .before .before .find .ensures) (now (a .bodies)) (now (a .m)) (c .before .before .before .before .before .f .given .0 .0) (c .before .before .before .before .before .f .given .1) (c .before .before .copy-part .ensures)))
+    let f = c .before .before .before .before .before .before .before in
+    let a = c .before .before .before .before .before .before .before .before .before .before .before .before .before .args in
+    begun-slot (now (a .index)) (a .family) (a .window .id) (a .notify .id) (f .before .before .find .ensures) (now (a .bodies)) (now (a .m)) (f .f .given .0 .0) (f .f .given .1) (c .before .before .before .start .ensures .0) (c .before .before .before .before .before .slot-room .ensures) (c .before .before .copy-part .ensures)))

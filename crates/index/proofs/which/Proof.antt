@@ -1,5 +1,5 @@
--- One bit tells.
-use Rattle.index.proofs.Ways.{is-big, not-big}
+-- The bits tell.
+use Rattle.index.proofs.Ways.{is-big, is-overlay, is-small}
 use Rattle.index.proofs.which.Statement.{statement}
 use Rattle.index.proofs.which.Tie as tie
 
@@ -10,4 +10,6 @@ which-spec =
     (λ c.  -- returns
     is-big (c .before .args .flags) (c .if1 .taken))
     (λ c.  -- returns-2
-    not-big (c .before .args .flags) (c .if1 .left)))
+    is-overlay (c .before .before .args .flags) (c .before .if1 .left) (c .if2 .taken))
+    (λ c.  -- returns-3
+    is-small (c .before .before .args .flags) (c .before .if1 .left) (c .if2 .left)))

@@ -12,22 +12,25 @@ window-spec =
     (λ c κs. search needs)
     (λ c κs. let b = c .before .before .before .before .before .before .before in (search needs, title-ok (now (b .args .slot)) (b .pre .1)))  -- put-row-requires
     (λ c κs. search needs)
-    (λ c κs. let b = c .before .before .before .before .before .before .before .before .before .before .before .before .before .before .before in (search needs, rectangles-ok (now (b .args .slot)) (b .pre .1)))  -- put-row-requires-2
     (λ c κs. search needs)
-    (λ c κs. let b = c .before .before .before .before .before .before .before .before .before .before .before .before .before .before .before .before .before .before .before .before .before .before .before in (search needs, visibility-ok (now (b .args .slot)) (b .pre .1)))  -- put-row-requires-3
+    (λ c κs. let b = c .before .before .before .before .before .before .before .before .before .before .before .before .before .before .before .before .before .before .before in (search needs, rectangles-ok (now (b .args .slot)) (b .pre .1)))  -- put-row-requires-2
+    (λ c κs. search needs)
+    (λ c κs. let b = c .before .before .before .before .before .before .before .before .before .before .before .before .before .before .before .before .before .before .before .before .before .before .before .before .before .before .before in (search needs, visibility-ok (now (b .args .slot)) (b .pre .1)))  -- put-row-requires-3
     (λ c. search needs)
     (λ c.  -- returns
-    let w = c .before .before in
+    let t = c .before .before in
+    let w = t .before .before .before .before in
     let v = w .before .before .before .before in
     let u = v .before .before .before .before in
     let z = u .before .before .before .before in
     let y = z .before .before .before .before in
     let x = y .before .before .before .before in
     let b = x .before .before .before .before in
-    window-put (now (b .args .slot)) (now (b .args .out)) (b .pre .0 .1) (b .pre .0 .0)
+    window-put (now (b .args .slot)) (b .pre .0 .1) (now (b .args .out)) (b .pre .0 .0)
     (x .copy-part .ensures)
     (y .put-row .ensures)
     (z .copy-part2 .ensures)
-    (u .put-row2 .ensures)
-    (v .copy-part3 .ensures)
-    (w .put-row3 .ensures)))
+    (u .copy-part3 .ensures)
+    (v .put-row2 .ensures)
+    (w .copy-part4 .ensures)
+    (t .put-row3 .ensures)))

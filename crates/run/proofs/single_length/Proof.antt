@@ -12,6 +12,7 @@ single-length-spec =
     (λ c. search needs)
     (λ c. search needs)
     (λ c. search needs)
+    (λ c. search needs)
     (λ c. length-window _ (c .if2 .taken))  -- returns-2
     (λ c. search needs)
     (λ c. search needs)

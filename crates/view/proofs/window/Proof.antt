@@ -28,12 +28,14 @@ window-spec =
     (λ c κs. search needs)
     (λ c κs. search needs)
     (λ c κs. search needs)
+    (λ c κs. search needs)
     (λ c.  -- returns
     let u1 = c .before .before .before .before .before in
     let u2 = u1 .before .before .before .before .before in
     let u3 = u2 .before .before .before .before .before in
-    let b = u3 .before .before .before .before .before in
+    let b = u3 .before .before .before .before .before .before in
     window-is (now (b .args .bytes))
+    (u3 .before .before .before .before .newer .ensures)
     (u3 .before .before .before .text .ensures)
     (u3 .before .before .point .ensures)
     (u3 .before .pair .ensures)

@@ -18,6 +18,8 @@ pub enum Holder {
     BigIcon(WindowId),
     /// A notification icon.
     NotificationIcon(WindowId, NotifyIconId),
+    /// The overlay icon of a window.
+    OverlayIcon(WindowId),
 }
 
 impl Holder {
@@ -28,6 +30,7 @@ impl Holder {
             Holder::SmallIcon(window) => (1, window.0, 0),
             Holder::BigIcon(window) => (2, window.0, 0),
             Holder::NotificationIcon(window, icon) => (3, window.0, icon.0),
+            Holder::OverlayIcon(window) => (4, window.0, 0),
         }
     }
 }

@@ -45,6 +45,19 @@ pub struct Size {
     pub height: u32,
 }
 
+/// Widths at the four sides of a window.
+#[derive(Clone, Copy, Debug, Default, PartialEq, Eq, Hash)]
+pub struct Margins {
+    /// At the left side.
+    pub left: u32,
+    /// At the right side.
+    pub right: u32,
+    /// At the upper side.
+    pub top: u32,
+    /// At the lower side.
+    pub bottom: u32,
+}
+
 /// A cell of the icon cache: there are 2 caches of 6 cells.
 #[derive(Clone, Copy, Debug, Default, PartialEq, Eq, Hash, PartialOrd, Ord)]
 pub struct CacheCell {

@@ -2,7 +2,7 @@
 
 use alloc::vec::Vec;
 
-use super::{Picture, Point, Rectangle, Size};
+use super::{Margins, Picture, Point, Rectangle, Size};
 use crate::ids::WindowId;
 use crate::text::units;
 
@@ -57,6 +57,16 @@ impl<'a> Reader<'a> {
     pub(super) fn size(&mut self) -> Size {
         let [width, height] = [self.u32(), self.u32()];
         Size { width, height }
+    }
+
+    pub(super) fn margins(&mut self) -> Margins {
+        let [left, right, top, bottom] = [self.u32(), self.u32(), self.u32(), self.u32()];
+        Margins {
+            left,
+            right,
+            top,
+            bottom,
+        }
     }
 
     /// The picture that is shown, or zeros in its place.

@@ -4,7 +4,7 @@ use alloc::string::String;
 use alloc::vec::Vec;
 
 use super::reader::Reader;
-use super::{Picture, Point, Rectangle, Size};
+use super::{Margins, Picture, Point, Rectangle, Size};
 use crate::ids::WindowId;
 
 /// How a window is shown.
@@ -72,15 +72,31 @@ pub struct Window {
     pub small: Option<Picture>,
     /// The big icon, as the small one.
     pub big: Option<Picture>,
+    /// The overlay icon of newer servers, as the small one; an order can take it away.
+    pub overlay: Option<Picture>,
+    /// The resize margins (WindowLeftResizeMargin, WindowRightResizeMargin,
+    /// WindowTopResizeMargin, WindowBottomResizeMargin), of newer servers as what follows.
+    pub resize_margins: Margins,
+    /// The taskbar button, 0 or 1 (TaskbarButton).
+    pub taskbar_button: bool,
+    /// Stacking by the server, 0 or 1 (EnforceServerZOrder).
+    pub enforce_server_z_order: bool,
+    /// Application bar, 0 or 1 (AppBarState).
+    pub app_bar: bool,
+    /// The edge of the application bar, 0 to 3 (AppBarEdge).
+    pub app_bar_edge: u8,
     title: Vec<u16>,
+    overlay_description: Vec<u16>,
 }
 
 impl Window {
     /// The bytes in which a lookup hands it out.
-    pub const SIZE: usize = Self::FIELDS + 2 * Picture::SIZE;
-    /// Those before its pictures.
+    pub const SIZE: usize = Self::FIELDS + 2 * Picture::SIZE + Self::NEWER + Picture::SIZE;
+    /// Those before its small and its big icon.
     const FIELDS: usize = 850;
-    /// The most bytes of a title.
+    /// Those of newer servers' fields, before the overlay icon.
+    const NEWER: usize = 544;
+    /// The most bytes of a title, and of an overlay description.
     const TITLE: usize = 520;
 
     /// The title; what is no text in it becomes U+FFFD.
@@ -93,10 +109,24 @@ impl Window {
         &self.title
     }
 
+    /// The overlay description (OverlayDescription); what is no text in it becomes U+FFFD.
+    pub fn overlay_description(&self) -> String {
+        String::from_utf16_lossy(&self.overlay_description)
+    }
+
+    /// The overlay description as the server gave it.
+    pub fn overlay_description_utf16(&self) -> &[u16] {
+        &self.overlay_description
+    }
+
     pub(crate) fn of(bytes: &[u8; Self::SIZE]) -> Self {
         let mut from = Reader(bytes);
         let shows_small = from.yes();
         let shows_big = from.yes();
+        // Newer servers' fields stand behind all that were there before them.
+        let mut newer = Reader(&bytes[Self::FIELDS + 2 * Picture::SIZE..]);
+        let shows_overlay = newer.yes();
+        newer.u8();
         Self {
             owner: from.window_id(),
             style: from.u32(),
@@ -115,6 +145,13 @@ impl Window {
             visibility_rects: from.rectangles(),
             small: from.picture(shows_small),
             big: from.picture(shows_big),
+            resize_margins: newer.margins(),
+            overlay_description: newer.text(Self::TITLE),
+            taskbar_button: newer.yes(),
+            enforce_server_z_order: newer.yes(),
+            app_bar: newer.yes(),
+            app_bar_edge: newer.u8(),
+            overlay: newer.picture(shows_overlay),
         }
     }
 }
@@ -137,7 +174,7 @@ mod tests {
 
     /// A record with every field at its place in the layout.
     fn laid_out() -> [u8; Window::SIZE] {
-        let fields: [(usize, &[u8]); 15] = [
+        let fields: [(usize, &[u8]); 21] = [
             (0, &[1, 1]),
             (2, &[2, 0, 0, 0]),
             (6, &[6, 0, 0, 0, 10, 0, 0, 0, 5]),
@@ -153,6 +190,12 @@ mod tests {
             (720, &[1, 0, 5, 0, 6, 0, 7, 0, 8, 0]),
             (850, &[24, 1, 0, 1, 0, 0, 0, 3, 0, 1, 2, 3]),
             (5_085, &[16, 1, 0, 2, 0, 1, 0, 0, 0, 9]),
+            (9_320, &[1]),
+            (9_322, &[14, 0, 0, 0, 15, 0, 0, 0]),
+            (9_330, &[16, 0, 0, 0, 0, 0, 0, 0x80]),
+            (9_338, &[2, 0, 0x42, 0]),
+            (9_860, &[1, 0, 1, 3]),
+            (9_864, &[32, 1, 0, 1, 0, 0, 0, 1, 0, 8]),
         ];
         let mut bytes = [0; Window::SIZE];
         for (at, field) in fields {
@@ -205,19 +248,31 @@ mod tests {
             visibility_rects: vec![rectangle(5)],
             small: picture(24, 1, &[], &[1, 2, 3]),
             big: picture(16, 2, &[9], &[]),
+            overlay: picture(32, 1, &[], &[8]),
+            resize_margins: Margins {
+                left: 14,
+                right: 15,
+                top: 16,
+                bottom: 0x8000_0000,
+            },
+            taskbar_button: true,
+            enforce_server_z_order: false,
+            app_bar: true,
+            app_bar_edge: 3,
             title: vec![0x41, 0xD800],
+            overlay_description: vec![0x42],
         };
         assert_eq!(Window::of(&laid_out()), window);
         assert_eq!(window.title(), "A\u{FFFD}");
         assert_eq!(window.title_utf16(), [0x41, 0xD800]);
-        for at in 0..2 {
+        assert_eq!(window.overlay_description(), "B");
+        assert_eq!(window.overlay_description_utf16(), [0x42]);
+        for at in [0, 1, 9_320] {
             let mut bytes = laid_out();
             bytes[at] = 0;
             let found = Window::of(&bytes);
-            assert_eq!(
-                (found.small.is_none(), found.big.is_none()),
-                (at == 0, at == 1)
-            );
+            let icons = [&found.small, &found.big, &found.overlay];
+            assert_eq!(icons.map(Option::is_none), [at == 0, at == 1, at == 9_320]);
         }
     }
 }

@@ -67,7 +67,7 @@ impl Session {
     }
 
     /// An empty table with so many places for pictures. A place is used while a cell of the
-    /// icon cache, a window (for its small or its big icon) or a notification icon has the
+    /// icon cache, a window (for its small, its big or its overlay icon) or a notification icon has the
     /// picture in it; where none is free for an icon that comes, its order meets
     /// [`Refusal::NoPlace`]. The cells alone need up to 12 places, all that can have a
     /// picture 92.

@@ -243,6 +243,46 @@ fn pictures_stay() {
     assert_eq!(session.shared(big, cell.into()), Err(Refusal::WrongId));
 }
 
+/// A third icon of a window, which an order takes away again; its description stays.
+#[test]
+fn an_overlay_icon() {
+    let mut session = Session::new();
+    let [window, mut icon] = new_window_with_icon(1, 0, 7);
+    session.deliver(&window).unwrap();
+    icon[5] |= 0x10;
+    session.deliver(&icon).unwrap();
+    let overlay = Holder::OverlayIcon(WindowId(1));
+    let cell = CacheCell::default();
+    let color = |session: &Session| {
+        let found = session.window(WindowId(1)).unwrap();
+        assert!(found.small.is_none() && found.big.is_none());
+        found.overlay.map(|picture| picture.color)
+    };
+    assert_eq!(color(&session), Some(vec![7, 7]));
+    assert_eq!(session.shared(overlay, cell.into()), Ok(true));
+    // Margins, a description, and all four bytes.
+    let mut newer = vec![0x2E, 35, 0, 0xC1, 0, 0xC8, 0x01, 1, 0, 0, 0];
+    newer.extend([1, 0, 0, 0, 2, 0, 0, 0, 4, 0, 0x41, 0, 0x42, 0, 1, 1, 0, 2]);
+    newer[1] = newer.len() as u8;
+    session.deliver(&newer).unwrap();
+    let found = session.window(WindowId(1)).unwrap();
+    assert_eq!(
+        (found.resize_margins.left, found.resize_margins.right),
+        (1, 2)
+    );
+    assert_eq!(found.overlay_description(), "AB");
+    assert!(found.taskbar_button && found.enforce_server_z_order && !found.app_bar);
+    assert_eq!(found.app_bar_edge, 2);
+    let none = [0x2E, 11, 0, 0, 0, 0x20, 0x01, 1, 0, 0, 0];
+    session.deliver(&none).unwrap();
+    assert_eq!(color(&session), None);
+    assert_eq!(session.shared(overlay, overlay), Err(Refusal::WrongId));
+    let found = session.window(WindowId(1)).unwrap();
+    assert_eq!(found.overlay_description(), "AB");
+    session.undo(1).unwrap();
+    assert_eq!(color(&session), Some(vec![7, 7]));
+}
+
 /// Every place in use: the next icon is refused, and granted once one is free.
 #[test]
 fn a_full_store() {

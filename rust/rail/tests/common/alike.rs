@@ -15,7 +15,8 @@ pub fn found(table: &Table, call: &Call<'_>, record: &Record) -> Result<(), Stri
         (Call::Window(id), Record::Window(found)) => {
             same(table.window(*id), window(found))?;
             shown(table, Holder::Small(*id), &found.small)?;
-            shown(table, Holder::Big(*id), &found.big)
+            shown(table, Holder::Big(*id), &found.big)?;
+            shown(table, Holder::Overlay(*id), &found.overlay)
         }
         (Call::Icon(window, id), Record::NotificationIcon(found)) => {
             same(table.icon(*window, *id), icon(found))?;
@@ -70,6 +71,8 @@ fn window(found: &Window) -> table::Window {
         title: bytes(found.title_utf16()),
         client_offset: pair(found.client_offset),
         client_size: sides(found.client_size),
+        margin_x: (found.resize_margins.left, found.resize_margins.right),
+        margin_y: (found.resize_margins.top, found.resize_margins.bottom),
         rp_content: found.rp_content.into(),
         root_parent: WindowId(found.root_parent.0),
         window_offset: pair(found.window_offset),
@@ -78,6 +81,11 @@ fn window(found: &Window) -> table::Window {
         window_rects: rects(&found.window_rects),
         visible_offset: pair(found.visible_offset),
         visibility_rects: rects(&found.visibility_rects),
+        overlay_text: bytes(found.overlay_description_utf16()),
+        taskbar: found.taskbar_button.into(),
+        server_z: found.enforce_server_z_order.into(),
+        app_bar: found.app_bar.into(),
+        edge: found.app_bar_edge,
     }
 }
 

@@ -9,7 +9,7 @@ pub fn bytes(table: &Table, call: &Call<'_>) -> Option<Vec<u8>> {
     let mut to = Writer(Vec::new());
     let size = match *call {
         Call::Window(id) => {
-            let pictures = [Holder::Small(id), Holder::Big(id)].map(|it| table.shown(it));
+            let pictures = Holder::of_window(id).map(|it| table.shown(it));
             to.window(table.window(id)?, pictures)
         }
         Call::Icon(window, icon) => {
@@ -43,8 +43,8 @@ impl Writer {
         264
     }
 
-    fn window(&mut self, window: &Window, pictures: [Option<&Cell>; 2]) -> usize {
-        self.0.extend(pictures.map(|it| u8::from(it.is_some())));
+    fn window(&mut self, window: &Window, [small, big, overlay]: [Option<&Cell>; 3]) -> usize {
+        self.0.extend([small, big].map(|it| u8::from(it.is_some())));
         self.numbers(&[window.owner.0, window.style, window.extended_style]);
         self.0.push(window.show_state);
         self.text(&window.title, 537);
@@ -58,10 +58,16 @@ impl Writer {
         self.rects(&window.window_rects, 712);
         self.point(window.visible_offset);
         self.rects(&window.visibility_rects, 850);
-        for (picture, next) in pictures.into_iter().zip([5_085, 9_320]) {
-            self.picture(picture, next);
-        }
-        9_320
+        self.picture(small, 5_085);
+        self.picture(big, 9_320);
+        self.0.extend([overlay.is_some().into(), 0]);
+        self.pair(window.margin_x);
+        self.pair(window.margin_y);
+        self.text(&window.overlay_text, 9_860);
+        self.0
+            .extend([window.taskbar, window.server_z, window.app_bar, window.edge]);
+        self.picture(overlay, 14_099);
+        14_099
     }
 
     fn icon(&mut self, icon: &NotificationIcon, picture: Option<&Cell>) -> usize {

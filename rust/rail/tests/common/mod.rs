@@ -97,7 +97,7 @@ pub fn lend<'a>(
 #[derive(Debug, PartialEq, Eq)]
 pub enum Record {
     Nothing,
-    Window(Window),
+    Window(Box<Window>),
     NotificationIcon(NotificationIcon),
     Picture(Picture),
     Desktop(Desktop),
@@ -127,7 +127,7 @@ pub fn make(lent: &mut LentSession<'_>, call: &Call<'_>) -> Answer {
         Call::StepBack(steps) => lent.undo(steps.into()).map(plain),
         Call::Window(id) => {
             let found = lent.view().window(WindowId(id.0))?;
-            Ok((found.standing, Record::Window(found.record)))
+            Ok((found.standing, Record::Window(Box::new(found.record))))
         }
         Call::Icon(window, icon) => {
             let ids = (WindowId(window.0), NotifyIconId(icon.0));
@@ -187,6 +187,7 @@ fn holder(holder: table::Holder) -> Holder {
         }),
         table::Holder::Small(id) => Holder::SmallIcon(WindowId(id.0)),
         table::Holder::Big(id) => Holder::BigIcon(WindowId(id.0)),
+        table::Holder::Overlay(id) => Holder::OverlayIcon(WindowId(id.0)),
         table::Holder::Notification(window, icon) => {
             Holder::NotificationIcon(WindowId(window.0), NotifyIconId(icon.0))
         }

@@ -3,14 +3,16 @@
 use crate::order::flags::{self, closed_list};
 
 /// The sorts of orders with the numbers that each can meet on a table.
-const SORTS: [(&str, &[u8]); 16] = [
+const SORTS: [(&str, &[u8]); 18] = [
     ("new window", &[0, 7, 8, 9, 10]),
     ("update window", &[0, 7, 8, 9]),
     ("delete window", &[0, 7, 9]),
     ("small icon", &[0, 7, 8, 9]),
     ("big icon", &[0, 7, 8, 9]),
+    ("overlay icon", &[0, 7, 8, 9]),
     ("small cached icon", &[0, 7, 8, 9, 11]),
     ("big cached icon", &[0, 7, 8, 9, 11]),
+    ("overlay cached icon", &[0, 7, 8, 9, 11]),
     ("new notification", &[0, 7, 8, 9, 10]),
     ("new notification with icon", &[0, 8, 9, 10]),
     ("new notification with cached icon", &[0, 9, 10, 11]),
@@ -23,12 +25,17 @@ const SORTS: [(&str, &[u8]); 16] = [
 ];
 
 /// Numbers at limits: allowed ones, then those that are not.
-const LIMITS: [(&str, &[usize], &[usize]); 17] = [
+const LIMITS: [(&str, &[usize], &[usize]); 22] = [
     ("show", &[0, 2, 3, 5], &[1, 4, 6, 255]),
     ("rp", &[0, 1], &[2, 255]),
     ("title", &[0, 2, 518, 520], &[1, 519, 521, 522]),
     ("rects", &[0, 1, 15, 16], &[17, 18]),
     ("vis_rects", &[0, 1, 15, 16], &[17, 18]),
+    ("overlay_text", &[0, 2, 518, 520], &[1, 519, 521, 522]),
+    ("taskbar", &[0, 1], &[2, 255]),
+    ("server_z", &[0, 1], &[2, 255]),
+    ("app_bar", &[0, 1], &[2, 255]),
+    ("edge", &[0, 1, 2, 3], &[4, 255]),
     ("tip", &[0, 2, 254, 256], &[1, 255, 257, 258]),
     ("text", &[0, 2, 508, 510], &[1, 509, 511, 512]),
     ("balloon_title", &[0, 2, 124, 126], &[1, 125, 127, 128]),
@@ -48,7 +55,7 @@ const LIMITS: [(&str, &[usize], &[usize]); 17] = [
 ];
 
 /// Facts of their own.
-const SINGLE: [&str; 19] = [
+const SINGLE: [&str; 23] = [
     "D first byte 4",
     "D types=0 4",
     "D types=3 4",
@@ -67,6 +74,10 @@ const SINGLE: [&str; 19] = [
     "D clash window icon with cached icon",
     "D clash notification icon with cached icon",
     "D clash window big without an icon",
+    "D clash window overlay without an icon",
+    "D clash window big and overlay without an icon",
+    "D clash window icon with big and overlay",
+    "D clash window cached icon with big and overlay",
     "D clash desktop start with end",
 ];
 
@@ -119,7 +130,12 @@ fn flag_facts() -> Vec<String> {
             }
         }
     }
-    for bit in bits(0x0007_DF1E) {
+    // Every combination of the newer servers' flags, without an icon.
+    for newer in subsets(flags::NEWER) {
+        let number = if newer & flags::OVERLAY != 0 { 6 } else { 0 };
+        facts.push(format!("D newer={newer:08X} {number}"));
+    }
+    for bit in bits(closed_list(flags::WINDOW) & !OF_PICTURES) {
         facts.push(format!("D new window flag={bit:08X} 0"));
         facts.push(format!("D clash window icon with {bit:08X}"));
         facts.push(format!("D clash window cached icon with {bit:08X}"));
@@ -128,6 +144,19 @@ fn flag_facts() -> Vec<String> {
         facts.push(format!("D clash desktop none with {bit:08X}"));
     }
     facts
+}
+
+/// The bits of a window that do not stand for fields, or have no place beside them.
+const OF_PICTURES: u32 = 0xF100_0000 | flags::BIG | flags::OVERLAY;
+
+/// The subsets of a mask, all of them.
+pub fn subsets(mask: u32) -> impl Iterator<Item = u32> {
+    let mut next = Some(0);
+    std::iter::from_fn(move || {
+        let subset = next?;
+        next = Some((subset | !mask).wrapping_add(1) & mask).filter(|&after| after != 0);
+        Some(subset)
+    })
 }
 
 /// The bits of a mask, one by one.

@@ -1,8 +1,8 @@
 //! The limited numbers of an order.
 
 use crate::order::rules::{
-    self, BALLOON_TEXT_LIMIT, BALLOON_TITLE_LIMIT, ID_SIZE, NO_CACHE, RECT_SIZE, TIP_LIMIT,
-    TITLE_LIMIT,
+    self, BALLOON_TEXT_LIMIT, BALLOON_TITLE_LIMIT, ID_SIZE, NO_CACHE, OVERLAY_TEXT_LIMIT,
+    RECT_SIZE, TIP_LIMIT, TITLE_LIMIT,
 };
 use crate::order::{CellPlace, DesktopOrder, NotificationChange, NotificationFields, Order};
 use crate::order::{Picture, WindowChange, WindowFields};
@@ -40,15 +40,26 @@ fn window(fields: &WindowFields<'_>) -> Vec<Limited> {
             .map(|count| (name, count, rules::rects(count)))
     };
     let show = fields.show_state;
-    let rp = fields.rp_content;
+    let yes_or_no = |name, number: Option<u8>| {
+        number.map(|number| (name, usize::from(number), rules::yes_or_no(number)))
+    };
     [
         show.map(|show| ("show", show.into(), rules::show_state(show))),
         fields
             .title
             .map(|title| string("title", title, TITLE_LIMIT)),
-        rp.map(|rp| ("rp", rp.into(), rules::rp_content(rp))),
+        yes_or_no("rp", fields.rp_content),
         rects("rects", fields.window_rects),
         rects("vis_rects", fields.visibility_rects),
+        fields
+            .overlay_text
+            .map(|text| string("overlay_text", text, OVERLAY_TEXT_LIMIT)),
+        yes_or_no("taskbar", fields.taskbar),
+        yes_or_no("server_z", fields.server_z),
+        yes_or_no("app_bar", fields.app_bar),
+        fields
+            .edge
+            .map(|edge| ("edge", edge.into(), rules::edge(edge))),
     ]
     .into_iter()
     .flatten()

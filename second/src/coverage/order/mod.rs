@@ -9,7 +9,8 @@ use limits::limited;
 use super::Facts;
 use crate::number::TABLE_FULL;
 use crate::order::flags::{self, closed_list};
-use crate::order::{decode, DesktopOrder, NotificationChange, Order, Picture, WindowChange};
+use crate::order::{decode, DesktopOrder, NotificationChange, Order, Picture};
+use crate::order::{WindowChange, WindowIcon};
 use crate::table::{Table, NOTIFICATION_ICONS, WINDOWS};
 
 /// How many records a table has before a delivery.
@@ -72,6 +73,10 @@ impl Facts {
     fn add_flags(&mut self, order: &[u8], flags: u32, number: u8) {
         let kind = flags & flags::TYPES;
         let name = kind_name(kind);
+        let apart = flags::ICON | flags::CACHED_ICON | flags::DELETED | flags::BIG;
+        if kind == flags::WINDOW && flags & apart == 0 && matches!(number, 0 | 6) {
+            self.add(format!("D newer={:08X} {number}", flags & flags::NEWER));
+        }
         match number {
             0 => {
                 for bit in bits(flags & !flags::TYPES) {
@@ -118,16 +123,22 @@ impl Facts {
         } else if bits & icons == icons {
             "icon with cached icon".into()
         } else if bits & icons == 0 {
-            "big without an icon".into()
+            match bits & (flags::BIG | flags::OVERLAY) {
+                flags::BIG => "big without an icon".into(),
+                flags::OVERLAY => "overlay without an icon".into(),
+                _ => "big and overlay without an icon".into(),
+            }
         } else {
             let icon = if bits & flags::ICON != 0 {
                 "icon"
             } else {
                 "cached icon"
             };
-            match besides(icons | flags::NEW | flags::BIG) {
-                Some(bit) => format!("{icon} with {bit:08X}"),
-                None => return,
+            let which = flags::BIG | flags::OVERLAY;
+            match besides(icons | flags::NEW | which) {
+                None if bits & which == which => format!("{icon} with big and overlay"),
+                Some(bit) if bits & which != which => format!("{icon} with {bit:08X}"),
+                _ => return,
             }
         };
         self.add(format!("D clash {name} {fact}"));
@@ -195,12 +206,10 @@ pub fn sort(order: &Order<'_>) -> &'static str {
             WindowChange::New(_) => "new window",
             WindowChange::Update(_) => "update window",
             WindowChange::Delete => "delete window",
-            WindowChange::Picture { big, picture } => match (big, picture) {
-                (false, Picture::Icon(_)) => "small icon",
-                (true, Picture::Icon(_)) => "big icon",
-                (false, Picture::Cached(_)) => "small cached icon",
-                (true, Picture::Cached(_)) => "big cached icon",
-            },
+            WindowChange::Picture { which, picture } => {
+                let is_cached = matches!(picture, Picture::Cached(_));
+                picture_sort(*which, is_cached)
+            }
         },
         Order::Notification(order) => match &order.change {
             NotificationChange::New(fields) => match fields.picture {
@@ -220,19 +229,30 @@ pub fn sort(order: &Order<'_>) -> &'static str {
     }
 }
 
+fn picture_sort(which: WindowIcon, is_cached: bool) -> &'static str {
+    match (which, is_cached) {
+        (WindowIcon::Small, false) => "small icon",
+        (WindowIcon::Big, false) => "big icon",
+        (WindowIcon::Overlay, false) => "overlay icon",
+        (WindowIcon::Small, true) => "small cached icon",
+        (WindowIcon::Big, true) => "big cached icon",
+        (WindowIcon::Overlay, true) => "overlay cached icon",
+    }
+}
+
 /// The sort of an order that does not fill its bytes, by its flags alone.
 fn sort_by_flags(flags: u32) -> &'static str {
     let has = |bits: u32| flags & bits != 0;
     match flags & flags::TYPES {
         flags::WINDOW if has(flags::DELETED) => "delete window",
-        flags::WINDOW if has(flags::ICON) => match has(flags::BIG) {
-            false => "small icon",
-            true => "big icon",
-        },
-        flags::WINDOW if has(flags::CACHED_ICON) => match has(flags::BIG) {
-            false => "small cached icon",
-            true => "big cached icon",
-        },
+        flags::WINDOW if has(flags::ICON | flags::CACHED_ICON) => {
+            let which = match (has(flags::BIG), has(flags::OVERLAY)) {
+                (true, _) => WindowIcon::Big,
+                (_, true) => WindowIcon::Overlay,
+                _ => WindowIcon::Small,
+            };
+            picture_sort(which, has(flags::CACHED_ICON))
+        }
         flags::WINDOW if has(flags::NEW) => "new window",
         flags::WINDOW => "update window",
         flags::NOTIFICATION if has(flags::DELETED) => "delete notification",

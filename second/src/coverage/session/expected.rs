@@ -21,14 +21,16 @@ const CALLS: [(char, &[u8]); 13] = [
 ];
 
 /// The sorts of orders that pass the room of the history.
-const PASSING: [&str; 12] = [
+const PASSING: [&str; 14] = [
     "new window",
     "update window",
     "delete window",
     "small icon",
     "big icon",
+    "overlay icon",
     "small cached icon",
     "big cached icon",
+    "overlay cached icon",
     "new notification",
     "update notification",
     "update notification with icon",

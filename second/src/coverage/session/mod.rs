@@ -2,6 +2,7 @@
 
 mod expected;
 mod of_stores;
+mod overlay;
 mod records;
 mod store;
 

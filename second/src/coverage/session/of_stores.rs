@@ -3,12 +3,12 @@
 /// The numbers of places at which something is asked for.
 const SIZES: [usize; 4] = [12, 13, 63, 64];
 /// The kinds of holders.
-pub const KINDS: [&str; 4] = ["cell", "small", "big", "notification"];
+pub const KINDS: [&str; 5] = ["cell", "small", "big", "notification", "overlay"];
 /// The calls on the state.
 const CALLS: &str = "EDUMBWNCSIHO";
 
 /// Facts of their own.
-const SINGLE: [&str; 57] = [
+const SINGLE: [&str; 66] = [
     "E lent=11 1",
     "E lent=0 1",
     "E lent=70 0",
@@ -52,9 +52,18 @@ const SINGLE: [&str; 57] = [
     "17 undone by desktop none",
     "17 undone by step back",
     "17 undone by cached icon",
+    "17 undone by overlay none",
     "W small kept, its cell has another",
     "W big kept, its cell has another",
+    "W overlay kept, its cell has another",
     "W small and big at one place",
+    "W small and overlay at one place",
+    "W big and overlay at one place",
+    "D overlay none that alone points at a place",
+    "D overlay none that shares a place",
+    "D overlay none where it is none",
+    "D overlay none of a new window",
+    "B restores an overlay that was none",
     "W picture of 4224 bytes",
     "N picture kept, its cell has another",
     "N picture of 4224 bytes",
@@ -80,6 +89,7 @@ pub fn facts() -> Vec<String> {
     for sort in [
         "small icon",
         "big icon",
+        "overlay icon",
         "new notification with icon",
         "update notification with icon",
     ] {

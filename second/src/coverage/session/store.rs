@@ -2,6 +2,7 @@
 
 use super::super::Facts;
 use super::of_stores::KINDS;
+use super::overlay::overlay_none;
 use crate::book::{Book, BYTES_ROOM, ORDERS_ROOM};
 use crate::ids::WindowId;
 use crate::number::{NO_CELL, NO_PLACE, STATE_UNFIT, WRONG_ID};
@@ -64,6 +65,7 @@ impl Facts {
             Call::StepBack(steps) if number == 0 && *steps > 0 => {
                 self.add_taken_back(before.book.table().store(), session.book().table().store());
                 self.add_taken_once(&before.book, session.book());
+                self.add_overlay_back(&before.book, session.book());
                 stores.granted("step back");
             }
             Call::Window(id) if number == 0 => self.add_window(session.book(), *id),
@@ -171,6 +173,9 @@ impl Facts {
             Some(&[pointer]) => self.add_sent_once(before, pointer, number),
             _ => {}
         }
+        if let (0, Some(overlay)) = (number, overlay_none(&judged)) {
+            self.add_overlay_none(before.book.table(), overlay);
+        }
         if number == NO_CELL && is_full {
             self.add("D 11 with a full store");
         }
@@ -239,15 +244,12 @@ impl Facts {
                 if standing.orders >= ORDERS_ROOM || standing.bytes + order.len() > BYTES_ROOM {
                     self.add("D 17 where the room is passed too");
                 }
-                let other = match pointer {
-                    Holder::Small(id) => Holder::Big(id),
-                    Holder::Big(id) => Holder::Small(id),
-                    _ => return,
-                };
-                if !table.is_full_for(&[cell, pointer, other])
-                    && store.shared(pointer, other) == Some(true)
-                {
-                    self.add("D 17 beside the window's other icon");
+                for other in pointer.others() {
+                    if !table.is_full_for(&[cell, pointer, other])
+                        && store.shared(pointer, other) == Some(true)
+                    {
+                        self.add("D 17 beside the window's other icon");
+                    }
                 }
             }
             WRONG_ID if is_full => self.add("D 9 with an icon and a full store"),
@@ -321,13 +323,14 @@ impl Facts {
     }
 
     fn add_window(&mut self, book: &Book, id: WindowId) {
-        let (small, big) = (Holder::Small(id), Holder::Big(id));
-        self.add_kept(book, small, "W small");
-        self.add_kept(book, big, "W big");
-        if book.shared(small, big) == Ok(true) {
-            self.add("W small and big at one place");
-        }
-        for holder in [small, big] {
+        for holder in Holder::of_window(id) {
+            self.add_kept(book, holder, &format!("W {}", kind(holder)));
+            for other in holder.others() {
+                if holder < other && book.shared(holder, other) == Ok(true) {
+                    let (one, other) = (kind(holder), kind(other));
+                    self.add(format!("W {one} and {other} at one place"));
+                }
+            }
             if has_most(book, holder) {
                 self.add("W picture of 4224 bytes");
             }
@@ -412,7 +415,9 @@ fn absent(book: &Book, holder: Holder) -> String {
         Holder::Cell(cache, entry) if cache >= CACHES as u32 || entry >= CELLS as u32 => {
             "cell outside".into()
         }
-        Holder::Small(id) | Holder::Big(id) if table.window(id).is_none() => "window absent".into(),
+        Holder::Small(id) | Holder::Big(id) | Holder::Overlay(id) if table.window(id).is_none() => {
+            "window absent".into()
+        }
         Holder::Notification(window, icon) if table.icon(window, icon).is_none() => {
             "notification absent".into()
         }
@@ -426,6 +431,7 @@ fn kind(holder: Holder) -> &'static str {
         Holder::Small(_) => KINDS[1],
         Holder::Big(_) => KINDS[2],
         Holder::Notification(..) => KINDS[3],
+        Holder::Overlay(_) => KINDS[4],
     }
 }
 
@@ -443,19 +449,19 @@ fn cached(order: &Order<'_>) -> Option<(Holder, Holder)> {
     };
     match order.change {
         WindowChange::Picture {
-            big,
+            which,
             picture: Picture::Cached(cell),
-        } => {
-            let of = if big { Holder::Big } else { Holder::Small };
-            Some((of(order.window_id), cell.into()))
-        }
+        } => Some((Holder::icon(order.window_id, which), cell.into())),
         _ => None,
     }
 }
 
 fn name(order: &Order<'_>) -> &'static str {
-    match cached(order) {
-        Some(_) => "cached icon",
-        None => super::super::order::sort(order),
+    if cached(order).is_some() {
+        "cached icon"
+    } else if overlay_none(order).is_some() {
+        "overlay none"
+    } else {
+        super::super::order::sort(order)
     }
 }

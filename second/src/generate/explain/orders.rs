@@ -30,14 +30,16 @@ const NEW_ICON: u32 = flags::NOTIFICATION | flags::NEW;
 
 /// Every sort of order.
 #[rustfmt::skip]
-pub const SORTS: [Sort; 16] = [
+pub const SORTS: [Sort; 18] = [
     sort("new window", flags::WINDOW | flags::NEW, &WINDOW_FIELDS),
     sort("update window", flags::WINDOW, &WINDOW_FIELDS),
     sort("delete window", flags::WINDOW | flags::DELETED, &[]),
     sort("small icon", flags::WINDOW | flags::ICON, &[]),
     sort("big icon", flags::WINDOW | flags::ICON | flags::BIG, &[]),
+    sort("overlay icon", flags::WINDOW | flags::ICON | flags::OVERLAY, &[]),
     sort("small cached icon", flags::WINDOW | flags::CACHED_ICON, &[]),
     sort("big cached icon", flags::WINDOW | flags::CACHED_ICON | flags::BIG, &[]),
+    sort("overlay cached icon", flags::WINDOW | flags::CACHED_ICON | flags::OVERLAY, &[]),
     sort("new notification", NEW_ICON, &NOTIFICATION_FIELDS),
     sort("new notification with icon", NEW_ICON | flags::ICON, &NOTIFICATION_FIELDS),
     sort("new notification with cached icon", NEW_ICON | flags::CACHED_ICON, &NOTIFICATION_FIELDS),
@@ -63,12 +65,21 @@ pub enum Fault {
 }
 
 /// The numbers outside the set of a field, by its name.
-const OUTSIDE: [(&str, Slot, &[u32]); 16] = [
+const OUTSIDE: [(&str, Slot, &[u32]); 21] = [
     ("show state", Slot::Show, &[1, 4, 6, 255]),
     ("title length", Slot::Title, &[1, 519, 521, 522]),
     ("RPContent", Slot::RpContent, &[2, 255]),
     ("window rectangles", Slot::WindowRects, &[17, 18, 40]),
     ("visible rectangles", Slot::VisibleRects, &[17, 18, 40]),
+    (
+        "overlay text length",
+        Slot::OverlayText,
+        &[1, 519, 521, 522],
+    ),
+    ("taskbar", Slot::Taskbar, &[2, 255]),
+    ("server z", Slot::ServerZ, &[2, 255]),
+    ("application bar", Slot::AppBar, &[2, 255]),
+    ("edge", Slot::Edge, &[4, 255]),
     ("tip length", Slot::Tip, &[1, 255, 257, 258]),
     (
         "balloon text length",
@@ -225,6 +236,7 @@ fn whole(sort: &Sort, more: u32, fixed: &[(Slot, u32)], random: &mut Random) -> 
         fixed.push((slot, number));
     };
     some(Slot::Title, 2, 20);
+    some(Slot::OverlayText, 2, 20);
     some(Slot::Tip, 2, 20);
     some(Slot::BalloonText, 2, 20);
     some(Slot::BalloonTitle, 2, 10);
@@ -243,7 +255,7 @@ impl Maker<'_> {
     /// come with one.
     pub fn special(&mut self) -> Vec<u8> {
         let (icon, cached) = (flags::ICON, flags::CACHED_ICON);
-        let kind = flags::WINDOW | self.random.pick(&[0, flags::BIG]);
+        let kind = flags::WINDOW | self.random.pick(&[0, flags::BIG, flags::OVERLAY]);
         let id = self.listed_window().unwrap_or(7);
         let (picture, fixed): (u32, &[(Slot, u32)]) = match self.random.below(7) {
             0 => (icon, &[(Slot::Entry, 6), (Slot::Cache, 255)]),

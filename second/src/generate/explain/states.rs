@@ -35,12 +35,13 @@ const OTHER: [&str; 9] = [
 
 /// The rules of state memory that a byte can break.
 #[rustfmt::skip]
-const RULES: [&str; 31] = [
+const RULES: [&str; 36] = [
     "11 places", "65 places", "fewer places than pointers need", "a pointer past the places",
     "two cells at one place", "a free slot with a pointer", "a slot neither used nor free",
     "a window with a second id", "a window twice", "a notification icon twice",
     "a window's first mark", "a window's second mark", "a notification icon's mark",
     "show state", "title", "RPContent", "window rectangles", "visibility rectangles",
+    "overlay text", "taskbar", "server z", "application bar", "edge",
     "tip", "balloon text", "balloon title", "hooked", "syncing", "stack",
     "bits per pixel", "width", "height", "picture",
     "129 orders", "an order past the room", "an order refused in its turn",
@@ -133,8 +134,10 @@ fn change(file: &mut [u8], random: &mut Random) {
 const POINTERS: usize = 1;
 const SLOTS: usize = 157;
 const BODIES: usize = 589;
-const HEADS: usize = BODIES + 44_884;
-const JOURNAL: usize = BODIES + 45_780;
+const ICONS: usize = BODIES + 44_544;
+const DESKTOP: usize = BODIES + 59_200;
+const HEADS: usize = BODIES + 60_116;
+const JOURNAL: usize = BODIES + 61_012;
 
 /// Breaks a rule in a file.
 struct Breaker<'a> {
@@ -163,9 +166,9 @@ impl<'a> Breaker<'a> {
         let icons = self.slots(true, true);
         let mut one = |list: &[usize]| (!list.is_empty()).then(|| random.pick(list));
         let (window, icon) = (one(&windows), one(&icons));
-        let in_window = |offset: usize| window.map(|slot| BODIES + 916 * slot + offset);
-        let in_icon = |offset: usize| icon.map(|slot| BODIES + 916 * slot + offset);
-        let desktop = BODIES + 916 * 48;
+        let in_window = |offset: usize| window.map(|slot| BODIES + 1_392 * slot + offset);
+        let in_icon = |offset: usize| icon.map(|slot| ICONS + 916 * (slot - 32) + offset);
+        let desktop = DESKTOP;
         let pointers: Vec<usize> = (POINTERS..SLOTS).filter(|&at| self.file[at] > 0).collect();
         let pointer = one(&pointers);
         let head = pointer.map(|at| HEADS + 14 * (usize::from(self.file[at]) - 1));
@@ -201,9 +204,14 @@ impl<'a> Breaker<'a> {
             "a notification icon's mark" => self.file[in_icon(1)?] = 255,
             "show state" => self.file[in_window(14)?] = 1,
             "title" => self.set16(in_window(15)?, random.pick(&[1, 521, 522])),
-            "RPContent" => self.file[in_window(553)?] = 2,
-            "window rectangles" => self.set16(in_window(582)?, random.pick(&[17, 256])),
-            "visibility rectangles" => self.set16(in_window(720)?, random.pick(&[17, 256])),
+            "RPContent" => self.file[in_window(569)?] = 2,
+            "window rectangles" => self.set16(in_window(598)?, random.pick(&[17, 256])),
+            "visibility rectangles" => self.set16(in_window(736)?, random.pick(&[17, 256])),
+            "overlay text" => self.set16(in_window(866)?, random.pick(&[1, 521, 522])),
+            "taskbar" => self.file[in_window(1_388)?] = 2,
+            "server z" => self.file[in_window(1_389)?] = 2,
+            "application bar" => self.file[in_window(1_390)?] = 2,
+            "edge" => self.file[in_window(1_391)?] = 4,
             "tip" => self.set16(in_icon(6)?, random.pick(&[1, 257, 258])),
             "balloon text" => self.set16(in_icon(272)?, random.pick(&[1, 511, 512])),
             "balloon title" => self.set16(in_icon(784)?, random.pick(&[1, 127, 128])),

@@ -9,6 +9,11 @@ use crate::order::CellPlace;
 /// The kinds by their type bit.
 const KINDS: [u32; 3] = [flags::WINDOW, flags::NOTIFICATION, flags::DESKTOP];
 
+/// The bits of a window that clash with an icon or a cached icon.
+const BESIDE_NO_ICON: u32 = closed_list(flags::WINDOW)
+    & !(flags::WINDOW | flags::NEW | flags::DELETED | flags::BIG | flags::OVERLAY)
+    & !(flags::ICON | flags::CACHED_ICON);
+
 impl Maker<'_> {
     /// A refused order of any sort, numbers 2 to 11, or 17 where every place is pointed at.
     pub fn refused(&mut self) -> Vec<u8> {
@@ -18,11 +23,11 @@ impl Maker<'_> {
             }
         }
         match self.random.below(100) {
-            0..=15 => self.wrong_id(),
-            16..=25 => self.no_cell(),
-            26..=45 => self.clash(),
-            46..=61 => self.outside_list(),
-            62..=68 => self.other_type(),
+            0..=13 => self.wrong_id(),
+            14..=22 => self.no_cell(),
+            23..=46 => self.clash(),
+            47..=63 => self.outside_list(),
+            64..=68 => self.other_type(),
             69..=76 => self.misdeclared(),
             77..=80 => self.short(),
             _ => self.unfilled(),
@@ -120,17 +125,24 @@ impl Maker<'_> {
     /// Flags that clash, most by one bit.
     fn clash(&mut self) -> Vec<u8> {
         let flags = match self.random.below(100) {
-            0..=29 => {
-                let bit = self.bit_of(0xD007_FF1E);
+            0..=24 => {
+                let bit =
+                    self.bit_of(closed_list(flags::WINDOW) & !(flags::WINDOW | flags::DELETED));
                 flags::WINDOW | flags::DELETED | bit
             }
-            30..=59 => {
+            25..=59 => {
                 let picture = self.random.pick(&[flags::ICON, flags::CACHED_ICON]);
-                flags::WINDOW | picture | self.bit_of(0x0007_DF1E) | self.icon_bits()
+                flags::WINDOW | picture | self.bit_of(BESIDE_NO_ICON) | self.icon_bits()
             }
             60..=64 => {
                 let fields = self.some_of(&WINDOW_FIELDS);
-                flags::WINDOW | flags::BIG | self.random.pick(&[0, flags::NEW, fields])
+                let both = flags::BIG | flags::OVERLAY;
+                let which = self.random.pick(&[flags::BIG, flags::OVERLAY, both]);
+                let picture = match which == both {
+                    true => self.random.pick(&[0, flags::ICON, flags::CACHED_ICON]),
+                    false => 0,
+                };
+                flags::WINDOW | which | picture | self.random.pick(&[0, 0, flags::NEW, fields])
             }
             65..=69 => {
                 let kind = self.random.pick(&[flags::WINDOW, flags::NOTIFICATION]);
@@ -152,7 +164,9 @@ impl Maker<'_> {
 
     /// A bit outside the kind's closed list, the rest as in a good order.
     fn outside_list(&mut self) -> Vec<u8> {
-        let kind = self.random.pick(&KINDS);
+        // Of a window's bits one alone is outside.
+        let skipped = usize::from(self.random.chance(85));
+        let kind = self.random.pick(&KINDS[skipped..]);
         let bit = self.bit_of(!closed_list(kind) & !flags::TYPES);
         let more = if self.random.chance(30) {
             self.random.bits() as u32 & !flags::TYPES

@@ -250,11 +250,11 @@ impl Maker<'_> {
             .fold(0, |flags, (flag, _)| flags | flag)
     }
 
-    /// Big or small, and the new bit, which does nothing there.
+    /// Small, big or overlay, and the new bit, which does nothing there.
     pub fn icon_bits(&mut self) -> u32 {
-        let big = self.random.pick(&[0, flags::BIG]);
+        let which = self.random.pick(&[0, flags::BIG, flags::OVERLAY]);
         let new = self.random.pick(&[0, 0, flags::NEW]);
-        big | new
+        which | new
     }
 
     /// No picture, an icon or a filled cell, with the flag for it.

@@ -4,6 +4,7 @@
 pub(super) mod draft;
 mod faults;
 mod good;
+mod newer;
 mod pair;
 mod pictures;
 mod records;
@@ -39,6 +40,7 @@ pub fn script(seed: u64, items: usize, parts: &Parts) -> Vec<u8> {
         left: 0,
         is_short: false,
         good: FIRST_LENGTHS,
+        combination: newer::first_of(seed),
         pending: Vec::new(),
     };
     let bad_end = seed % BAD_END_EVERY == BAD_END_EVERY - 1;
@@ -68,6 +70,8 @@ enum Aim {
     Bytes,
     /// The places for pictures.
     Store,
+    /// The combinations of the newer servers' flags.
+    Newer,
 }
 
 struct Writer<'a> {
@@ -83,6 +87,8 @@ struct Writer<'a> {
     /// The lengths with which the last call that was not refused for it was lent the
     /// store.
     good: StoreLengths,
+    /// Which flags of newer servers come next.
+    combination: u32,
     /// Items to come first, the last one before the others.
     pending: Vec<(u8, Vec<u8>)>,
 }
@@ -104,6 +110,7 @@ impl Writer<'_> {
         }
         match self.aim {
             Aim::Store => self.fill_store(),
+            Aim::Newer => self.next_combination(),
             Aim::Any => self.any(),
             Aim::Windows => self.fill_windows(),
             Aim::Icons => self.fill_icons(),
@@ -119,8 +126,9 @@ impl Writer<'_> {
             0..=39 => (Aim::Any, 30 + self.random.below(60)),
             40..=51 => (Aim::Windows, 50),
             52..=62 => (Aim::Icons, 35),
-            63..=74 => (Aim::Orders, 160),
-            75..=80 => (Aim::Bytes, 20),
+            63..=73 => (Aim::Orders, 160),
+            74..=78 => (Aim::Bytes, 20),
+            79..=85 => (Aim::Newer, 100),
             _ => (Aim::Store, 60 + self.random.below(40)),
         };
         let most = self.session.book().places() == MOST_PLACES;
@@ -298,7 +306,7 @@ impl Writer<'_> {
     /// A lookup, most of what is there.
     fn lookup(&mut self) -> (u8, Vec<u8>) {
         let there = self.random.chance(80);
-        match self.random.below(13) {
+        match self.random.below(15) {
             10.. => self.sharing_lookup(),
             0..=3 => {
                 let id = self.maker().listed_window().filter(|_| there);
@@ -402,9 +410,9 @@ impl Writer<'_> {
                 let mut holders = [0; 18];
                 let at = 9 * random.below(2);
                 if sort.is_multiple_of(2) {
-                    holders[at] = 4;
+                    holders[at] = 5;
                 } else {
-                    (holders[at], holders[at + 5]) = (random.pick(&[1, 2]), 1);
+                    (holders[at], holders[at + 5]) = (random.pick(&[1, 2, 4]), 1);
                 }
                 push_item(script, b'H', &holders);
             }

@@ -2,7 +2,7 @@
 
 use super::draft::Draft;
 use super::good::Maker;
-use super::slot::{Slot, NOTIFICATION_FIELDS};
+use super::slot::{Slot, NOTIFICATION_FIELDS, WINDOW_FIELDS};
 use crate::ids::{NotifyIconId, WindowId};
 use crate::order::flags;
 use crate::order::rules::{CACHES, CELLS, NO_CACHE};
@@ -35,15 +35,12 @@ impl Maker<'_> {
     pub fn no_place_beside_other(&mut self) -> Option<Vec<u8>> {
         self.icon_where(|maker, setting| {
             let pointer = setting[setting.len() - 1];
-            let other = match pointer {
-                Holder::Small(id) => Holder::Big(id),
-                Holder::Big(id) => Holder::Small(id),
-                _ => return false,
-            };
             let store = maker.table.store();
-            maker.table.is_full_for(setting)
-                && !maker.table.is_full_for(&[setting, &[other]].concat())
-                && store.shared(pointer, other) == Some(true)
+            let is_held_by = |other: Holder| {
+                !maker.table.is_full_for(&[setting, &[other]].concat())
+                    && store.shared(pointer, other) == Some(true)
+            };
+            maker.table.is_full_for(setting) && pointer.others().any(is_held_by)
         })
     }
 
@@ -70,8 +67,8 @@ impl Maker<'_> {
             0..=3 if icon.is_some() => icon.map(notification),
             0 if has_room => Some(notification(self.absent_icon())),
             _ => {
-                let of = self.random.pick(&[Holder::Small, Holder::Big]);
-                window.map(|id| of(WindowId(id)))
+                let which = self.random.below(3);
+                window.map(|id| Holder::of_window(WindowId(id))[which])
             }
         }
     }
@@ -134,6 +131,10 @@ impl Maker<'_> {
                 let flags = flags::WINDOW | picture | new | flags::BIG;
                 self.draft(flags, &[id.0], fixed)
             }
+            Holder::Overlay(id) => {
+                let flags = flags::WINDOW | picture | new | flags::OVERLAY;
+                self.draft(flags, &[id.0], fixed)
+            }
             Holder::Notification(window, icon) => {
                 let new = match self.table.icon(window, icon) {
                     Some(_) => 0,
@@ -154,7 +155,7 @@ impl Maker<'_> {
     pub fn freeing_delete(&mut self) -> Option<Vec<u8>> {
         let (used, store) = (self.table.store().used(), self.table.store());
         let windows = self.table.window_ids().filter_map(|id| {
-            let own = [Holder::Small(id), Holder::Big(id)];
+            let own = Holder::of_window(id);
             (store.used_without(&own) < used).then(|| (flags::WINDOW, vec![id.0]))
         });
         let icons = self.table.icon_ids().filter_map(|(window, icon)| {
@@ -168,6 +169,24 @@ impl Maker<'_> {
         }
         let (kind, ids) = &all[self.random.below(all.len())];
         let draft = self.draft(kind | flags::DELETED, ids, &[]);
+        Some(draft.order(self.random))
+    }
+
+    /// An order by which an overlay icon that alone points at a place becomes none.
+    pub fn freeing_overlay(&mut self) -> Option<Vec<u8>> {
+        let store = self.table.store();
+        let windows: Vec<u32> = self
+            .table
+            .window_ids()
+            .filter(|&id| store.sharing(Holder::Overlay(id)).count() == 1)
+            .map(|id| id.0)
+            .collect();
+        if windows.is_empty() {
+            return None;
+        }
+        let id = self.random.pick(&windows);
+        let flags = flags::WINDOW | flags::OVERLAY_NONE | self.some_of(&WINDOW_FIELDS);
+        let draft = self.draft(flags, &[id], &[]);
         Some(draft.order(self.random))
     }
 
@@ -186,17 +205,13 @@ impl Maker<'_> {
         Some(self.cached_for(pointer, cell))
     }
 
-    /// A cached icon that gives a window's other icon what one of them shares with a cell.
+    /// A cached icon that gives another icon of a window what one shares with a cell.
     pub fn twin(&mut self) -> Option<Vec<u8>> {
         let store = self.table.store();
         let mut twins = Vec::new();
         for place in self.table.filled_cells() {
             for holder in store.sharing(place.into()) {
-                match holder {
-                    Holder::Small(id) => twins.push((Holder::Big(id), place)),
-                    Holder::Big(id) => twins.push((Holder::Small(id), place)),
-                    _ => {}
-                }
+                twins.extend(holder.others().map(|other| (other, place)));
             }
         }
         if twins.is_empty() {

@@ -10,10 +10,15 @@ pub enum Slot {
     Id,
     Show,
     RpContent,
+    Taskbar,
+    ServerZ,
+    AppBar,
+    Edge,
     // Lengths and counts whose bytes follow at once.
     Title,
     WindowRects,
     VisibleRects,
+    OverlayText,
     Tip,
     BalloonText,
     BalloonTitle,
@@ -38,13 +43,15 @@ use Slot::*;
 pub type FlagFields = (u32, &'static [Slot]);
 
 /// The fields of each window flag, in carried order.
-pub const WINDOW_FIELDS: [FlagFields; 14] = [
+pub const WINDOW_FIELDS: [FlagFields; 22] = [
     (0x0000_0002, &[Id]),
     (0x0000_0008, &[Any, Any]),
     (0x0000_0010, &[Show]),
     (0x0000_0004, &[Title]),
     (0x0000_4000, &[Offset, Offset]),
     (0x0001_0000, &[Any, Any]),
+    (0x0000_0080, &[Any, Any]),
+    (0x0800_0000, &[Any, Any]),
     (0x0002_0000, &[RpContent]),
     (0x0004_0000, &[Id]),
     (0x0000_0800, &[Offset, Offset]),
@@ -53,6 +60,13 @@ pub const WINDOW_FIELDS: [FlagFields; 14] = [
     (0x0000_0100, &[WindowRects]),
     (0x0000_1000, &[Offset, Offset]),
     (0x0000_0200, &[VisibleRects]),
+    (0x0040_0000, &[OverlayText]),
+    (0x0080_0000, &[Taskbar]),
+    (0x0008_0000, &[ServerZ]),
+    (0x0000_0040, &[AppBar]),
+    (0x0000_0001, &[Edge]),
+    // The overlay icon becomes none; nothing is carried.
+    (0x0020_0000, &[]),
 ];
 
 /// The fields of each notification flag, in carried order.
@@ -77,7 +91,8 @@ impl Slot {
     pub fn width(self) -> usize {
         match self {
             Any | Offset | Id => 4,
-            Show | RpContent | Stack | Cache | Bits | CachedCache => 1,
+            Show | RpContent | Taskbar | ServerZ | AppBar | Edge | Stack | Cache | Bits
+            | CachedCache => 1,
             _ => 2,
         }
     }
@@ -85,7 +100,7 @@ impl Slot {
     /// The bytes that follow for each that the number counts.
     pub fn unit(self) -> usize {
         match self {
-            Title | Tip | BalloonText | BalloonTitle | ColorTable | Mask | Color => 1,
+            Title | OverlayText | Tip | BalloonText | BalloonTitle | ColorTable | Mask | Color => 1,
             WindowRects | VisibleRects => 8,
             Stack => 4,
             _ => 0,
@@ -109,8 +124,9 @@ impl Slot {
             Offset => random.number(u32::MAX),
             Id => pool_id(random),
             Show => random.pick(&[0, 2, 3, 5]),
-            RpContent => below(random, 2),
-            Title => 2 * below(random, 24),
+            RpContent | Taskbar | ServerZ | AppBar => below(random, 2),
+            Edge => below(random, 4),
+            Title | OverlayText => 2 * below(random, 24),
             WindowRects | VisibleRects => below(random, 4),
             Tip | BalloonText => 2 * below(random, 16),
             BalloonTitle => 2 * below(random, 10),
@@ -130,8 +146,9 @@ impl Slot {
         match self {
             Any | Offset | Id => &[],
             Show => &[0, 1, 2, 3, 4, 5, 6, 255],
-            RpContent => &[0, 1, 2, 255],
-            Title => &[0, 1, 2, 518, 519, 520, 521, 522],
+            RpContent | Taskbar | ServerZ | AppBar => &[0, 1, 2, 255],
+            Edge => &[0, 1, 2, 3, 4, 255],
+            Title | OverlayText => &[0, 1, 2, 518, 519, 520, 521, 522],
             WindowRects | VisibleRects => &[0, 1, 15, 16, 17, 18],
             Tip => &[0, 1, 2, 254, 255, 256, 257, 258],
             BalloonText => &[0, 1, 2, 508, 509, 510, 511, 512],

@@ -227,7 +227,7 @@ impl Writer<'_> {
             self.look_up_all();
         }
         let again = (b'D', order.clone());
-        match self.random.below(5) {
+        match self.random.below(6) {
             0 => {
                 self.pending.push(again);
                 if let Some(steps) = self.freeing_steps(&order) {
@@ -256,6 +256,11 @@ impl Writer<'_> {
                 let cached = self.maker().freeing_cached();
                 self.pending.push(again);
                 self.pending.extend(cached.map(|order| (b'D', order)));
+            }
+            3 => {
+                let none = self.maker().freeing_overlay();
+                self.pending.push(again);
+                self.pending.extend(none.map(|order| (b'D', order)));
             }
             _ => {
                 let delete = self.maker().freeing_delete();
@@ -293,7 +298,7 @@ impl Writer<'_> {
         let holders: Vec<Holder> = self.session.book().table().store().holders().collect();
         if !holders.is_empty() && self.random.chance(85) {
             // Each sort as often as the others.
-            let sort = self.random.below(4);
+            let sort = self.random.below(5);
             let of_sort = |holder: &&Holder| sort_of(holder) == sort;
             let of_sort: Vec<Holder> = holders.iter().filter(of_sort).copied().collect();
             return match of_sort.is_empty() {
@@ -304,9 +309,10 @@ impl Writer<'_> {
         let listed = self.random.chance(50);
         let window = self.maker().listed_window().filter(|_| listed);
         let window = WindowId(window.unwrap_or_else(|| pool_id(&mut self.random)));
-        match self.random.below(5) {
+        match self.random.below(6) {
             0 => Holder::Small(window),
             1 => Holder::Big(window),
+            5 => Holder::Overlay(window),
             2 => match self.maker().listed_icon().filter(|_| listed) {
                 Some([window, icon]) => Holder::Notification(WindowId(window), NotifyIconId(icon)),
                 None => Holder::Notification(window, NotifyIconId(pool_icon_id(&mut self.random))),
@@ -347,6 +353,7 @@ fn sort_of(holder: &Holder) -> usize {
         Holder::Small(_) => 1,
         Holder::Big(_) => 2,
         Holder::Notification(..) => 3,
+        Holder::Overlay(_) => 4,
     }
 }
 

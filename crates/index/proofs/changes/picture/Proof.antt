@@ -1,5 +1,5 @@
 -- The flags choose the line of the definition.
-use Rattle.index.proofs.Ways.{picture-taken, picture-shared, picture-none, icon-fits, cached-fits}
+use Rattle.index.proofs.Ways.{picture-taken, picture-shared, picture-cleared, picture-none, icon-fits, cached-fits}
 use denote.Ref.{now}
 use borrow.Author.Needs.{needs}
 use Rattle.index.proofs.changes.picture.Statement.{statement}
@@ -25,6 +25,13 @@ picture-spec =
     (λ c.  -- returns-2
     let a = c .before .before .before .before .before .before .before .args in
     picture-shared (now (a .index)) (a .c) (c .before .before .before .before .before .if1 .left) (c .before .before .before .before .if2 .taken) (c .before .before .share .ensures))
+    (λ c κs.  -- release-requires
+    let s = c .before .before .before .before .before in
+    (search needs, s .pre .1 .pointer))
+    (λ c. search needs)
     (λ c.  -- returns-3
-    let a = c .before .before .before .args in
-    picture-none (now (a .index)) (a .c) (c .before .if1 .left) (c .if2 .left)))
+    let a = c .before .before .before .before .before .before .before .before .args in
+    picture-cleared (now (a .index)) (a .c) (c .before .before .before .before .before .before .if1 .left) (c .before .before .before .before .before .if2 .left) (c .before .before .before .before .if3 .taken) (c .before .before .release .ensures))
+    (λ c.  -- returns-4
+    let a = c .before .before .before .before .args in
+    picture-none (now (a .index)) (a .c) (c .before .before .if1 .left) (c .before .if2 .left) (c .if3 .left)))

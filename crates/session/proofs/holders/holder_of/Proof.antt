@@ -1,5 +1,5 @@
 -- By the kind.
-use Rattle.session.proofs.HolderKinds.{is-small, is-big, is-notification, is-cell}
+use Rattle.session.proofs.HolderKinds.{is-small, is-big, is-notification, is-overlay, is-cell}
 use borrow.Author.Needs.{needs}
 use Rattle.session.proofs.holders.holder_of.Statement.{statement}
 use Rattle.session.proofs.holders.holder_of.Tie as tie
@@ -11,8 +11,9 @@ holder-of-spec =
     (λ c. is-small _ _ _ (c .if1 .taken))  -- returns
     (λ c. is-big _ _ _ (c .if2 .taken))  -- returns-2
     (λ c. is-notification _ _ _ (c .if3 .taken))  -- returns-3
+    (λ c. is-overlay _ _ _ (c .if4 .taken))  -- returns-4
     (λ c κs. search needs)
     (λ c κs. search needs)
-    (λ c.  -- returns-4
+    (λ c.  -- returns-5
     let t = c .before .before in
-    is-cell _ _ _ (t .before .before .if1 .left) (t .before .if2 .left) (t .if3 .left) (c .before .cache-of .ensures) (c .entry-of .ensures)))
+    is-cell _ _ _ (t .before .before .before .if1 .left) (t .before .before .if2 .left) (t .before .if3 .left) (t .if4 .left) (c .before .cache-of .ensures) (c .entry-of .ensures)))

@@ -13,13 +13,13 @@ change-slot-spec =
     (λ c. search needs)
     (λ c κs.  -- store-fields-requires
     let b = c .before .before .before .before .before in
-    let w = window-asks (now (b .args .s)) (b .args .c) (now (b .args .slot)) (c .before .enum-told .given .1) (b .pre .1) in
-    ((b .pre .0, omega arith, w .0, omega arith, omega arith, w .1), w .2))
+    let w = window-asks (now (b .args .s)) (b .args .c) (now (b .args .slot)) (c .before .enum-told .given .1) (b .pre .0) (b .pre .1) in
+    ((omega arith, w .0, omega arith, omega arith, w .1), w .2))
     (λ c. search needs)
     (λ c κs.  -- store-fields-requires-2
     let b = c .before .before .before .before .before in
-    let w = notification-asks (now (b .args .s)) (b .args .c) (now (b .args .slot)) (c .before .enum-told2 .given .1) (b .pre .1) in
-    ((b .pre .0, omega arith, w .0, omega arith, omega arith, w .1), w .2))
+    let w = notification-asks (now (b .args .s)) (b .args .c) (now (b .args .slot)) (c .before .enum-told2 .given .1) (b .pre .0) (b .pre .1) in
+    ((omega arith, w .0, omega arith, omega arith, w .1), w .2))
     (λ c. search needs)
     (λ c.  -- returns
     let a = c .before .before .before .before .before .before .before .before .args in

@@ -1,6 +1,6 @@
 -- The heads behind the slots are lent and come back; nothing else changes the store.
 use Rattle.store.specs.Store.{five}
-use Rattle.table.proofs.Ways.{plan-able, put-deleted, put-none, put-there, put-other, icon-asks}
+use Rattle.table.proofs.Ways.{plan-able, put-deleted, put-none, put-there, put-other, icon-asks, heads-same}
 use native.Mathlib.Omega.{arith}
 use lib.ListN.{length-take, length-drop}
 use denote.Ref.{now}
@@ -35,7 +35,10 @@ pictures-spec =
     let big = u .pre .0 in
     let low = w .place in
     (simp (length-take, length-drop) (omega arith), q .0, q .1, q .2))
-    (λ c. search needs)
+    (λ c.  -- same-length
+    let f = c .before .before .before .before .before .before .before .before .before .before .before .before in
+    let u = f .before .before .before .before .before .before .before .before .before .before .before .before .before .before .before .before .before .before .before .before .before in
+    heads-same (now (u .args .s)) (now (u .args .bodies)) (u .args .p) (f .put .last .0) (u .pre .0) (f .put .kept .0))
     (λ c. search needs)
     (λ c. search needs)
     (λ c. search needs)

@@ -1,25 +1,32 @@
 -- The slot's own bytes are lent and tested.
-use Rattle.table.proofs.Ways.{body-lent}
+use Rattle.table.proofs.Ways.{part-in-order, part-is, body-lent}
 use Rattle.order.specs.Rows.{rowsFrom}
-use Prim.Native.Nat.{_+_, _*_, _-_}
-use mathlib.Core.Path.{refl}
-use native.Mathlib.Omega.{arith}
+use Prim.Native.Nat.{_-_, _≤_}
 use denote.Ref.{now}
 use borrow.Author.Needs.{needs}
 use Rattle.table.proofs.sound.body_ok.Statement.{statement}
 use Rattle.table.proofs.sound.body_ok.Tie as tie
 
+-- a slot ends after it begins
+ordered : (u : tie.After-start2) → u .before .start .result ≤ u .start2 .result
+ordered u =
+    let a = u .before .before .before .args in
+    part-in-order (now (a .bodies)) (a .i) (u .before .start .ensures .0) (u .start2 .ensures .0)
+
 pub body-ok-spec : {M : Type 1} → statement M
 body-ok-spec =
     tie.close
     (tie.spec
+    (λ c κs. search needs)
     (λ c. search needs)
-    (λ c. search needs)
-    (λ c. search needs)
-    (λ c. search needs)
+    (λ c κs. search needs)
+    (λ c. ordered c)  -- sub-sound
+    (λ c. ordered c)  -- part-sound-start
     (λ c. search needs)
     (λ c κs. search needs)
     (λ c.  -- returns
-    let a = c .before .before .before .args in
-    let base = 916 * a .i in
-    body-lent (rowsFrom (a .low) (a .high)) (a .m) (now (a .bodies)) (a .i) base (base + 916 - base) refl (omega arith) (c .sound .ensures)))
+    let u = c .before .before in
+    let a = u .before .before .before .args in
+    let base = u .before .start .result in
+    body-lent (rowsFrom (a .low) (a .high)) (a .m) (now (a .bodies)) (a .i) base (u .start2 .result - base) (u .before .start .ensures .0)
+    (part-is (now (a .bodies)) (a .i) (u .before .start .ensures .0) (u .start2 .ensures .0)) (c .sound .ensures)))

@@ -1,0 +1,1 @@
+// Request No. 12: the rules before it beside those after it. Definitions and proofs only.
