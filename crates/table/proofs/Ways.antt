@@ -5,18 +5,20 @@ use mathlib.Core.List.{List, [], _∷_, _++_}
 use mathlib.Core.Logic.{inl, inr}
 use Prim.Native.Nat.{ℕ, _+_, _*_, _-_, _≤_, _<_}
 use native.Mathlib.Omega.{arith}
-use lib.Dec.{eqb}
+use lib.Dec.{eqb, ltb}
 use lib.Bits.{bitAnd}
 use lib.ListN.{length, getD, take, drop, length-take, length-drop}
 use lib.Seq.{take-all}
-use borrow.Author.Tests.{eqb-true, eqb-false, eq-eqb, ne-eqb, lt-ltb, le-ltb}
+use borrow.Author.Tests.{eqb-true, eqb-false, eq-eqb, ne-eqb, lt-ltb, le-ltb, ltb-true}
 use denote.Enum.Declared.{tagOf}
 use types.Run.{OneOf}
-use Rattle.wire.specs.Tests.{pick, has}
+use Rattle.wire.specs.Tests.{pick, both, has}
 use Rattle.wire.specs.Parts.{splice}
+use Rattle.wire.proofs.Tests.{both-left, both-right}
 use Rattle.wire.proofs.Numbers.{num1-is}
 use Rattle.wire.proofs.Parts.{length-splice, part-back}
 use Rattle.order.specs.declared.Row.{Row}
+use Rattle.order.specs.Rows.{rowsFrom}
 use Rattle.order.specs.Icons.{partsOf}
 use Rattle.protocol.specs.Flags.{flagIcon}
 use Rattle.places.specs.declared.Family.the-variants.{Windows, Notifications}
@@ -34,7 +36,7 @@ use Rattle.index.proofs.Plan.{the-type}
 use Rattle.index.proofs.Soundness.{sound-has}
 use Rattle.body.specs.Bodies.{windowFields, notificationFields, desktopFields, slotLength, slotStart, slotOf, bodyOk}
 use Rattle.body.specs.Stores.{storeOf, preparedOf, hookedOf, syncedOf, roomAll, EndsWell}
-use Rattle.body.proofs.Slots.{slot-within, slot-after, length-slot, slot-lent, slots-back}
+use Rattle.body.proofs.Slots.{window-start, window-length, slot-within, slot-after, length-slot, slot-lent, slots-back}
 use Rattle.store.specs.Store.{placeLength}
 use Rattle.picture.specs.Pictures.{headOk, headsAfter, storeAfter}
 use Rattle.table.specs.Table.{fieldRows}
@@ -191,6 +193,25 @@ icon-asks s c a h = let t = holds (c .flags) flagIcon h in (a .icon .low t, a .i
 pub body-lent : (rows : List Row) (m : ℕ) (b : List ℕ) (i base k : ℕ) {r : Bool} → base ≡ slotStart i → k ≡ slotLength i → r ≡ bodyOk rows m m (take k (drop base b))
     → r ≡ bodyOk rows m m (slotOf b i)
 body-lent rows m b i base k at all e = e ∙ ap (bodyOk rows m m) (slot-lent b base k i at all)
+
+-- the slot of a window
+pub window-lent : (b : List ℕ) (i base k : ℕ) {r : Bool} → i < 32 → base ≡ 1392 * i → k ≡ 1392 → r ≡ bodyOk windowFields 0 0 (take k (drop base b))
+    → r ≡ bodyOk windowFields 0 0 (slotOf b i)
+window-lent b i base k h at all e = body-lent windowFields 0 b i base k (at ∙ sym (window-start i h)) (all ∙ sym (window-length i h)) e
+
+-- the rows of windows, known by their ends, in a slot that windows have
+pub window-known : (b : List ℕ) (i low high : ℕ) {r : Bool} → both (both (eqb low 1) (eqb high 22)) (ltb i 32) ≡ true → r ≡ bodyOk windowFields 0 0 (slotOf b i)
+    → r ≡ bodyOk (rowsFrom low high) 0 0 (slotOf b i)
+window-known b i low high t e =
+    let ends : both (eqb low 1) (eqb high 22) ≡ true = both-left (both (eqb low 1) (eqb high 22)) (ltb i 32) t in
+    let l : low ≡ 1 = eqb-true low 1 (both-left (eqb low 1) (eqb high 22) ends) in
+    let h : high ≡ 22 = eqb-true high 22 (both-right (eqb low 1) (eqb high 22) ends) in
+    let same : windowFields ≡ rowsFrom low high = rw (l, h) in
+    e ∙ ap (λ (rs : List Row). bodyOk rs 0 0 (slotOf b i)) same
+
+-- so its slot is one of theirs
+pub window-below : (i low high : ℕ) → both (both (eqb low 1) (eqb high 22)) (ltb i 32) ≡ true → i < 32
+window-below i low high t = ltb-true i 32 (both-right (both (eqb low 1) (eqb high 22)) (ltb i 32) t)
 
 module _ (rows : List Row) (x b : List ℕ) (i : ℕ) {n : ℕ} (e : n ≡ getD x (157 + 9 * i) 0) where
   used-is : (t : Bool) → eqb n 1 ≡ t → isUsed x i ≡ t

@@ -5,7 +5,8 @@ ghost use lib.ListN.{length};
 ghost use Rattle.order.specs.Rows.{rowsFrom};
 ghost use Rattle.places.specs.Sizes.{slotCount, holderCount, mostPlaces};
 ghost use Rattle.places.specs.Counts.{eachBelow};
-ghost use Rattle.index.specs.Families.{indexLength};
+ghost use Rattle.places.specs.declared.Family.the-variants.{Windows};
+ghost use Rattle.index.specs.Families.{capacity, indexLength};
 ghost use Rattle.index.specs.Sound.{eachFrom, soundIndex};
 ghost use Rattle.body.specs.Bodies.{slotOf, bodyOk};
 ghost use Rattle.table.specs.Memory.{bodiesLength, recordOk, holderOk, markedOk, soundTable};
@@ -22,6 +23,16 @@ fn body_ok(bodies: &[u8], i: usize, low: usize, high: usize, m: u8) -> bool
     body::sound(&bodies[base..end], low, high, m, m)
 }
 
+// Whether slot i holds a window, for the slots that windows have: their length is known to the compiler.
+fn window_ok(bodies: &[u8], i: usize) -> bool
+    requires { ⌜ (bodiesLength ≤ length (now bodies)) × (i < capacity Windows) ⌝ }
+    ensures { λ r. ⌜ r ≡ bodyOk (rowsFrom 1 22) 0 0 (slotOf (now (bodies .entry)) i) ⌝ }
+{
+    let base = body::WINDOW * i;
+    let end = base + body::WINDOW;
+    body::window_sound(&bodies[base..end])
+}
+
 // Whether slot i is free or holds a body of rows low to high.
 fn record_ok(index: &[u8], bodies: &[u8], i: usize, low: usize, high: usize) -> bool
     requires { ⌜ (indexLength ≤ length (now index)) × (bodiesLength ≤ length (now bodies)) × (i < slotCount) × (low ≤ high) × (high ≤ 31) ⌝ }
@@ -29,6 +40,9 @@ fn record_ok(index: &[u8], bodies: &[u8], i: usize, low: usize, high: usize) -> 
 {
     if index[places::LENGTH + slots::SLOT * i] != 1 {
         return true;
+    }
+    if (low == 1) & (high == 22) & (i < slots::WINDOWS) {
+        return window_ok(bodies, i);
     }
     body_ok(bodies, i, low, high, 0)
 }
