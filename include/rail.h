@@ -35,13 +35,13 @@
 
 /* ---- Measures, in bytes. A longer part is fine; what lies past the measure is never changed. rail_size tells them too. */
 
-#define RAIL_INDEX_SIZE 589       /* state memory: the index, */
+#define RAIL_INDEX_SIZE 729       /* state memory: the index, */
 #define RAIL_BODIES_SIZE 61012    /* the bodies, */
 #define RAIL_PLACE_SIZE 4224      /* the store of pictures, of which this is one place, */
 #define RAIL_JOURNAL_SIZE 32770   /* and the journal */
-#define RAIL_WINDOW_SIZE 14099    /* records handed out by lookups: rail/records.h has their fields */
+#define RAIL_WINDOW_SIZE 14103    /* records handed out by lookups: rail/records.h has their fields */
 #define RAIL_NOTIFICATION_SIZE 5151
-#define RAIL_DESKTOP_SIZE 263
+#define RAIL_DESKTOP_SIZE 275
 #define RAIL_PICTURE_SIZE 4235
 #define RAIL_LIST_SIZE 132        /* lists of ids handed out: a count of 4 bytes, room for all ids, zeros past the last */
 #define RAIL_SHARED_SIZE 1        /* what rail_shared hands out */

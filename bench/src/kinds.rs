@@ -82,6 +82,19 @@ pub fn large_window(id: u32) -> Order {
     order
 }
 
+/// The same with so many visibility rectangles, none over another.
+pub fn visible_window(id: u32, count: u16) -> Order {
+    let mut fields = fields(520, 16);
+    for (flag, bytes) in &mut fields {
+        if *flag == flags::VISIBILITY {
+            *bytes = apart(count);
+        }
+    }
+    let mut order = of_fields(flags::NEW, &fields);
+    order[7..11].copy_from_slice(&id.to_le_bytes());
+    order
+}
+
 /// The largest icon in a cell, as the small or the big icon of a window.
 pub fn icon_of(id: u32, is_big: bool, cache: u8, entry: u16) -> Order {
     let fields = [&id.to_le_bytes()[..], &icon_in(cache, entry)].concat();
@@ -248,6 +261,18 @@ fn string(length: usize) -> Vec<u8> {
     let mut string = (length as u16).to_le_bytes().to_vec();
     string.extend(b"A\0".repeat(length / 2));
     string
+}
+
+/// Rectangles in rows of 4, none over another.
+fn apart(count: u16) -> Vec<u8> {
+    let mut rects = count.to_le_bytes().to_vec();
+    for index in 0..count {
+        let (left, top) = (20 * (index % 4), 20 * (index / 4));
+        for number in [left, top, left + 10, top + 10] {
+            rects.extend(number.to_le_bytes());
+        }
+    }
+    rects
 }
 
 fn rects(count: u16) -> Vec<u8> {

@@ -8,6 +8,7 @@ mod chunks;
 mod figures;
 mod inputs;
 mod instructions;
+mod kept;
 mod kinds;
 mod orders;
 mod plain;
@@ -25,7 +26,7 @@ const HELP: &str = "\
 bench: the proved code beside the plain Rust of `second`
 
   bench                check, time, instructions, chunks, orders, state, search,
-                       updates, records and figures, in turn
+                       updates, records, figures and kept, in turn
   bench check          compare the two sides' answers, words and bytes on every
                        benchmark message and on generated ones
   bench time           print nanoseconds per call as a Markdown table
@@ -50,8 +51,9 @@ bench: the proved code beside the plain Rust of `second`
                        alone
   bench state-one LISTING CALL ORDERS SIDE N
                        make N state calls and print nothing, for callgrind.
-                       LISTING: one, eight, full, equal or store; ORDERS:
-                       in the journal; SIDE: proved or plain
+                       LISTING: one, eight, full, equal, store, or apart-0, apart-1,
+                       apart-4 and apart-16 of `bench kept`; ORDERS: in the journal;
+                       SIDE: proved or plain
   bench state-calls    list the state calls
   bench search         print instructions of a window's lookup by the place that it is
                        found in, with 32 windows listed, as a Markdown table
@@ -66,11 +68,14 @@ bench: the proved code beside the plain Rust of `second`
   bench record-one ORDERS BYTES CALL N
                        make N calls and print nothing, for callgrind. BYTES: of each
                        order, 7 or a title's; CALL: refused, written or opened
-  bench figures        print instructions of the figure at the mark beyond the
-                       validation of the memory, as a Markdown table
+  bench figures        print instructions of counting the figure at the mark, which the
+                       validation does, and of reading it, as a Markdown table
   bench figure-one WINDOWS RECTANGLES LIE CALL N
                        make N calls and print nothing, for callgrind. LIE: apart or
-                       stairs; CALL: refused or counted
+                       stairs; CALL: hidden, refused or granted
+  bench kept           print instructions of a delivery on a full table by the
+                       rectangles of its windows, beside the aims, and of the lookup of
+                       its desktop state, as Markdown tables
 
 Jobs: `read` takes a message's bytes to the 12 words of its record, judged;
 `write` takes 12 words and strings to a message's bytes in an output buffer.
@@ -109,6 +114,7 @@ fn main() -> ExitCode {
         ["records"] => records::run(),
         ["record-one", orders, bytes, call, calls] => records::one(orders, bytes, call, calls),
         ["figures"] => figures::run(),
+        ["kept"] => kept::run(),
         ["figure-one", windows, rectangles, lie, call, calls] => {
             figures::one(windows, rectangles, lie, call, calls)
         }
@@ -149,7 +155,9 @@ fn everything() -> Result<(), String> {
     println!();
     records::run()?;
     println!();
-    figures::run()
+    figures::run()?;
+    println!();
+    kept::run()
 }
 
 fn list_messages() -> Result<(), String> {

@@ -1,7 +1,9 @@
-/* How much was visible at the mark: the figure that an officer reads. Windows: those with a show state other than 0, minimized ones
- * too. Pixels: of each such window the points in its visibility rectangles, added up. Right and bottom are outside; a rectangle whose
- * left is not below its right, or whose top is not below its bottom, counts nothing; points in several rectangles of one window count
- * once. Windows are counted one by one, wherever they lie. Included by rail.h. */
+/* How much was visible at the mark, and of each window and in all at any moment: the figure that an officer reads. Windows: those
+ * with a show state other than 0, minimized ones too. Pixels: of each such window the points in its visibility rectangles, added up.
+ * Right and bottom are outside; a rectangle whose left is not below its right, or whose top is not below its bottom, counts nothing;
+ * points in several rectangles of one window count once. Windows are counted one by one, wherever they lie. The present figure stands
+ * in what rail_window and rail_desktop hand out (`pixels`; `shown` and `pixels`, rail/records.h), and after rail_checkpoint it is this
+ * one. rail_desktop counts it anew, window by window through the orders since the mark; rail_figure reads it. Included by rail.h. */
 #ifndef RAIL_FIGURE_H
 #define RAIL_FIGURE_H
 

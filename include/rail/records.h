@@ -50,6 +50,7 @@
 #define RAIL_WINDOW_AT_APP_BAR_STATE 9862     /* 1: 0 or 1 */
 #define RAIL_WINDOW_AT_APP_BAR_EDGE 9863      /* 1: 0 to 3 */
 #define RAIL_WINDOW_AT_OVERLAY_PICTURE 9864   /* as SMALL_PICTURE */
+#define RAIL_WINDOW_AT_PIXELS (RAIL_WINDOW_SIZE - 4) /* 4, behind all others: what of it is visible (rail/figure.h), 0 where not shown */
 #define RAIL_RECTANGLE_SIZE 8
 
 /* ---- Places: a notification icon (RAIL_NOTIFICATION_SIZE) */
@@ -74,6 +75,8 @@
 #define RAIL_DESKTOP_AT_ACTIVE_WINDOW_ID 2    /* 4 */
 #define RAIL_DESKTOP_AT_NUM_WINDOW_IDS 6      /* 1 */
 #define RAIL_DESKTOP_AT_WINDOW_IDS 7          /* up to 64 of 4 bytes: the z-order as the server sent it */
+#define RAIL_DESKTOP_AT_SHOWN (RAIL_DESKTOP_SIZE - 12) /* 4, behind all others: the windows with a show state other than 0, */
+#define RAIL_DESKTOP_AT_PIXELS (RAIL_DESKTOP_SIZE - 8) /* 8: and their pixels added up */
 
 /* ---- Places: a picture (RAIL_PICTURE_SIZE), which is a TS_ICON_INFO from Bpp on. Then come, each of 2 bytes, CbColorTable (only
  * where Bpp is 1, 4 or 8), CbBitsMask and CbBitsColor, and then BitsMask, ColorTable and BitsColor. */
@@ -133,6 +136,7 @@ struct rail_window {
     uint32_t left_resize_margin, right_resize_margin, top_resize_margin, bottom_resize_margin;
     struct rail_string overlay_description;
     uint8_t taskbar_button, enforce_server_z_order, app_bar_state, app_bar_edge;
+    uint32_t pixels; /* of its visibility rectangles; 0 where show_state is 0 */
 };
 
 struct rail_notification {
@@ -149,6 +153,8 @@ struct rail_desktop {
     uint32_t active_window_id;
     uint32_t num_window_ids;
     uint32_t window_ids[RAIL_WINDOW_IDS_MAX];
+    uint32_t shown; /* the present figure: windows with a show state other than 0, */
+    uint64_t pixels; /* and their pixels, up to 137,434,759,200 */
 };
 
 struct rail_windows {
@@ -169,6 +175,8 @@ struct rail_notifications {
 
 static inline uint32_t rail_get16(const uint8_t *p) { return p[0] + 256u * p[1]; }
 static inline uint32_t rail_get32(const uint8_t *p) { return rail_get16(p) + 65536u * rail_get16(p + 2); }
+
+static inline uint64_t rail_get64(const uint8_t *p) { return rail_get32(p) + ((uint64_t)rail_get32(p + 4) << 32); }
 
 static inline int32_t rail_get_signed(const uint8_t *p) {
     const uint32_t bits = rail_get32(p);
@@ -289,6 +297,7 @@ static inline void rail_window_decode(struct rail_window *w, const uint8_t recor
     w->enforce_server_z_order = record[RAIL_WINDOW_AT_ENFORCE_SERVER_Z_ORDER];
     w->app_bar_state = record[RAIL_WINDOW_AT_APP_BAR_STATE];
     w->app_bar_edge = record[RAIL_WINDOW_AT_APP_BAR_EDGE];
+    w->pixels = rail_get32(record + RAIL_WINDOW_AT_PIXELS);
 }
 
 static inline void rail_notification_decode(struct rail_notification *n, const uint8_t record[RAIL_NOTIFICATION_SIZE]) {
@@ -310,6 +319,8 @@ static inline void rail_desktop_decode(struct rail_desktop *d, const uint8_t rec
     d->num_window_ids = rail_at_most(record[RAIL_DESKTOP_AT_NUM_WINDOW_IDS], RAIL_WINDOW_IDS_MAX);
     for (i = 0; i < RAIL_WINDOW_IDS_MAX; i++)
         d->window_ids[i] = rail_get32(record + RAIL_DESKTOP_AT_WINDOW_IDS + 4 * i);
+    d->shown = rail_get32(record + RAIL_DESKTOP_AT_SHOWN);
+    d->pixels = rail_get64(record + RAIL_DESKTOP_AT_PIXELS);
 }
 
 static inline void rail_windows_decode(struct rail_windows *w, const uint8_t list[RAIL_LIST_SIZE]) {

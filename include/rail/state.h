@@ -1,5 +1,5 @@
 /* State memory in one struct, and the state calls on it: a caller gives the struct and what the call needs. Static or from the heap, it
- * is too big for a stack: 94,371 bytes and 4,224 for each place of the store, 364,707 with 64. rail_state_reset comes first: zeroed
+ * is too big for a stack: 94,511 bytes and 4,224 for each place of the store, 364,847 with 64. rail_state_reset comes first: zeroed
  * memory is no state. Included by rail.h. */
 #ifndef RAIL_STATE_H
 #define RAIL_STATE_H

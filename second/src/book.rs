@@ -1,6 +1,7 @@
 //! The plain book: a list of standing orders with a mark in it. Its table is
 //! what they make, in turn, of an emptied table.
 
+use crate::figure::{self, Figure};
 use crate::ids::{NotifyIconId, WindowId};
 use crate::number::{ROOM_PASSED, TOO_MANY_STEPS, WRONG_ID};
 use crate::order::{judge, CellPlace, Order};
@@ -150,6 +151,11 @@ impl Book {
     /// Looks up the desktop state.
     pub fn desktop(&self) -> &Desktop {
         self.table.desktop()
+    }
+
+    /// Looks up the figure of the present table, which is counted anew.
+    pub fn figure(&self) -> Figure {
+        figure::of(&self.table)
     }
 
     /// The orders after the mark and their bytes.

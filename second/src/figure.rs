@@ -1,6 +1,6 @@
 //! How much of a table's windows is visible.
 
-use crate::table::{Rect, Table};
+use crate::table::{Rect, Table, Window};
 
 /// The windows that are shown, and the pixels of their visibility rectangles.
 #[derive(Clone, Copy, Debug, Default, PartialEq, Eq)]
@@ -10,17 +10,35 @@ pub struct Figure {
     pub pixels: u64,
 }
 
-/// The figure of a table. A window is shown if its show state is not 0; the pixels of
-/// several windows are added up, wherever the windows lie.
+/// The figure of a table: the pixels of several windows are added up, wherever the windows
+/// lie.
 pub fn of(table: &Table) -> Figure {
     table
         .window_ids()
         .filter_map(|id| table.window(id))
-        .filter(|window| window.show_state != 0)
+        .filter(|window| is_shown(window))
         .fold(Figure::default(), |figure, window| Figure {
             windows: figure.windows + 1,
-            pixels: figure.pixels + pixels(&window.visibility_rects),
+            pixels: figure.pixels + u64::from(of_window(window)),
         })
+}
+
+/// Whether a window is shown: its show state is not 0.
+pub fn is_shown(window: &Window) -> bool {
+    window.show_state != 0
+}
+
+/// The pixels of a window's visibility rectangles; 0 if it is not shown.
+pub fn of_window(window: &Window) -> u32 {
+    match is_shown(window) {
+        true => area(&window.visibility_rects),
+        false => 0,
+    }
+}
+
+/// The pixels that some rectangle covers. With sides below 65,536 they fit 32 bits.
+pub fn area(rects: &[Rect]) -> u32 {
+    u32::try_from(pixels(rects)).expect("at most 65,535 by 65,535")
 }
 
 /// The pixels that some rectangle covers, by strips: between two edges nothing changes.

@@ -464,9 +464,13 @@ fn told(tally: &Tally) -> ExitCode {
     );
     println!("calls granted after a fault: {}", met.granted_after_fault);
     if met.store_faults > 0 {
+        let (faults, granted) = (met.store_faults, met.granted_after_store_fault);
+        println!("faults in the store: {faults}, calls granted after such alone: {granted}");
+    }
+    if met.figure_faults > 0 {
+        let (faults, refused) = (met.figure_faults, met.wrong_figures);
         println!(
-            "faults in the store: {}, calls granted after such alone: {}",
-            met.store_faults, met.granted_after_store_fault
+            "faults in the figures alone: {faults}, calls that answered 1 for them: {refused}"
         );
     }
     println!(

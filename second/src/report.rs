@@ -3,7 +3,6 @@
 use std::io;
 
 use crate::book::Book;
-use crate::figure;
 use crate::hex;
 use crate::script::{Item, PAYLOAD_LIMIT};
 
@@ -49,7 +48,7 @@ pub fn run(input: &[u8], out: &mut dyn io::Write) -> io::Result<()> {
         }
         marks += 1;
         book.mark();
-        let figure = figure::of(book.table());
+        let figure = book.figure();
         writeln!(out, "{marks} {} {}", figure.windows, figure.pixels)?;
     }
     Ok(())

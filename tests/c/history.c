@@ -156,7 +156,7 @@ static void compare_holders(const struct rail_state *s) {
 
 void test_wrappers(void) {
     struct rail_state *s = (struct rail_state *)(void *)fenced(sizeof *s);
-    CHECK(RAIL_PLACES == 64 && sizeof *s == 364707);
+    CHECK(RAIL_PLACES == 64 && sizeof *s == 364847);
     CHECK(rail_state_reset(s) == RAIL_DONE);
     empty_state();
     begin_window(WINDOW_ORDER_STATE_NEW | WINDOW_ORDER_FIELD_TITLE, 7);
@@ -198,7 +198,7 @@ static void decode_any(uint8_t *w, uint8_t *n, uint8_t *d, uint8_t *p) {
     CHECK(window.small_icon.present == 1 && window.big_icon.present == 1 && window.overlay_icon.present == 1);
     CHECK(window.small_icon.bits_color + window.small_icon.cb_bits_color <= w + RAIL_WINDOW_AT_BIG_PICTURE);
     CHECK(window.big_icon.bits_color + window.big_icon.cb_bits_color <= w + RAIL_WINDOW_AT_OVERLAY_ICON);
-    CHECK(window.overlay_icon.bits_color + window.overlay_icon.cb_bits_color <= w + RAIL_WINDOW_SIZE);
+    CHECK(window.overlay_icon.bits_color + window.overlay_icon.cb_bits_color <= w + RAIL_WINDOW_AT_PIXELS);
     rail_notification_decode(&notification, n);
     CHECK(notification.tool_tip.bytes <= RAIL_TOOL_TIP_MAX && notification.info_tip_text.bytes <= RAIL_INFO_TIP_TEXT_MAX);
     CHECK(notification.title.bytes <= RAIL_INFO_TIP_TITLE_MAX);

@@ -55,6 +55,9 @@ static struct field make_field(uint32_t flag, size_t at, size_t room, size_t len
 
 #define WINDOW_FIELDS 21
 
+/* The pixels of each visibility rectangle of window_fields: its sides are numbers four bytes apart, and no two overlap. */
+#define RECTANGLE_PIXELS (0x404u * 0x404u)
+
 /* The fields of a window in carried order, with strings and lists that leave room or fill it. */
 static void window_fields(struct field f[WINDOW_FIELDS], size_t title, uint32_t rects, uint8_t show, uint8_t content) {
     f[0] = make_field(WINDOW_ORDER_FIELD_OWNER, RAIL_WINDOW_AT_OWNER_WINDOW_ID, 4, 0, 0, 4, 0x81);
@@ -93,6 +96,7 @@ static void check_window_struct(const uint8_t *record, uint32_t title, uint32_t 
     CHECK(w.window_client_delta_x == -0x1B1C1D1F && w.window_client_delta_y == -0x1718191B);
     CHECK(w.window_width == 0xF4F3F2F1u && w.window_height == 0xF8F7F6F5u);
     CHECK(w.visible_offset_x == 0x74737271 && w.visible_offset_y == 0x78777675);
+    CHECK(w.pixels == rects * RECTANGLE_PIXELS && rail_get32(record + RAIL_WINDOW_AT_PIXELS) == w.pixels);
     CHECK(w.num_window_rects == rects && w.num_visibility_rects == rects);
     CHECK(record[RAIL_WINDOW_AT_WINDOW_RECTS] == 0x11 && record[RAIL_WINDOW_AT_VISIBILITY_RECTS] == 0x21);
     CHECK(w.window_rects[0].left == 0x1211 && w.window_rects[0].top == 0x1413);
@@ -108,6 +112,7 @@ static void check_window_struct(const uint8_t *record, uint32_t title, uint32_t 
 
 /* One field after another brought by an update of its own. */
 static void window_field_by_field(const struct field f[WINDOW_FIELDS], uint8_t *before, uint8_t *after) {
+    uint32_t pixels = 0;
     int i;
     begin_window(WINDOW_ORDER_STATE_NEW, 7);
     grant();
@@ -118,7 +123,10 @@ static void window_field_by_field(const struct field f[WINDOW_FIELDS], uint8_t *
         put_field(&f[i]);
         grant();
         CHECK(rail_number(rail_window(NOW, 7, after, RAIL_WINDOW_SIZE)) == RAIL_DONE);
-        CHECK(only(&f[i], before, after, RAIL_WINDOW_SIZE));
+        CHECK(only(&f[i], before, after, RAIL_WINDOW_AT_PIXELS));
+        if (f[i].flag == WINDOW_ORDER_FIELD_VISIBILITY) /* by then it is shown */
+            pixels = f[i].bytes[0] * RECTANGLE_PIXELS;
+        CHECK(rail_get32(after + RAIL_WINDOW_AT_PIXELS) == pixels);
         memcpy(before, after, RAIL_WINDOW_SIZE);
     }
 }
@@ -248,7 +256,7 @@ void test_desktop(void) {
     CHECK(filled(r + RAIL_DESKTOP_AT_WINDOW_IDS + 12, RAIL_DESKTOP_SIZE - RAIL_DESKTOP_AT_WINDOW_IDS - 12, 0));
     d = desktop_after(WINDOW_ORDER_FIELD_DESKTOP_ZORDER, 0, RAIL_WINDOW_IDS_MAX, r);
     CHECK(d.num_window_ids == RAIL_WINDOW_IDS_MAX && d.active_window_id == 0x84838281u);
-    CHECK(d.window_ids[63] == 0x302F2E2D && r[RAIL_DESKTOP_SIZE - 1] == 0x30);
+    CHECK(d.window_ids[63] == 0x302F2E2D && r[RAIL_DESKTOP_AT_SHOWN - 1] == 0x30);
     d = desktop_after(WINDOW_ORDER_FIELD_DESKTOP_ZORDER, 0, 1, r);
     CHECK(d.num_window_ids == 1 && filled(r + RAIL_DESKTOP_AT_WINDOW_IDS + 4, 4 * 63, 0));
     d = desktop_after(WINDOW_ORDER_FIELD_DESKTOP_NONE, 0, 0, r);

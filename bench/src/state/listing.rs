@@ -17,6 +17,9 @@ pub struct Listing {
     icons: Vec<(u32, u32)>,
     /// Whether all 64 places of the store are in use.
     is_store_full: bool,
+    /// How many visibility rectangles each window of a full table has, none over another;
+    /// else 16 times the same one.
+    apart: Option<u16>,
 }
 
 /// All listings: one window, 8, and a table as full as it can be before a new window, with
@@ -34,6 +37,7 @@ pub fn listings() -> Vec<Listing> {
             windows,
             icons,
             is_store_full: false,
+            apart: None,
         }
     };
     let store = full("store", "Full table, 64 places", counted(31), |index| index);
@@ -44,6 +48,7 @@ pub fn listings() -> Vec<Listing> {
             windows: counted(1),
             icons: Vec::new(),
             is_store_full: false,
+            apart: None,
         },
         Listing {
             name: "eight",
@@ -51,6 +56,7 @@ pub fn listings() -> Vec<Listing> {
             windows: counted(8),
             icons: Vec::new(),
             is_store_full: false,
+            apart: None,
         },
         full("full", "Full table", counted(31), |index| index),
         full(
@@ -66,7 +72,32 @@ pub fn listings() -> Vec<Listing> {
     ]
 }
 
+/// Full tables whose windows have 0, 1, 4 and 16 visibility rectangles that are apart.
+pub fn with_rectangles() -> Vec<Listing> {
+    let counts = [
+        ("apart-0", 0),
+        ("apart-1", 1),
+        ("apart-4", 4),
+        ("apart-16", 16),
+    ];
+    let full = |name, count| {
+        let full = listings().into_iter().find(|one| one.name == "full");
+        Listing {
+            name,
+            label: "Full table, rectangles apart",
+            apart: Some(count),
+            ..full.expect("a listing")
+        }
+    };
+    counts.map(|(name, count)| full(name, count)).into()
+}
+
 impl Listing {
+    /// How many visibility rectangles that are apart each of its windows has.
+    pub fn apart(&self) -> Option<u16> {
+        self.apart
+    }
+
     pub fn is_full(&self) -> bool {
         !self.icons.is_empty()
     }
@@ -92,7 +123,10 @@ impl Listing {
             let ids = self.windows.iter();
             return ids.map(|&id| kinds::small_window(id)).collect();
         }
-        let windows = self.windows.iter().map(|&id| kinds::large_window(id));
+        let windows = self.windows.iter().map(|&id| match self.apart {
+            Some(count) => kinds::visible_window(id, count),
+            None => kinds::large_window(id),
+        });
         let icons = self.icons.iter();
         let icons = icons.map(|&(window, icon)| kinds::notification(window, icon));
         let mut orders: Vec<Order> = windows.collect();
@@ -182,6 +216,21 @@ mod tests {
                 _ => [32, 16, 12, 13],
             };
             assert_eq!(listed, expected, "{}", listing.label);
+        }
+    }
+
+    /// Each window has as many pixels as its rectangles together.
+    #[test]
+    fn rectangles_are_apart() {
+        for listing in with_rectangles() {
+            let mut book = Book::new();
+            for order in listing.orders() {
+                assert_eq!(book.deliver(&order), Ok(()), "{}", listing.name);
+                book.mark();
+            }
+            let count = u64::from(listing.apart().expect("a count"));
+            assert_eq!(book.figure().windows, 31);
+            assert_eq!(book.figure().pixels, 31 * 100 * count);
         }
     }
 

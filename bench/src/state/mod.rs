@@ -6,9 +6,9 @@ mod measure;
 mod plain;
 mod proved;
 
-pub use jobs::{searches, Job};
-use jobs::{Call, JOURNALS};
-pub use listing::{listings, Listing};
+use jobs::Call;
+pub use jobs::{named, searches, Job, JOURNALS};
+pub use listing::{listings, with_rectangles, Listing};
 pub use measure::instructions;
 use measure::{nanoseconds, repeat, TIMED};
 use plain::Plain;
@@ -18,7 +18,7 @@ use crate::kinds::{self, Order};
 use crate::table::Cost;
 
 /// Bytes of output memory, enough for every record.
-const OUT: usize = 14_099;
+const OUT: usize = rail::Window::SIZE;
 
 /// The orders that stand after the mark and their bytes, or the number of a refusal.
 type Answer = Result<(usize, usize), u8>;
@@ -246,7 +246,8 @@ pub fn one(listing: &str, call: &str, orders: &str, side: &str, calls: &str) -> 
     let number = |text: &str| -> Result<usize, String> {
         text.parse().map_err(|_| format!("`{text}` is no number"))
     };
-    let known = listings().into_iter().find(|known| known.name == listing);
+    let mut all = listings().into_iter().chain(with_rectangles());
+    let known = all.find(|known| known.name == listing);
     let listing = known.ok_or_else(|| format!("no listing `{listing}`"))?;
     let job = jobs::named(&listing, call).ok_or_else(|| format!("no call `{call}`"))?;
     let journal = job.journal(number(orders)?);

@@ -1,6 +1,7 @@
 //! The same calls on the book of `second`, with records in the library's layouts.
 
 use second::book::Book;
+use second::figure;
 use second::ids::{NotifyIconId, WindowId};
 use second::order::CellPlace;
 use second::table::{Cell, Holder, Rect, Window};
@@ -107,8 +108,9 @@ pub fn plain_window(book: &Book, id: u32, out: &mut [u8]) -> Answer {
     let id = WindowId(id);
     let done = book.window(id).map(|window| {
         let pictures = Holder::of_window(id).map(|one| book.table().shown(one));
-        let mut to = Writer::new(&mut out[..14_099]);
+        let mut to = Writer::new(&mut out[..rail::Window::SIZE]);
         put_window(&mut to, window, pictures);
+        to.end(&figure::of_window(window).to_le_bytes());
     });
     answer(book, done)
 }
@@ -147,7 +149,7 @@ pub fn plain_cell(book: &Book, cache: u8, entry: u16, out: &mut [u8]) -> Answer 
 #[inline(never)]
 pub fn plain_desktop(book: &Book, out: &mut [u8]) -> Answer {
     let desktop = book.desktop();
-    let mut to = Writer::new(&mut out[..263]);
+    let mut to = Writer::new(&mut out[..rail::Desktop::SIZE]);
     to.u8(desktop.hooked.into());
     to.u8(desktop.syncing.into());
     to.u32(desktop.active.0);
@@ -155,6 +157,9 @@ pub fn plain_desktop(book: &Book, out: &mut [u8]) -> Answer {
     for id in &desktop.stack {
         to.u32(id.0);
     }
+    let figure = book.figure();
+    let windows = figure.windows as u32;
+    to.end(&[&windows.to_le_bytes()[..], &figure.pixels.to_le_bytes()].concat());
     answer(book, Ok(()))
 }
 
@@ -252,6 +257,12 @@ impl<'a> Writer<'a> {
 
     fn skip(&mut self, bytes: usize) {
         self.at += bytes;
+    }
+
+    /// At the very end.
+    fn end(&mut self, bytes: &[u8]) {
+        let at = self.out.len() - bytes.len();
+        self.out[at..].copy_from_slice(bytes);
     }
 
     fn u8(&mut self, number: u8) {

@@ -7,15 +7,15 @@ use native.Mathlib.Numerals.{add-one}
 use native.Mathlib.Omega.{arith}
 use lib.Dec.{leb, ltb}
 use lib.ListN.{length}
-use borrow.Author.Tests.{leb-true, ltb-true, ltb-false}
-use Rattle.wire.specs.Tests.{both}
+use borrow.Author.Tests.{leb-true, ltb-true, ltb-false, le-leb}
+use Rattle.wire.specs.Tests.{pick, both}
 use Rattle.wire.specs.Numbers.{numAt}
 use Rattle.wire.proofs.Tests.{both-left, both-right}
 use Rattle.area.specs.declared.Rect.{Rect}
 use Rattle.area.specs.Area.{areaOf, points, listed, listLength, mostRects, rectAt, coveredBy, side}
 use Rattle.area.specs.Cutting.{areaBy, leftOver, mostPoints, box, meets, Met}
 use Rattle.area.proofs.Boxes.{crossing}
-use Rattle.area.proofs.Cutting.{left-most, left-empty, left-next, left-all, left-cut, area-more}
+use Rattle.area.proofs.Cutting.{left-most, left-empty, left-next, left-all, left-cut, area-none, area-more}
 
 -- ---- the count
 
@@ -28,6 +28,21 @@ is-listed s n e t =
 pub none-listed : (s : List ℕ) (n : ℕ) → n ≡ numAt 2 s 0 → both (leb n mostRects) (leb (listLength n) (length s)) ≡ false → 0 ≡ listed s
 unfolding listed
 none-listed s n e t = rw (← e, t)
+
+-- a count of 1 with its rectangle; nothing else lists one
+pub lists-one : (s : List ℕ) → numAt 2 s 0 ≡ 1 → listLength 1 ≤ length s → listed s ≡ 1
+lists-one s e h = sym (is-listed s 1 (sym e) (rw (le-leb 1 mostRects (omega arith), le-leb (listLength 1) (length s) h)) .0)
+
+pub one-listed : (s : List ℕ) → listed s ≡ 1 → listLength 1 ≤ length s
+unfolding listed
+one-listed s e = go (both (leb n mostRects) (leb (listLength n) (length s))) refl e
+  where
+    n : ℕ
+    n = numAt 2 s 0
+
+    go : (t : Bool) → both (leb n mostRects) (leb (listLength n) (length s)) ≡ t → pick t n 0 ≡ 1 → listLength 1 ≤ length s
+    go true f k = omega (arith, k, leb-true (listLength n) (length s) (both-right (leb n mostRects) (leb (listLength n) (length s)) f))
+    go false f k = absurd (omega (arith, k))
 
 -- ---- a rectangle read
 
@@ -113,3 +128,9 @@ grown s i e es ez = rw (es, ez, e, add-one i) (sym (area-more s i))
 pub whole : (s : List ℕ) {n sum : ℕ} → n ≡ listed s → sum ≡ areaBy s n → sum ≡ areaOf s
 unfolding areaOf areaBy
 whole s e es = es ∙ ap (λ (k : ℕ). points side side (coveredBy s k)) e
+
+-- of one rectangle
+pub alone : (s : List ℕ) {z : ℕ} {p : Rect} → listed s ≡ 1 → p ≡ rectAt s 0 → Points z (leftOver s 0 p) → Points z (areaOf s)
+alone s {z} e ep ez =
+    let g : 0 + z ≡ areaBy s 1 = grown s 0 ep (sym (area-none s)) (ez .0) in
+    (omega (arith, whole s (sym e) g), ez .1)

@@ -193,3 +193,11 @@ pub fn area(s: &[u8]) -> u64
     }
     sum
 }
+
+// The points of a list that has one rectangle.
+pub fn single(s: &[u8]) -> u64
+    requires { ⌜ Area·listed (now s) ≡ 1 ⌝ }
+    ensures { λ r. ⌜ (r ≡ areaOf (now (s .entry))) × (r ≤ mostPoints) ⌝ }
+{
+    piece(s, 0, rect_at(s, 0))
+}

@@ -1,8 +1,9 @@
 -- The cases marked (T) hold, by computation. A window's fields are computed once, by a function with a single call of itself. Assumes nothing.
 use Prim.Native.Nat.{ℕ, _+_}
-use mathlib.Core.Path.{_≡_, refl, ap}
+use mathlib.Core.Path.{_≡_, refl, ap, ap₂}
 use mathlib.Core.Bool.{Bool, true, false}
 use mathlib.Core.List.{List, [], _∷_}
+use mathlib.Core.Option.{none, some}
 use Rattle.wire.specs.Tests.{pick, hasAll}
 use Rattle.wire.specs.Numbers.{numAt, numsAt}
 use Rattle.pdu.specs.Layout.{known, widths}
@@ -17,10 +18,17 @@ use Rattle.wire.specs.Parts.{slice}
 use Rattle.places.specs.Sharing.{drop, cellsOnly}
 use Rattle.places.specs.Counts.{countBelow}
 use Rattle.index.specs.Index as index
-use Rattle.body.specs.Bodies.{windowFields, first, rest, setFlagged, emptyFields, emptyBody}
-use Rattle.table.specs.Table.{emptied, number, recordFields, fieldsAfter, shownAfter, changeRecord, desktopAfter, changeDesktop, after}
-use Rattle.model.specs.Book.{makes, tableOf, bytesOf, bookNext, bookAfter, bookAnswer, bookAnswers}
-use Rattle.cases.specs.Cases.{newA, windowA, CasesHold}
+use Rattle.body.specs.Bodies.{Body, windowFields, first, rest, setFlagged, emptyFields, emptyBody}
+use Rattle.places.specs.declared.Family.the-variants as family
+use Rattle.area.specs.Area.{one}
+use Rattle.area.proofs.Counting.{sum-none}
+use Rattle.figure.specs.declared.Figure.{Figure}
+use Rattle.figure.specs.Figure.{isShown, pixelsOf, idEnd, ofWindow, figureBy}
+use Rattle.table.specs.Table.{Table, emptied, number, recordFields, fieldsAfter, shownAfter, changeRecord, desktopAfter, changeDesktop, after}
+use Rattle.session.specs.TableFigure.{unmarked, windowIn, figureIn}
+use Rattle.session.specs.Calls.{deliver}
+use Rattle.model.specs.Book.{newBook, makes, tableOf, bytesOf, bookNext, bookAfter, bookAnswer, bookAnswers}
+use Rattle.cases.specs.Cases.{places, newA, desktopNoneOrder, windowA, nothingShown, CasesHold}
 
 -- ---- the fields of case 4's window
 
@@ -47,8 +55,30 @@ window-a : setFlagged windowFields 0x11000004 newA 11 (emptyFields windowFields)
 unfolding setOnce numAt firstOf lenOf slice emptyFields
 window-a = set-once windowFields 0x11000004 newA 11 (emptyFields windowFields)
 
+-- ---- the figure after case 6's order
+
+-- a table that lists no window shows none
+none-shown : (t : Table) → ((id : ℕ) → t .index .listed family.Windows id 0 ≡ false) → figureIn t ≡ nothingShown
+unfolding figureIn figureBy
+none-shown t e =
+    ap₂ figure (sum-none idEnd (λ id. ofWindow (λ b. one (isShown b)) (windowIn t id)) (gone (λ b. one (isShown b))))
+    (sum-none idEnd (λ id. ofWindow pixelsOf (windowIn t id)) (gone pixelsOf))
+  where
+    figure : ℕ → ℕ → Figure
+    figure m n = record { windows = m; pixels = n }
+
+    gone : (f : Body → ℕ) (id : ℕ) → ofWindow f (windowIn t id) ≡ 0
+    gone f id = ap (λ (l : Bool). ofWindow f (pick l (some (unmarked (t .fields family.Windows id 0))) none)) (e id)
+
+none-listed : (id : ℕ) → tableOf (bookNext (deliver desktopNoneOrder) (newBook places)) .index .listed family.Windows id 0 ≡ false
+unfolding readOf readNumber bodyNumber answerAs recordAs recordOf known widths numsAt numAt sizeOf allowed firstOf lenOf okOf cutOf fieldOf stepOf walkOf pictureFit flagsOf orderOf fieldsFit judgeOf slice drop cellsOnly countBelow index.recordNumber index.notThere index.noRoom index.noPicture index.noPlace index.numberIn index.pictured index.changeRecord index.changeDesktop index.emptyIndex emptyFields emptyBody emptied number recordFields fieldsAfter shownAfter changeRecord desktopAfter changeDesktop after makes tableOf bytesOf bookNext bookAnswer bookAnswers bookAfter
+none-listed id = refl
+
+figure-none : figureIn (tableOf (bookNext (deliver desktopNoneOrder) (newBook places))) ≡ nothingShown
+figure-none = none-shown (tableOf (bookNext (deliver desktopNoneOrder) (newBook places))) none-listed
+
 -- ---- the table
 
 pub cases-hold : CasesHold
 unfolding CasesHold readOf readNumber bodyNumber answerAs recordAs recordOf known widths numsAt numAt sizeOf allowed firstOf lenOf okOf cutOf fieldOf stepOf walkOf pictureFit flagsOf orderOf fieldsFit judgeOf slice drop cellsOnly countBelow index.recordNumber index.notThere index.noRoom index.noPicture index.noPlace index.numberIn index.pictured index.changeRecord index.changeDesktop index.emptyIndex emptyFields emptyBody emptied number recordFields fieldsAfter shownAfter changeRecord desktopAfter changeDesktop after makes tableOf bytesOf bookNext bookAnswer bookAnswers bookAfter
-cases-hold = rw (← window-a)
+cases-hold = rw (← window-a, ← figure-none)

@@ -18,8 +18,9 @@ use Rattle.index.specs.Families.{sameRecord}
 use Rattle.index.specs.Index.{emptyIndex}
 use Rattle.body.specs.Bodies.{Body}
 use Rattle.table.specs.Table.{Table}
+use Rattle.figure.specs.declared.Figure.{Figure}
 use Rattle.session.specs.declared.LookupTarget.the-variants as T
-use Rattle.session.specs.Calls.{Call, deliver, look, Payload, nothing, listed, body}
+use Rattle.session.specs.Calls.{Call, deliver, look, Payload, nothing, listed, desktop}
 use Rattle.session.specs.Calls as S
 use Rattle.model.specs.Book.{Book, newBook, tableOf, bookAfter, bookAnswers}
 
@@ -60,6 +61,10 @@ newA = 0x2E ∷ 0x0F ∷ 0x00 ∷ 0x04 ∷ 0x00 ∷ 0x00 ∷ 0x11 ∷ 0x58 ∷ 0
 abbrev pub deleteA : List ℕ
 deleteA = 0x2E ∷ 0x0B ∷ 0x00 ∷ 0x00 ∷ 0x00 ∷ 0x00 ∷ 0x21 ∷ 0x58 ∷ 0x00 ∷ 0x01 ∷ 0x00 ∷ []
 
+-- case 6's
+abbrev pub desktopNoneOrder : List ℕ
+desktopNoneOrder = 0x2E ∷ 0x07 ∷ 0x00 ∷ 0x01 ∷ 0x00 ∷ 0x00 ∷ 0x04 ∷ []
+
 abbrev pub four : List ℕ
 four = 0 ∷ 0 ∷ 0 ∷ 0 ∷ []
 
@@ -94,6 +99,10 @@ windowA =
 -- a desktop state with no active window and no stacking list, neither hooked nor syncing
 abbrev pub desktopNone : Body
 desktopNone = record { first = 0; second = 0; fields = four ∷ (0 ∷ []) ∷ [] }
+
+-- no window is shown
+abbrev pub nothingShown : Figure
+nothingShown = record { windows = 0; pixels = 0 }
 
 -- a table with this window alone, no picture, and an emptied desktop
 abbrev pub tableA : Table
@@ -174,8 +183,8 @@ cases =
     ∷ record { question = askBook (deliver deleteA ∷ []); answer = bookSays (refused 9 ∷ []) }
     -- 6: desktop none, granted on an empty table; with type byte 05: 4
     ∷ record {
-      question = askBook (deliver (0x2E ∷ 0x07 ∷ 0x00 ∷ 0x01 ∷ 0x00 ∷ 0x00 ∷ 0x04 ∷ []) ∷ look T.Desktop ∷ []);
-      answer = bookSays (granted 1 7 nothing ∷ granted 1 7 (body desktopNone) ∷ []);
+      question = askBook (deliver desktopNoneOrder ∷ look T.Desktop ∷ []);
+      answer = bookSays (granted 1 7 nothing ∷ granted 1 7 (desktop desktopNone nothingShown) ∷ []);
     }
     ∷ record { question = askBook (deliver (0x2E ∷ 0x07 ∷ 0x00 ∷ 0x01 ∷ 0x00 ∷ 0x00 ∷ 0x05 ∷ []) ∷ []); answer = bookSays (refused 4 ∷ []) }
     -- 7

@@ -10,7 +10,7 @@ use borrow.Author.Tests.{lt-ltb}
 use Rattle.wire.specs.Tests.{either}
 use Rattle.wire.specs.Parts.{slice}
 use Rattle.places.specs.Sizes.{fewestPlaces}
-use Rattle.index.specs.Families.{indexLength}
+use Rattle.figure.specs.Kept.{keptLength}
 use Rattle.table.specs.Memory.{bodiesLength}
 use Rattle.journal.specs.Limits.{journalLength}
 use Rattle.journal.specs.View.{Memory, tooShort, meetsRule}
@@ -31,7 +31,7 @@ module _ (f : List ℕ) where
   short-is : length f < placesAt → tooShort (memoryIn f) ≡ true
   short-is h =
       rw (lt-ltb (length (slice f journalAt journalLength)) journalLength (journal-cut h))
-      (either-last (ltb (length (slice f 0 bodiesAt)) indexLength) (ltb (length (slice f bodiesAt bodiesLength)) bodiesLength) (ltb (placesIn (drop placesAt f ∷ [])) fewestPlaces))
+      (either-last (ltb (length (slice f 0 bodiesAt)) keptLength) (ltb (length (slice f bodiesAt bodiesLength)) bodiesLength) (ltb (placesIn (drop placesAt f ∷ [])) fewestPlaces))
 
   -- 1
   pub file-short : length f < placesAt → meetsRule (memoryIn f) ≡ false

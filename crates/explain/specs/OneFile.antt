@@ -3,14 +3,14 @@ use Prim.Native.Nat.{ℕ, _+_}
 use mathlib.Core.List.{List, [], _∷_}
 use lib.ListN.{drop}
 use Rattle.wire.specs.Parts.{slice}
-use Rattle.index.specs.Families.{indexLength}
+use Rattle.figure.specs.Kept.{keptLength}
 use Rattle.table.specs.Memory.{bodiesLength}
 use Rattle.journal.specs.Limits.{journalLength}
 use Rattle.journal.specs.View.{Memory, memory}
 
 -- where the bodies, the journal and the places begin
 abbrev pub bodiesAt : ℕ
-bodiesAt = indexLength
+bodiesAt = keptLength
 
 abbrev pub journalAt : ℕ
 journalAt = bodiesAt + bodiesLength

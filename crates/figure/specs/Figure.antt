@@ -3,11 +3,11 @@
 use Prim.Native.Nat.{ℕ}
 use mathlib.Core.Path.{_≡_}
 use mathlib.Core.Bool.{Bool, true, not}
-use mathlib.Core.List.{List, [], _∷_}
+use mathlib.Core.List.{List, [], _∷_, _++_}
 use mathlib.Core.Option.{Option, none, some}
 use lib.Dec.{eqb}
 use Rattle.wire.specs.Tests.{pick, both}
-use Rattle.wire.specs.Numbers.{numAt, Bytes}
+use Rattle.wire.specs.Numbers.{numAt, bytesOf, Bytes}
 use Rattle.order.specs.declared.Row.{Row}
 use Rattle.body.specs.Bodies.{Body, windowFields, slotOf, bodyOf, first, rest}
 use Rattle.places.specs.declared.Family.the-variants.{Windows}
@@ -54,7 +54,10 @@ shownAt index bodies i = both (isUsed index i) (isShown (windowAt bodies i))
 abbrev pub pixelsAt : List ℕ → List ℕ → ℕ → ℕ
 pixelsAt index bodies i = pick (isUsed index i) (pixelsOf (windowAt bodies i)) 0
 
--- the bytes of the windows' bodies: 32 times 1392
+-- the bytes of a window's slot, and of the 32
+abbrev pub windowLength : ℕ
+windowLength = 1392
+
 abbrev pub windowsLength : ℕ
 windowsLength = 44544
 
@@ -62,6 +65,13 @@ windowsLength = 44544
 unfoldable pub figureOf : List ℕ → List ℕ → Figure
 figureOf index bodies =
     record { windows = sumBelow (capacity Windows) (λ i. one (shownAt index bodies i)); pixels = sumBelow (capacity Windows) (pixelsAt index bodies) }
+
+-- a figure as bytes: the windows in 4, the pixels in 8
+abbrev pub figureLength : ℕ
+figureLength = 12
+
+unfoldable pub figureBytes : Figure → List ℕ
+figureBytes f = bytesOf 4 (f .windows) ++ bytesOf 8 (f .pixels)
 
 -- ---- the same by ids, whatever slots the windows stand in
 

@@ -1,7 +1,7 @@
--- Memories that agree in their first 589 bytes describe the same index, and show the same pictures. Assumes nothing.
+-- Memories that agree in their first 589 bytes describe the same index, and the same table. Assumes nothing.
 use mathlib.Core.Path.{_≡_, refl, sym, ap, _∙_, fun-ext}
 use mathlib.Core.Bool.{Bool, true, false}
-use mathlib.Core.List.{List}
+use mathlib.Core.List.{List, []}
 use Prim.Native.Nat.{ℕ, _+_, _*_, _-_, _≤_, _<_}
 use native.Mathlib.Nat.{zero-add}
 use native.Mathlib.Omega.{arith}
@@ -28,8 +28,12 @@ use Rattle.index.specs.Sound.{noPointers, slotOk, soundIndex}
 use Rattle.index.proofs.Memory.{Same, same-used, same-at, Still, still-decode}
 use Rattle.index.proofs.Soundness.{Within, within-slots, sound-has, sound-is}
 use Rattle.index.proofs.After.{same-index}
-use Rattle.table.specs.Table.{Table}
-use Rattle.table.specs.Memory.{shownIn}
+use Rattle.body.specs.Bodies.{slotOf as Bodies·slotOf, fieldsOf}
+use Rattle.picture.specs.Pictures.{pictureAt}
+use Rattle.table.specs.Table.{Table, fieldRows}
+use Rattle.table.specs.Memory.{headsOf, shownIn, decode, soundTable}
+use Rattle.table.proofs.Rule.{table-has, table-is}
+use Rattle.table.proofs.Joined.{same-table}
 use Rattle.follow.specs.declared.Want.{Want}
 use Rattle.follow.specs.declared.Want.the-variants.{Nothing, Window, Notification, Pictures, Desktop}
 use Rattle.follow.specs.Follow.{heldOrigins, originAt, presentPictures, PicturesHeld, Holds}
@@ -141,6 +145,28 @@ module _ (x y : List ℕ) (agree : take 589 x ≡ take 589 y) where
   holds-same (Notification w n) t m marked since ok h = (h .0, held-same t (heldOrigins (Notification w n) m) marked since ok (h .1))
   holds-same Pictures t m marked since ok h = held-same t (heldOrigins Pictures m) marked since ok h
   holds-same Desktop t m marked since ok h = h
+
+  -- ---- the table
+
+  pub table-same : (b : List ℕ) (p : List (List ℕ)) → decode y b p ≡ decode x b p
+  unfolding decode
+  table-same b p =
+      same-table (decode y b p) (decode x b p) index-same
+      (λ f a c. ap (λ (s : Family → ℕ → ℕ → Found). onFound (s f a c) [] (λ i. fieldsOf (fieldRows f) 2 (Bodies·slotOf b i))) slots-same)
+      (shown-same (pictureAt (headsOf b) p)) refl
+
+  pub sound-table-same : 589 ≤ length y → (b : List ℕ) (lent : ℕ) → soundTable x b lent ≡ true → soundTable y b lent ≡ true
+  sound-table-same long b lent h =
+      let s = table-has x b lent h in
+      table-is y b lent
+      (record {
+        big = s .big;
+        index = sound-same long (s .index);
+        lends = rw places-same (s .lends);
+        records = λ f i w u. s .records f i w (sym (same-used x y i (family-slot f i (w .low) (w .high))) ∙ u);
+        desktop = s .desktop;
+        heads = rw pointers-same (s .heads);
+      })
 
 -- ---- a copy
 

@@ -3,6 +3,7 @@ pub mod Stored
 pub mod Logged
 pub mod Fits
 pub mod Copies
+pub mod Front
 pub mod Replays
 pub mod Validations
 pub mod LoopInvariants

@@ -17,7 +17,7 @@ use Rattle.wire.proofs.Numbers.{length-bytes}
 use Rattle.wire.proofs.Parts.{length-splice, drop-splice}
 use Rattle.places.specs.Sizes.{fewestPlaces}
 use Rattle.places.specs.Memory.{placesOf}
-use Rattle.index.specs.Families.{indexLength}
+use Rattle.figure.specs.Kept.{keptLength, figuresOk}
 use Rattle.store.specs.Store.{placesIn}
 use Rattle.table.specs.Table.{Table, number}
 use Rattle.table.specs.Memory.{bodiesLength, decode, soundTable}
@@ -35,7 +35,7 @@ use Rattle.journal.proofs.Stored.{Stored, none, stored, stored-end, sto
 
 -- the parts are long enough, and enough places are lent
 pub record Long (x b : List ℕ) (lent : ℕ) (j : List ℕ) : Type 0 where
-  pub index : indexLength ≤ length x
+  pub index : keptLength ≤ length x
   pub bodies : bodiesLength ≤ length b
   pub places : fewestPlaces ≤ lent
   pub journal : journalLength ≤ length j
@@ -46,14 +46,14 @@ neither false b e = (refl, e)
 
 pub long-has : (x b : List ℕ) (lent : ℕ) (j : List ℕ) → shortOf x b lent j ≡ false → Long x b lent j
 long-has x b lent j e =
-    let f = ltb (length x) indexLength in
+    let f = ltb (length x) keptLength in
     let g = ltb (length b) bodiesLength in
     let h = ltb lent fewestPlaces in
     let u = neither (either (either f g) h) (ltb (length j) journalLength) e in
     let v = neither (either f g) h (u .0) in
     let w = neither f g (v .0) in
     record {
-      index = ltb-false (length x) indexLength (w .0);
+      index = ltb-false (length x) keptLength (w .0);
       bodies = ltb-false (length b) bodiesLength (w .1);
       places = ltb-false lent fewestPlaces (v .1);
       journal = ltb-false (length j) journalLength (u .1);
@@ -61,7 +61,7 @@ long-has x b lent j e =
 
 pub long-is : {x b : List ℕ} {lent : ℕ} {j : List ℕ} → Long x b lent j → shortOf x b lent j ≡ false
 long-is {x = x} {b = b} {lent = lent} {j = j} l =
-    rw (le-ltb (length x) indexLength (l .index), le-ltb (length b) bodiesLength (l .bodies), le-ltb lent fewestPlaces (l .places), le-ltb (length j) journalLength (l .journal))
+    rw (le-ltb (length x) keptLength (l .index), le-ltb (length b) bodiesLength (l .bodies), le-ltb lent fewestPlaces (l .places), le-ltb (length j) journalLength (l .journal))
 
 abbrev pub LongIn : Memory → Type 0
 LongIn m = Long (m .index) (m .bodies) (placesIn (m .store)) (m .journal)
@@ -75,6 +75,7 @@ markedIn m = decode (m .index) (m .bodies) (m .store)
 pub record Logged (m : Memory) (w : JournalExtent) (os : List (List ℕ)) : Type 0 where
   pub long : LongIn m
   pub sound : soundTable (m .index) (m .bodies) (placesIn (m .store)) ≡ true
+  pub figures : figuresOk (m .index) (m .bodies) ≡ true
   pub stored : Stored (m .journal) logStart os (w .end)
   pub count : countOf (m .journal) ≡ length os
   pub many : w .count ≡ length os
@@ -90,7 +91,7 @@ module _ {m : Memory} {w : JournalExtent} {os : List (List ℕ)} (l : Logged m w
   unfolding wellFormed
   logged-formed =
       let few : length os ≤ mostOrders = omega (arith, l .many, l .few) in
-      rw (l .sound, log-is, l .count, le-ltb mostOrders (length os) few, stored-reads (l .stored) .within) (l .accepted)
+      rw (l .sound, l .figures, log-is, l .count, le-ltb mostOrders (length os) few, stored-reads (l .stored) .within) (l .accepted)
 
   pub logged-state : stateOf m ≡ record { marked = markedIn m; log = os }
   unfolding stateOf
@@ -135,8 +136,9 @@ pub formed-logged : (m : Memory) → tooShort m ≡ false → wellFormed m ≡ t
     → Logged m (record { count = countOf (m .journal); end = endFrom (countOf (m .journal)) logStart (m .journal) }) (logOf (m .journal))
 unfolding wellFormed logOf
 formed-logged m t f =
-    let a = fails (not (soundTable (m .index) (m .bodies) (placesIn (m .store)))) (pick (ltb mostOrders (countOf (m .journal))) false (pick (not (withinFrom (countOf (m .journal)) logStart (m .journal))) false (allAccepted (markedIn m) (logOf (m .journal))))) f in
-    let b = fails (ltb mostOrders (countOf (m .journal))) (pick (not (withinFrom (countOf (m .journal)) logStart (m .journal))) false (allAccepted (markedIn m) (logOf (m .journal)))) (a .1) in
+    let a = fails (not (soundTable (m .index) (m .bodies) (placesIn (m .store)))) (pick (not (figuresOk (m .index) (m .bodies))) false (pick (ltb mostOrders (countOf (m .journal))) false (pick (not (withinFrom (countOf (m .journal)) logStart (m .journal))) false (allAccepted (markedIn m) (logOf (m .journal)))))) f in
+    let g = fails (not (figuresOk (m .index) (m .bodies))) (pick (ltb mostOrders (countOf (m .journal))) false (pick (not (withinFrom (countOf (m .journal)) logStart (m .journal))) false (allAccepted (markedIn m) (logOf (m .journal))))) (a .1) in
+    let b = fails (ltb mostOrders (countOf (m .journal))) (pick (not (withinFrom (countOf (m .journal)) logStart (m .journal))) false (allAccepted (markedIn m) (logOf (m .journal)))) (g .1) in
     let c = fails (not (withinFrom (countOf (m .journal)) logStart (m .journal))) (allAccepted (markedIn m) (logOf (m .journal))) (b .1) in
     let l = long-has (m .index) (m .bodies) (placesIn (m .store)) (m .journal) t in
     let s = stored (markedIn m) (countOf (m .journal)) logStart (m .journal) (l .journal) (omega arith) (not-false (withinFrom (countOf (m .journal)) logStart (m .journal)) (c .0)) (c .1) in
@@ -144,6 +146,7 @@ formed-logged m t f =
     record {
       long = l;
       sound = not-false (soundTable (m .index) (m .bodies) (placesIn (m .store))) (a .0);
+      figures = not-false (figuresOk (m .index) (m .bodies)) (g .0);
       stored = s;
       count = n;
       many = n;
@@ -207,6 +210,7 @@ module _ {m : Memory} {w : JournalExtent} {os : List (List ℕ)} (l : Logged m w
       record {
         long = long-with (counted-length put (w .count + 1) p ∙ put-length (m .journal) s (w .end) (w .count + 1) low room (l .long .journal));
         sound = l .sound;
+        figures = l .figures;
         stored = put-stored (m .journal) s (w .end) (w .count + 1) low room (l .long .journal) (a .sized) (omega (arith, a .long)) (l .stored);
         count = counted-count put (w .count + 1) p (omega arith) ∙ n;
         many = n;
@@ -224,6 +228,7 @@ module _ {m : Memory} {w : JournalExtent} {os : List (List ℕ)} (l : Logged m w
       record {
         long = long-with (counted-length (m .journal) k two);
         sound = l .sound;
+        figures = l .figures;
         stored = counted-stored (m .journal) k two (rw end s);
         count = counted-count (m .journal) k two (omega (arith, l .few)) ∙ n;
         many = n;
@@ -232,14 +237,15 @@ module _ {m : Memory} {w : JournalExtent} {os : List (List ℕ)} (l : Logged m w
       }
 
 -- none
-pub logged-none : (x b : List ℕ) (p : List (List ℕ)) (j : List ℕ) → Long x b (placesIn p) j → soundTable x b (placesIn p) ≡ true
+pub logged-none : (x b : List ℕ) (p : List (List ℕ)) (j : List ℕ) → Long x b (placesIn p) j → soundTable x b (placesIn p) ≡ true → figuresOk x b ≡ true
     → Logged (memory x b p (splice j 0 (bytesOf 2 0))) (record { count = 0; end = logStart }) []
 unfolding allAccepted
-logged-none x b p j l sound =
+logged-none x b p j l sound figures =
     let two : 2 ≤ length j = omega (arith, l .journal) in
     record {
       long = record { index = l .index; bodies = l .bodies; places = l .places; journal = omega (arith, counted-length j 0 two, l .journal) };
       sound = sound;
+      figures = figures;
       stored = none;
       count = counted-count j 0 two (omega arith);
       many = refl;

@@ -14,19 +14,22 @@ use Rattle.places.specs.Memory.{placesOf}
 use Rattle.index.specs.Families.{indexLength}
 use Rattle.index.specs.Memory.{indexOf}
 use Rattle.index.specs.Sound.{soundIndex}
+use Rattle.index.proofs.Ways.{sound-long}
+use Rattle.figure.specs.Figure.{windowsLength}
+use Rattle.figure.specs.Kept.{keptLength, figuresOk}
 use Rattle.store.specs.Store.{placesIn}
-use Rattle.table.specs.Memory.{decode, soundTable}
+use Rattle.table.specs.Memory.{bodiesLength, decode, soundTable}
 use Rattle.table.proofs.Rule.{table-has}
 use Rattle.follow.specs.declared.Want.{Want}
 use Rattle.follow.specs.declared.Want.the-variants.{Nothing}
 use Rattle.follow.specs.Follow.{roomFor, beginOf}
 use Rattle.follow.proofs.Following.{begin-holds, begin-length, begin-origins}
 use Rattle.journal.specs.declared.JournalExtent.{JournalExtent}
-use Rattle.journal.specs.Limits.{mostOrders, logStart}
+use Rattle.journal.specs.Limits.{journalLength, mostOrders, logStart}
 use Rattle.journal.specs.State.{allAccepted}
 use Rattle.journal.specs.Journal.{countOf, ordersFrom, endFrom, withinFrom, logOf}
 use Rattle.journal.specs.View.{Memory, memory, InEachStore, shortOf, tooShort, wellFormed, meetsRule, stateOf}
-use Rattle.journal.specs.Replay.{Replay, replayFrom, Replayed, extentOf, replayable, validationOf, markedPictures, sincePictures, headIsOk, Validated, Validation}
+use Rattle.journal.specs.Replay.{Replay, replayFrom, Replayed, fromMark, extentOf, replayable, validationOf, markedPictures, sincePictures, headIsOk, Validated, Validation}
 use Rattle.journal.proofs.Copies.{copied-index, copied-places, copied-sound, copied-holds}
 use Rattle.journal.proofs.Logged.{Long, long-has, long-is, markedIn, extent-formed, logged-low}
 use Rattle.journal.proofs.Replays.{Ready, Through, Ran, stops, through, replay-ran}
@@ -42,6 +45,7 @@ no e = let z : _≡_ {A = ℕ} 0 1 = cc in absurd (omega arith)
 pub record Replayable (x b : List ℕ) (lent : ℕ) (j : List ℕ) : Type 0 where
   pub long : Long x b lent j
   pub sound : soundTable x b lent ≡ true
+  pub figures : figuresOk x b ≡ true
   pub few : ltb mostOrders (countOf j) ≡ false
 
 module _ (x b : List ℕ) (lent : ℕ) (j : List ℕ) {t : Bool} (says : t ≡ shortOf x b lent j) where
@@ -53,23 +57,27 @@ module _ (x b : List ℕ) (lent : ℕ) (j : List ℕ) {t : Bool} (says : t ≡ s
     enough-is : shortOf x b lent j ≡ false
     enough-is = sym says ∙ enough
 
+    pub kept-asks : (keptLength ≤ length x) × (windowsLength ≤ length b)
+    kept-asks = let l = long-has x b lent j enough-is in (l .index, omega (arith, l .bodies))
+
     pub replayable-unsound : s ≡ false → false ≡ replayable x b lent j
     unfolding replayable
     replayable-unsound e = let f : soundTable x b lent ≡ false = sym is ∙ e in rw (enough-is, f)
 
-    pub replayable-counted : s ≡ true → {k : ℕ} → k ≡ countOf j → not (ltb mostOrders k) ≡ replayable x b lent j
+    pub replayable-counted : s ≡ true → {k : ℕ} → k ≡ countOf j → {g : Bool} → g ≡ figuresOk x b → both g (not (ltb mostOrders k)) ≡ replayable x b lent j
     unfolding replayable
-    replayable-counted e {k = k} c = let f : soundTable x b lent ≡ true = sym is ∙ e in rw (enough-is, f, ← c)
+    replayable-counted e {k = k} c {g = g} kept = let f : soundTable x b lent ≡ true = sym is ∙ e in rw (enough-is, f, ← c, ← kept)
 
 pub replayable-has : (x b : List ℕ) (lent : ℕ) (j : List ℕ) → replayable x b lent j ≡ true → Replayable x b lent j
 unfolding replayable
-replayable-has x b lent j = go (shortOf x b lent j) (soundTable x b lent) refl refl
+replayable-has x b lent j = go (shortOf x b lent j) (soundTable x b lent) (figuresOk x b) refl refl refl
   where
-    go : (u v : Bool) → shortOf x b lent j ≡ u → soundTable x b lent ≡ v → pick u false (pick v (not (ltb mostOrders (countOf j))) false) ≡ true
-        → Replayable x b lent j
-    go true v y z e = no e
-    go false false y z e = no e
-    go false true y z e = record { long = long-has x b lent j y; sound = z; few = not-true (ltb mostOrders (countOf j)) e }
+    go : (u v w : Bool) → shortOf x b lent j ≡ u → soundTable x b lent ≡ v → figuresOk x b ≡ w
+        → pick u false (pick v (both w (not (ltb mostOrders (countOf j)))) false) ≡ true → Replayable x b lent j
+    go true v w y z k e = no e
+    go false false w y z k e = no e
+    go false true false y z k e = no e
+    go false true true y z k e = record { long = long-has x b lent j y; sound = z; figures = k; few = not-true (ltb mostOrders (countOf j)) e }
 
 abbrev pub replayableIn : Memory → Bool
 replayableIn m = replayable (m .index) (m .bodies) (placesIn (m .store)) (m .journal)
@@ -77,14 +85,30 @@ replayableIn m = replayable (m .index) (m .bodies) (placesIn (m .store)) (m .jou
 -- what cannot be is not well formed
 not-replayable : (m : Memory) → replayableIn m ≡ false → meetsRule m ≡ false
 unfolding replayable wellFormed
-not-replayable m = go (tooShort m) (soundTable (m .index) (m .bodies) (placesIn (m .store))) (ltb mostOrders (countOf (m .journal))) refl refl refl
+not-replayable m =
+    go (tooShort m) (soundTable (m .index) (m .bodies) (placesIn (m .store))) (figuresOk (m .index) (m .bodies)) (ltb mostOrders (countOf (m .journal))) refl refl refl refl
   where
-    go : (a b c : Bool) → tooShort m ≡ a → soundTable (m .index) (m .bodies) (placesIn (m .store)) ≡ b → ltb mostOrders (countOf (m .journal)) ≡ c
-        → pick a false (pick b (not c) false) ≡ false → meetsRule m ≡ false
-    go true b c x y z e = rw x
-    go false false c x y z e = rw (x, y)
-    go false true true x y z e = rw (x, y, z)
-    go false true false x y z e = no (sym e)
+    go : (a b g c : Bool) → tooShort m ≡ a → soundTable (m .index) (m .bodies) (placesIn (m .store)) ≡ b → figuresOk (m .index) (m .bodies) ≡ g
+        → ltb mostOrders (countOf (m .journal)) ≡ c → pick a false (pick b (both g (not c)) false) ≡ false → meetsRule m ≡ false
+    go true b g c x y k z e = rw x
+    go false false g c x y k z e = rw (x, y)
+    go false true false c x y k z e = rw (x, y, k)
+    go false true true true x y k z e = rw (x, y, k, z)
+    go false true true false x y k z e = no (sym e)
+
+rule-replayable : (m : Memory) → meetsRule m ≡ true → replayableIn m ≡ true
+rule-replayable m h = go (replayableIn m) refl
+  where
+    go : (b : Bool) → replayableIn m ≡ b → replayableIn m ≡ true
+    go true e = e
+    go false e = no (sym (not-replayable m e) ∙ h)
+
+-- what the replay from the mark requires
+pub from-mark-asks : (m : Memory) → meetsRule m ≡ true
+    → (soundIndex (m .index) ≡ true) × (bodiesLength ≤ length (m .bodies)) × (journalLength ≤ length (m .journal))
+from-mark-asks m h =
+    let r = replayable-has (m .index) (m .bodies) (placesIn (m .store)) (m .journal) (rule-replayable m h) in
+    (table-has (m .index) (m .bodies) (placesIn (m .store)) (r .sound) .index, r .long .bodies, r .long .journal)
 
 -- ---- the way out
 
@@ -103,19 +127,14 @@ not-validated want x b lent j d f e store same =
 
 -- ---- the memories that the replay begins with
 
-module _ (want : Want) (x b : List ℕ) (lent : ℕ) (j d f : List ℕ) (room : length d ≡ indexLength) (place : length f ≡ roomFor want)
-    (has : Replayable x b lent j) where
-  abbrev pub copyOf : List ℕ
-  copyOf = splice d 0 (slice x 0 indexLength)
+pub copy-sound : (x d : List ℕ) → soundIndex x ≡ true → length d ≡ indexLength → {d₀ : List ℕ} → d₀ ≡ splice d 0 (slice x 0 indexLength)
+    → soundIndex d₀ ≡ true
+copy-sound x d sound room copied = ap soundIndex copied ∙ copied-sound d x room (sound-long x sound) sound
 
-  abbrev pub begun : List ℕ
-  begun = beginOf want x b f
-
-  pub copy-sound : soundIndex copyOf ≡ true
-  copy-sound = copied-sound d x room (has .long .index) (table-has x b lent (has .sound) .index)
-
-  pub begun-length : length begun ≡ roomFor want
-  begun-length = begin-length want x b lent f (has .sound) place
+pub from-copies : (want : Want) (x b j : List ℕ) (n : ℕ) (d f : List ℕ) {d₀ f₀ : List ℕ} → d₀ ≡ splice d 0 (slice x 0 indexLength) → f₀ ≡ beginOf want x b f
+    → {e : ℕ} {d' f' : List ℕ} → Replayed (replayFrom want n logStart j d₀ f₀) e d' f' → Replayed (fromMark want x b j n d f) e d' f'
+unfolding fromMark
+from-copies want x b j n d f copied begins r = rw (← copied, ← begins) r
 
 -- ---- the way through
 
@@ -135,16 +154,16 @@ module _ (want : Want) (m : Memory) (bytes : Bytes (m .journal)) (d f : List ℕ
   start = beginOf want (m .index) (m .bodies) f
 
   abbrev replay : Replay
-  replay = replayFrom want (countOf (m .journal)) logStart (m .journal) copy start
+  replay = fromMark want (m .index) (m .bodies) (m .journal) (countOf (m .journal)) d f
 
   first : Ready want (m .journal) (markedPictures m) (headIsOk m) (placesOf (m .index)) (markedIn m) copy start
   first =
-      let long = has .long .index in
+      let long : indexLength ≤ length (m .index) = omega (arith, has .long .index) in
       record {
-        sound = copy-sound want (m .index) (m .bodies) (placesIn (m .store)) (m .journal) d f room place has;
+        sound = copy-sound (m .index) d (table-has (m .index) (m .bodies) (placesIn (m .store)) (has .sound) .index) room refl;
         index = copied-index d (m .index) room long ∙ decode-index (m .index) (m .bodies) (m .store);
         lent = copied-places d (m .index) room long;
-        room = begun-length want (m .index) (m .bodies) (placesIn (m .store)) (m .journal) d f room place has;
+        room = begin-length want (m .index) (m .bodies) (placesIn (m .store)) f (has .sound) place;
         holds =
             copied-holds d (m .index) room long want (markedIn m) start (markedPictures m) (sincePictures m) (headIsOk m)
             (begin-holds want (m .index) (m .bodies) (m .store) (placesIn (m .store)) f (sincePictures m) (has .sound) place);
@@ -155,13 +174,14 @@ module _ (want : Want) (m : Memory) (bytes : Bytes (m .journal)) (d f : List ℕ
   Runs = Ran want (markedPictures m) (headIsOk m) (placesOf (m .index)) (countOf (m .journal)) logStart (m .journal) (markedIn m) replay
 
   ran : Runs
+  unfolding fromMark
   ran =
       replay-ran want (m .journal) bytes (markedPictures m) (headIsOk m) (placesOf (m .index)) (countOf (m .journal)) logStart (omega arith) (omega arith) (markedIn m)
       copy start first
 
   meets-is : meetsRule m ≡ both (withinFrom (countOf (m .journal)) logStart (m .journal)) (allAccepted (markedIn m) (ordersFrom (countOf (m .journal)) logStart (m .journal)))
   unfolding wellFormed logOf
-  meets-is = rw (long-is (has .long), has .sound, has .few) (joined (withinFrom (countOf (m .journal)) logStart (m .journal)) (allAccepted (markedIn m) (ordersFrom (countOf (m .journal)) logStart (m .journal))))
+  meets-is = rw (long-is (has .long), has .sound, has .figures, has .few) (joined (withinFrom (countOf (m .journal)) logStart (m .journal)) (allAccepted (markedIn m) (ordersFrom (countOf (m .journal)) logStart (m .journal))))
     where
       joined : (a b : Bool) → pick (not a) false b ≡ both a b
       joined true b = refl
@@ -218,13 +238,25 @@ module _ (want : Want) (m : Memory) (bytes : Bytes (m .journal)) (d f : List ℕ
             let end : e ≡ endFrom (countOf (m .journal)) logStart (m .journal) = r .end ∙ g .end in
             memories (rw (h, end)) (λ s. means-that g)
 
+  -- the replay of a memory that meets the rule
+  means-here : meetsRule m ≡ true → Validated want m (replay .index) (replay .followed)
+  means-here h = go ran
+    where
+      go : Runs → Validated want m (replay .index) (replay .followed)
+      go (stops x y) = no (sym (meets-is ∙ y) ∙ h)
+      go (through g) = means-that (record { end = refl; index = refl; followed = refl }) g
+
+pub from-mark-means : (want : Want) (m : Memory) (d f : List ℕ) → Bytes (m .journal) → length d ≡ indexLength → length f ≡ roomFor want → meetsRule m ≡ true
+    → Validated want m (fromMark want (m .index) (m .bodies) (m .journal) (countOf (m .journal)) d f .index)
+    (fromMark want (m .index) (m .bodies) (m .journal) (countOf (m .journal)) d f .followed)
+from-mark-means want m d f bytes room place h = means-here want m bytes d f room place (rule-replayable m h) h
+
 -- ---- the same as the code makes it, in each store
 
 module _ (want : Want) (x b : List ℕ) (lent : ℕ) (j : List ℕ) (bytes : Bytes j) (d f : List ℕ) (room : length d ≡ indexLength) (place : length f ≡ roomFor want)
-    (ready : replayable x b lent j ≡ true) {k : ℕ} (is : k ≡ countOf j) {d₀ f₀ : List ℕ} (copied : d₀ ≡ splice d 0 (slice x 0 indexLength)) (begins : f₀ ≡ beginOf want x b f)
-    {e : ℕ} {d' f' : List ℕ} (r : Replayed (replayFrom want k logStart j d₀ f₀) e d' f') where
-  replayed : Replayed (replayFrom want (countOf j) logStart j (splice d 0 (slice x 0 indexLength)) (beginOf want x b f)) e d' f'
-  replayed = rw (← is, ← copied, ← begins) r
+    (ready : replayable x b lent j ≡ true) {k : ℕ} (is : k ≡ countOf j) {e : ℕ} {d' f' : List ℕ} (r : Replayed (fromMark want x b j k d f) e d' f') where
+  replayed : Replayed (fromMark want x b j (countOf j) d f) e d' f'
+  replayed = rw (← is) r
 
   pub validated-none : e ≡ 0 → InEachStore lent (λ store. Validation want (memory x b store j) d f noExtent d' f')
   validated-none z store same = none-here want (memory x b store j) bytes d f room place (ap (λ (n : ℕ). replayable x b n j) same ∙ ready) replayed z

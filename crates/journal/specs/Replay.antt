@@ -5,7 +5,7 @@ use mathlib.Core.Path.{_≡_}
 use mathlib.Core.Bool.{Bool, true, false, not}
 use mathlib.Core.List.{List}
 use lib.Dec.{eqb, ltb}
-use Rattle.wire.specs.Tests.{pick}
+use Rattle.wire.specs.Tests.{pick, both}
 use Rattle.wire.specs.Parts.{slice, splice}
 use Rattle.places.specs.Memory.{placesOf}
 use Rattle.index.specs.Families.{indexLength}
@@ -13,6 +13,7 @@ use Rattle.index.specs.Plans.{planOf, planNumber}
 use Rattle.index.specs.Changes.{appliedOf}
 use Rattle.index.specs.Memory.{indexOf}
 use Rattle.index.specs.Sound.{soundIndex}
+use Rattle.figure.specs.Kept.{figuresOk}
 use Rattle.store.specs.Store.{placesIn}
 use Rattle.picture.specs.Pictures.{pictureAt, headOk}
 use Rattle.follow.specs.declared.Want.{Want}
@@ -57,6 +58,11 @@ pub record Replayed (r : Replay) (e : ℕ) (d' m' : List ℕ) : Type 0 where
   pub index : d' ≡ r .index
   pub followed : m' ≡ r .followed
 
+-- n orders from the mark on: on a copy of the index in d, and on what the table at the mark has of the target in f
+unfoldable pub fromMark : Want → List ℕ → List ℕ → List ℕ → ℕ → List ℕ → List ℕ → Replay
+fromMark want index bodies journal n d f =
+    replayFrom want n logStart journal (splice d 0 (slice index 0 indexLength)) (beginOf want index bodies f)
+
 -- ---- any memory validated
 
 -- how many orders stand and where they end; nothing where the rule is not met
@@ -65,17 +71,16 @@ extentOf m =
     pick (meetsRule m) (record { count = countOf (m .journal); end = endFrom (countOf (m .journal)) logStart (m .journal) })
     (record { count = 0; end = 0 })
 
--- the orders can be replayed: long enough, a table at the mark, and a count within the room; so many places are lent
+-- the orders can be replayed: long enough, a table at the mark with its figures, and a count within the room; so many places are lent
 unfoldable pub replayable : List ℕ → List ℕ → ℕ → List ℕ → Bool
 replayable index bodies lent journal =
-    pick (shortOf index bodies lent journal) false (pick (soundTable index bodies lent) (not (ltb mostOrders (countOf journal))) false)
+    pick (shortOf index bodies lent journal) false
+    (pick (soundTable index bodies lent) (both (figuresOk index bodies) (not (ltb mostOrders (countOf journal)))) false)
 
--- the replay, on a copy of the index in d and on what the table at the mark has of the target in f
 unfoldable pub validationOf : Want → Memory → List ℕ → List ℕ → Replay
 validationOf want m d f =
     pick (replayable (m .index) (m .bodies) (placesIn (m .store)) (m .journal))
-    (replayFrom want (countOf (m .journal)) logStart (m .journal) (splice d 0 (slice (m .index) 0 indexLength))
-    (beginOf want (m .index) (m .bodies) f))
+    (fromMark want (m .index) (m .bodies) (m .journal) (countOf (m .journal)) d f)
     (stopped d f)
 
 -- the pictures at the mark, those that orders have brought since, and the test of a head at the mark

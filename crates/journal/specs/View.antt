@@ -8,7 +8,7 @@ use lib.ListN.{length, drop}
 use Rattle.wire.specs.Tests.{pick, both, any}
 use Rattle.places.specs.Sizes.{fewestPlaces}
 use Rattle.places.specs.Memory.{placesOf}
-use Rattle.index.specs.Families.{indexLength}
+use Rattle.figure.specs.Kept.{keptLength, figuresOk}
 use Rattle.store.specs.Store.{placesIn}
 use Rattle.table.specs.Memory.{bodiesLength, decode, soundTable}
 use Rattle.table.specs.Outcome.{StoreKept}
@@ -16,7 +16,7 @@ use Rattle.journal.specs.Limits.{journalLength, mostOrders, logStart}
 use Rattle.journal.specs.State.{State, allAccepted}
 use Rattle.journal.specs.Journal.{countOf, withinFrom, logOf}
 
--- the parts: index, bodies with the heads of pictures, and store of the table at the mark; the journal
+-- the parts: index with the figures behind it, bodies with the heads of pictures, and store of the table at the mark; the journal
 pub record Memory : Type 0 where
   pub index : List ℕ
   pub bodies : List ℕ
@@ -34,7 +34,7 @@ InEachStore lent claim = (p : List (List ℕ)) → placesIn p ≡ lent → claim
 abbrev pub shortOf : List ℕ → List ℕ → ℕ → List ℕ → Bool
 shortOf index bodies lent journal =
     any
-    (ltb (length index) indexLength ∷ ltb (length bodies) bodiesLength ∷ ltb lent fewestPlaces
+    (ltb (length index) keptLength ∷ ltb (length bodies) bodiesLength ∷ ltb lent fewestPlaces
     ∷ ltb (length journal) journalLength ∷ [])
 
 abbrev pub tooShort : Memory → Bool
@@ -43,18 +43,19 @@ tooShort m = shortOf (m .index) (m .bodies) (placesIn (m .store)) (m .journal)
 -- the bytes past the needed lengths are as they were, and those of the store past its whole places; of its places none past
 -- the number that the memory has fixed changes
 pub record Past (m m' : Memory) : Type 0 where
-  pub index : drop indexLength (m' .index) ≡ drop indexLength (m .index)
+  pub index : drop keptLength (m' .index) ≡ drop keptLength (m .index)
   pub bodies : drop bodiesLength (m' .bodies) ≡ drop bodiesLength (m .bodies)
   pub store : StoreKept (placesOf (m .index)) (m .store) (m' .store)
   pub journal : drop journalLength (m' .journal) ≡ drop journalLength (m .journal)
 
--- the table at the mark is one, and the journal's orders lie within the room and are accepted in turn
+-- the table at the mark is one, its figures are kept, and the journal's orders lie within the room and are accepted in turn
 unfoldable pub wellFormed : Memory → Bool
 wellFormed m =
     pick (not (soundTable (m .index) (m .bodies) (placesIn (m .store)))) false
+    (pick (not (figuresOk (m .index) (m .bodies))) false
     (pick (ltb mostOrders (countOf (m .journal))) false
     (pick (not (withinFrom (countOf (m .journal)) logStart (m .journal))) false
-    (allAccepted (decode (m .index) (m .bodies) (m .store)) (logOf (m .journal)))))
+    (allAccepted (decode (m .index) (m .bodies) (m .store)) (logOf (m .journal))))))
 
 -- document 01's rule: long enough, and well formed
 abbrev pub meetsRule : Memory → Bool

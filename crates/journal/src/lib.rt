@@ -10,12 +10,12 @@ ghost use Rattle.index.specs.Plans.{planOf, planNumber, planSlot};
 ghost use Rattle.index.specs.Sound.{soundIndex};
 ghost use Rattle.store.specs.Store.{placesIn, five};
 ghost use Rattle.follow.specs.declared.Want.the-variants.{Nothing};
-ghost use Rattle.table.specs.Memory.{soundTable};
+ghost use Rattle.table.specs.Memory.{bodiesLength, soundTable};
 ghost use Rattle.follow.specs.Follow.{roomFor};
 ghost use Rattle.journal.specs.Limits.{journalLength, logStart, mostOrders};
 ghost use Rattle.journal.specs.Journal.{endFrom, withinFrom};
 ghost use Rattle.journal.specs.View.{Memory, memory, InEachStore, shortOf, meetsRule};
-ghost use Rattle.journal.specs.Replay.{indexAfter, followedAfter, replayFrom, Replayed, replayable, Validation, Applied};
+ghost use Rattle.journal.specs.Replay.{indexAfter, followedAfter, replayFrom, Replayed, fromMark, replayable, Validation, Applied};
 use follow::Want;
 
 // The history room: the most orders after a checkpoint, and the most bytes of theirs.
@@ -38,7 +38,7 @@ pub struct JournalExtent {
 pub fn too_short(index: &[u8], bodies: &[u8], lent: usize, journal: &[u8]) -> bool
     ensures { λ r. ⌜ r ≡ shortOf (now (index .entry)) (now (bodies .entry)) lent (now (journal .entry)) ⌝ }
 {
-    (index.len() < index::LENGTH)
+    (index.len() < figure::LENGTH)
         | (bodies.len() < table::BODIES)
         | (lent < (places::FEWEST as usize))
         | (journal.len() < LENGTH)
@@ -91,7 +91,27 @@ fn replay(d: &mut [u8], m: &mut [u8], journal: &[u8], count: usize, want: Want) 
     p
 }
 
-// Whether the orders can be replayed: the parts are long enough, the table at the mark is one, and the count is within the room.
+// The same from the mark on: d becomes the index after count orders, and m what the table then has of the target.
+pub fn from_mark(
+    index: &[u8],
+    bodies: &[u8],
+    journal: &[u8],
+    count: usize,
+    want: Want,
+    d: &mut [u8],
+    m: &mut [u8],
+) -> usize
+    requires { ⌜ (soundIndex (now index) ≡ true) × (bodiesLength ≤ length (now bodies)) × (journalLength ≤ length (now journal)) ⌝ }
+    requires { ⌜ (length (now d) ≡ indexLength) × (length (now m) ≡ roomFor want) ⌝ }
+    ensures { λ r. ⌜ Replayed (fromMark want (now (index .entry)) (now (bodies .entry)) (now (journal .entry)) count (now (d .entry)) (now (m .entry))) r (now (d .exit)) (now (m .exit)) ⌝ }
+{
+    wire::copy_part(d, 0, index, 0, index::LENGTH);
+    follow::begin(m, index, bodies, want);
+    replay(d, m, journal, count, want)
+}
+
+// Whether the orders can be replayed: the parts are long enough, the table at the mark is one and has its figures, and the count is
+// within the room.
 fn can_replay(index: &[u8], bodies: &[u8], lent: usize, journal: &[u8]) -> bool
     ensures { λ r. ⌜ r ≡ replayable (now (index .entry)) (now (bodies .entry)) lent (now (journal .entry)) ⌝ }
 {
@@ -102,7 +122,7 @@ fn can_replay(index: &[u8], bodies: &[u8], lent: usize, journal: &[u8]) -> bool
         return false;
     }
     let count = wire::read_u16(journal, 0) as usize;
-    !(MOST_ORDERS < count)
+    figure::is_kept(index, bodies) & !(MOST_ORDERS < count)
 }
 
 // Decides the rule for any memory to which so many places are lent. Where it is met, d becomes the index of the present table and m
@@ -123,9 +143,7 @@ pub fn validate(
         return JournalExtent { count: 0, end: 0 };
     }
     let count = wire::read_u16(journal, 0) as usize;
-    wire::copy_part(d, 0, index, 0, index::LENGTH);
-    follow::begin(m, index, bodies, want);
-    let end = replay(d, m, journal, count, want);
+    let end = from_mark(index, bodies, journal, count, want, d, m);
     if end == 0 {
         return JournalExtent { count: 0, end: 0 };
     }

@@ -18,7 +18,8 @@ use Rattle.journal.specs.Limits.{mostOrders, mostBytes}
 use Rattle.journal.specs.State.{State, run, present, bytesIn}
 use Rattle.session.specs.declared.LookupTarget.{LookupTarget}
 use Rattle.session.specs.declared.LookupTarget.the-variants.{Window, Notification, Cell, Desktop, Windows, Notifications, Shares}
-use Rattle.session.specs.Calls.{Call, reset, deliver, checkpoint, undo, look, writeRecord, Payload, nothing, listed, body, picture, ids, orders, shared, Answer, refuse, grant, overFull, without, aPicture, cellNumber, holderOf, iconsShown, sharedIn, recordIn, payloadIn, found, answer, next}
+use Rattle.session.specs.TableFigure.{figureIn}
+use Rattle.session.specs.Calls.{Call, reset, deliver, checkpoint, undo, look, writeRecord, Payload, nothing, listed, desktop, picture, ids, orders, shared, Answer, refuse, grant, overFull, without, aPicture, cellNumber, holderOf, iconsShown, sharedIn, recordIn, payloadIn, found, answer, next}
 use Rattle.model.specs.Book.{Book, newBook, makes, tableOf, bytesOf, hasRoom, joined, markMoved, lastGone, says, refuses, givesRecord, givesShared, givesPicture, bookNext, bookAnswer}
 
 -- ---- the book's words and the state's
@@ -99,7 +100,7 @@ module _ (b : Book) where
   look-says (Window w) = record-same family.Windows (w .id) 0
   look-says (Notification w n) = record-same family.Notifications (w .id) (n .id)
   look-says (Cell cache entry) = picture-same (tableOf b .shown (cell (cellNumber cache entry)))
-  look-says Desktop = grants (body (tableOf b .desktop))
+  look-says Desktop = grants (desktop (tableOf b .desktop) (figureIn (tableOf b)))
   look-says Windows = grants (ids family.Windows (idsIn (tableOf b .index) family.Windows))
   look-says Notifications = grants (ids family.Notifications (idsIn (tableOf b .index) family.Notifications))
   look-says (Shares g k) = shared-same (holderOf g) (holderOf k)

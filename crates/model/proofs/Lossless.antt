@@ -5,12 +5,12 @@ use mathlib.Core.Bool.{Bool, true, false}
 use mathlib.Core.List.{List, [], _∷_, _++_, map, flatten}
 use mathlib.Core.Option.{Option, none, some}
 use native.Mathlib.Omega.{arith}
-use lib.ListN.{length, take, drop, length-append}
+use lib.ListN.{length, take, drop, replicate, length-append, length-replicate}
 use lib.Seq.{take-append-seam, drop-append-seam}
 use Rattle.wire.specs.Tests.{pick}
-use Rattle.wire.specs.Numbers.{numAt}
-use Rattle.wire.specs.Parts.{padded}
-use Rattle.wire.proofs.Numbers.{num-drop, num-padded}
+use Rattle.wire.specs.Numbers.{numAt, bytesOf, fitsIn}
+use Rattle.wire.specs.Parts.{padded, splice}
+use Rattle.wire.proofs.Numbers.{num-drop, num-padded, num-put, length-bytes}
 use Rattle.wire.proofs.Parts.{length-padded, padded-same}
 use Rattle.order.specs.declared.Row.{Row}
 use Rattle.order.specs.Rows.{rowsFrom}
@@ -18,14 +18,18 @@ use Rattle.order.specs.Icons.{partsOf}
 use Rattle.places.specs.declared.Family.the-variants as family
 use Rattle.ids.proofs.TypedTells.{same-ids, no-list}
 use Rattle.body.specs.Bodies.{Body, windowFields, bodyOf}
+use Rattle.body.specs.Stores.{roomAll}
 use Rattle.layout.specs.Valid.{ValidFields, ValidBody}
 use Rattle.layout.specs.Layouts.{pictureSize, olderFields, newerFields, olderOf, newerOf, recordBytes, pictureBytes, KeepsRecord, PartsTell}
 use Rattle.layout.proofs.LayoutsLossless.{keeps-record}
 use Rattle.layout.proofs.LayoutsParts.{valid-older, valid-newer, parts-tell, keeps-older, keeps-newer}
 use Rattle.shown.specs.Shown.{isThere, shownBytes}
-use Rattle.session.specs.Calls.{listed, body, picture, ids, shared}
-use Rattle.session.specs.Outcome.{firstThere, secondThere, listedBytes, payloadBytes}
-use Rattle.model.specs.Lossless.{ValidPicture, ValidShown, nothing-shown, shown, absent, window, notification, cell, desktop, windows, notifications, shares, LayoutLosesNothing}
+use Rattle.figure.specs.declared.Figure.{Figure}
+use Rattle.figure.specs.Figure.{pixelsOf, figureBytes}
+use Rattle.session.specs.TableFigure.{unmarked}
+use Rattle.session.specs.Calls.{listed, desktop, picture, ids, shared}
+use Rattle.session.specs.Outcome.{firstThere, secondThere, pixelsSize, listedBytes, payloadBytes}
+use Rattle.model.specs.Lossless.{ValidPicture, ValidShown, ValidFigure, nothing-shown, shown, absent, window, notification, cell, desktopState, windows, notifications, shares, LayoutLosesNothing}
 
 -- ---- lists one after the other, the first as long as the other's first
 
@@ -35,11 +39,30 @@ tells a b x y l e = (
   sym (drop-append-seam a x) ∙ ap (drop (length a)) e ∙ ap (λ (n : ℕ). drop n (b ++ y)) l ∙ drop-append-seam b y,
 )
 
+-- ---- a number by its bytes, and a figure
+
+same-number : (w v u : ℕ) → fitsIn w v ≡ true → fitsIn w u ≡ true → bytesOf w v ≡ bytesOf w u → v ≡ u
+same-number w v u a b e =
+    let room : 0 + w ≤ length (replicate {A = ℕ} w 0) = omega (arith, length-replicate {A = ℕ} w 0) in
+    sym (num-put w (replicate w 0) 0 v room a) ∙ ap (λ (x : List ℕ). numAt w (splice (replicate w 0) 0 x) 0) e ∙ num-put w (replicate w 0) 0 u room b
+
+abbrev figure : ℕ → ℕ → Figure
+figure m n = record { windows = m; pixels = n }
+
+same-figure : (f g : Figure) → ValidFigure f → ValidFigure g → figureBytes f ≡ figureBytes g → f ≡ g
+unfolding figureBytes
+same-figure f g v w e =
+    let t =
+    tells (bytesOf 4 (f .windows)) (bytesOf 4 (g .windows)) (bytesOf 8 (f .pixels)) (bytesOf 8 (g .pixels))
+    (length-bytes 4 (f .windows) ∙ sym (length-bytes 4 (g .windows))) e in
+    ap₂ figure (same-number 4 (f .windows) (g .windows) (v .windows) (w .windows) (t .0))
+    (same-number 8 (f .pixels) (g .pixels) (v .pixels) (w .pixels) (t .1))
+
 -- ---- records: one is read back from its bytes, so the bytes tell it; it has some
 
 module _ (low high m n : ℕ) (b : Body) (v : ValidBody (rowsFrom low high) m n b) where
-  some-bytes : recordBytes (rowsFrom low high) b ≡ [] → ⊥
-  some-bytes e = omega (arith, ap (λ (x : List ℕ). length x) e, keeps-record low high m n b v .long)
+  some-before : (more : List ℕ) → recordBytes (rowsFrom low high) b ++ more ≡ [] → ⊥
+  some-before more e = omega (arith, ap (λ (x : List ℕ). length x) e, keeps-record low high m n b v .long, length-append (recordBytes (rowsFrom low high) b) more)
 
   module _ (c : Body) (w : ValidBody (rowsFrom low high) m n c) where
     as-long : length (recordBytes (rowsFrom low high) b) ≡ length (recordBytes (rowsFrom low high) c)
@@ -179,9 +202,18 @@ module _ (fs : List (List ℕ)) (v : ValidFields windowFields fs) (x y z : Optio
   newer-kept : KeepsRecord newerFields (newer fs z)
   newer-kept = keeps-newer 1 0 (newer fs z) (record { first = mark-low z; second = omega arith; fields = valid-newer fs v })
 
-  some-window : windowBytes fs x y z ≡ [] → ⊥
-  some-window e =
-      omega (arith, ap (λ (b : List ℕ). length b) e, older-kept .long, length-append (recordBytes olderFields (older fs x y)) (shownAll (x ∷ y ∷ []) ++ behind fs z))
+  last-long : length (shownAll (z ∷ [])) ≡ pictureSize
+  unfolding flatten
+  last-long = length-append (shownBytes z) [] ∙ omega (arith, length-shown z)
+
+  window-long : length (windowBytes fs x y z) ≡ (2 + roomAll olderFields) + ((pictureSize + pictureSize) + ((2 + roomAll newerFields) + pictureSize))
+  window-long =
+      length-append (recordBytes olderFields (older fs x y)) (shownAll (x ∷ y ∷ []) ++ behind fs z)
+      ∙ omega (arith, older-kept .long, length-append (shownAll (x ∷ y ∷ [])) (behind fs z), two-long x y, length-append (recordBytes newerFields (newer fs z)) (shownAll (z ∷ [])), newer-kept .long, last-long)
+
+  -- its pixels after it
+  some-window : (more : List ℕ) → windowBytes fs x y z ++ more ≡ [] → ⊥
+  some-window more e = omega (arith, ap (λ (b : List ℕ). length b) e, window-long, length-append (windowBytes fs x y z) more)
 
 module _ (fs gs : List (List ℕ)) (v : ValidFields windowFields fs) (w : ValidFields windowFields gs) (x y z a b c : Option (List ℕ))
     (e : windowBytes fs x y z ≡ windowBytes gs a b c) where
@@ -217,6 +249,15 @@ module _ (fs gs : List (List ℕ)) (v : ValidFields windowFields fs) (w : ValidF
       let u = icon-tells z c [] [] vz vc (ap (λ (k : Body). k .first) same-newer) (in-newer .1) in
       ap₂ (λ (m : Option (List ℕ)) (ms : List (Option (List ℕ))). m ∷ ms) (s .0) (ap₂ (λ (m n : Option (List ℕ)). m ∷ n ∷ []) (t .0) (u .0))
 
+-- with its pixels after it
+abbrev pixelsAfter : List (List ℕ) → List ℕ
+pixelsAfter fs = bytesOf pixelsSize (pixelsOf (unmarked fs))
+
+before-pixels : (fs gs : List (List ℕ)) → ValidFields windowFields fs → ValidFields windowFields gs → (x y z a b c : Option (List ℕ))
+    → windowBytes fs x y z ++ pixelsAfter fs ≡ windowBytes gs a b c ++ pixelsAfter gs → windowBytes fs x y z ≡ windowBytes gs a b c
+before-pixels fs gs v w x y z a b c e =
+    tells (windowBytes fs x y z) (windowBytes gs a b c) (pixelsAfter fs) (pixelsAfter gs) (window-long fs v x y z ∙ sym (window-long gs w a b c)) e .0
+
 -- ---- whether two share
 
 same-shared : (b c : Bool) → _≡_ {A = List ℕ} (pick b 1 0 ∷ []) (pick c 1 0 ∷ []) → b ≡ c
@@ -231,9 +272,9 @@ no-shared n e = omega (arith, ap (λ (x : List ℕ). length x) e)
 pub layout-loses-nothing : LayoutLosesNothing
 unfolding LayoutLosesNothing payloadBytes listedBytes flatten
 layout-loses-nothing target p q absent absent e = refl
-layout-loses-nothing target p q absent (window {fs = gs} {small = x} {big = y} {overlay = z} w a b c) e = absurd (some-window gs w x y z (sym e))
+layout-loses-nothing target p q absent (window {fs = gs} {small = x} {big = y} {overlay = z} w a b c) e = absurd (some-window gs w x y z (pixelsAfter gs) (sym e))
 layout-loses-nothing target p q absent (notification {fs = gs} {icon = x} w a) e = absurd (some-listed 23 29 (x ∷ []) gs w (sym e))
-layout-loses-nothing target p q absent (desktop {b = c} w) e = absurd (some-bytes 29 31 1 1 c w (sym e))
+layout-loses-nothing target p q absent (desktopState {b = c} {f = g} w y) e = absurd (some-before 29 31 1 1 c w (figureBytes g) (sym e))
 layout-loses-nothing target p q absent (cell {p = x} w) e = absurd (no-picture x (sym e))
 layout-loses-nothing target p q absent (windows {ks = js} w) e = absurd (no-list family.Windows js (sym e))
 layout-loses-nothing target p q absent (notifications {ks = js} w) e = absurd (no-list family.Notifications js (sym e))
@@ -243,15 +284,18 @@ layout-loses-nothing target p q (windows {ks = ks} v) (windows {ks = js} w) e = 
 layout-loses-nothing target p q (notifications {ks = ks} v) absent e = absurd (no-list family.Notifications ks e)
 layout-loses-nothing target p q (notifications {ks = ks} v) (notifications {ks = js} w) e =
     ap (ids family.Notifications) (same-ids family.Notifications ks js v w e)
-layout-loses-nothing target p q (window {fs = fs} {small = x} {big = y} {overlay = z} v a b c) absent e = absurd (some-window fs v x y z e)
+layout-loses-nothing target p q (window {fs = fs} {small = x} {big = y} {overlay = z} v a b c) absent e = absurd (some-window fs v x y z (pixelsAfter fs) e)
 layout-loses-nothing target p q (window {fs = fs} {small = x} {big = y} {overlay = z} v a b c) (window {fs = gs} {small = k} {big = l} {overlay = m} w d f g) e =
-    ap₂ (listed family.Windows) (window-fields fs gs v w x y z k l m e) (window-icons fs gs v w x y z k l m e a b c d f g)
+    let t = before-pixels fs gs v w x y z k l m e in
+    ap₂ (listed family.Windows) (window-fields fs gs v w x y z k l m t) (window-icons fs gs v w x y z k l m t a b c d f g)
 layout-loses-nothing target p q (notification {fs = fs} {icon = x} v a) absent e = absurd (some-listed 23 29 (x ∷ []) fs v e)
 layout-loses-nothing target p q (notification {fs = fs} {icon = x} v a) (notification {fs = gs} {icon = z} w c) e =
     let t = icon-tells x z [] [] a c (same-first 23 29 (x ∷ []) fs v (z ∷ []) gs w e) (listed-tells 23 29 (x ∷ []) fs v (z ∷ []) gs w e .1) in
     ap₂ (listed family.Notifications) (same-fields 23 29 (x ∷ []) fs v (z ∷ []) gs w e) (ap (λ (m : Option (List ℕ)). m ∷ []) (t .0))
-layout-loses-nothing target p q (desktop {b = b} v) absent e = absurd (some-bytes 29 31 1 1 b v e)
-layout-loses-nothing target p q (desktop {b = b} v) (desktop {b = c} w) e = ap body (same-body 29 31 1 1 b v c w e)
+layout-loses-nothing target p q (desktopState {b = b} {f = f} v x) absent e = absurd (some-before 29 31 1 1 b v (figureBytes f) e)
+layout-loses-nothing target p q (desktopState {b = b} {f = f} v x) (desktopState {b = c} {f = g} w y) e =
+    let t = tells (recordBytes (rowsFrom 29 31) b) (recordBytes (rowsFrom 29 31) c) (figureBytes f) (figureBytes g) (as-long 29 31 1 1 b v c w) e in
+    ap₂ desktop (same-body 29 31 1 1 b v c w (t .0)) (same-figure f g x y (t .1))
 layout-loses-nothing target p q (cell {p = x} v) absent e = absurd (no-picture x e)
 layout-loses-nothing target p q (cell {p = x} v) (cell {p = y} w) e = ap picture (same-picture x y v w e)
 layout-loses-nothing target p q (shares {b = b}) absent e = absurd (no-shared (pick b 1 0) e)

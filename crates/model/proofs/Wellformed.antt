@@ -15,7 +15,7 @@ use Rattle.journal.specs.State.{State, present, bytesIn}
 use Rattle.journal.specs.View.{Memory, tooShort, wellFormed, stateOf, View, short, unformed, formed, viewOf}
 use Rattle.journal.proofs.Runs.{bytes-append}
 use Rattle.journal.proofs.Fits.{fits}
-use Rattle.session.specs.Calls.{Call, reset, deliver, checkpoint, undo, look, writeRecord, Payload, nothing, listed, body, picture, ids, orders, shared, refuse, grant, overFull, without, payloadIn, found, isReset, answer, answerView, nextView, next}
+use Rattle.session.specs.Calls.{Call, reset, deliver, checkpoint, undo, look, writeRecord, Payload, nothing, listed, desktop, picture, ids, orders, shared, refuse, grant, overFull, without, payloadIn, found, isReset, answer, answerView, nextView, next}
 use Rattle.session.specs.Outcome.{Response, plain, replied, responseOf, answerWithin, outAfter}
 use Rattle.model.specs.Wellformed.{Meets, emptiedState, EmptyingGranted, EmptiedMeets, CallsKeep, OneState, OnlyMeets, Fits, RepliesFit}
 use Rattle.model.proofs.Demand3.{moved, emptied-view}
@@ -134,7 +134,7 @@ module _ (s : State) (few : length (s .log) ≤ mostOrders) (bytes : bytesIn (s 
   found-fits : (p : Payload) → Fits (found (s .log) p)
   found-fits nothing = refused-fits 9
   found-fits (listed f fs ps) = (few, bytes)
-  found-fits (body b) = (few, bytes)
+  found-fits (desktop b f) = (few, bytes)
   found-fits (picture p) = (few, bytes)
   found-fits (ids f ks) = (few, bytes)
   found-fits (orders os) = (few, bytes)

@@ -15,7 +15,8 @@ use Rattle.table.specs.Table.{Table, emptied, number, after}
 use Rattle.table.specs.Memory.{fixedBy}
 use Rattle.journal.specs.Limits.{mostOrders, mostBytes}
 use Rattle.session.specs.declared.LookupTarget.the-variants.{Window, Notification, Cell, Desktop, Windows, Notifications, Shares}
-use Rattle.session.specs.Calls.{Call, reset, deliver, checkpoint, undo, look, writeRecord, Payload, nothing, listed, body, picture, ids, orders, shared, Answer, cellNumber, holderOf, iconsShown}
+use Rattle.session.specs.TableFigure.{figureIn}
+use Rattle.session.specs.Calls.{Call, reset, deliver, checkpoint, undo, look, writeRecord, Payload, nothing, listed, desktop, picture, ids, orders, shared, Answer, cellNumber, holderOf, iconsShown}
 
 -- how many places emptying fixed, and a list of standing orders with a mark in it: those up to the mark, and those after it
 pub record Book : Type 0 where
@@ -93,7 +94,7 @@ bookAnswer (undo k) b = pick (leb k (length (b .new))) (says 0 (lastGone k b) no
 bookAnswer (look (Window w)) b = givesRecord b family.Windows (w .id) 0
 bookAnswer (look (Notification w n)) b = givesRecord b family.Notifications (w .id) (n .id)
 bookAnswer (look (Cell cache entry)) b = givesPicture b (tableOf b .shown (cell (cellNumber cache entry)))
-bookAnswer (look Desktop) b = says 0 b (body (tableOf b .desktop))
+bookAnswer (look Desktop) b = says 0 b (desktop (tableOf b .desktop) (figureIn (tableOf b)))
 bookAnswer (look Windows) b = says 0 b (ids family.Windows (idsIn (tableOf b .index) family.Windows))
 bookAnswer (look Notifications) b = says 0 b (ids family.Notifications (idsIn (tableOf b .index) family.Notifications))
 bookAnswer (look (Shares g k)) b = givesShared b (holderOf g) (holderOf k)

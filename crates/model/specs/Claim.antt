@@ -5,7 +5,7 @@ use mathlib.Core.Path.{_≡_}
 use mathlib.Core.Bool.{false}
 use mathlib.Core.List.{List, [], _∷_, map}
 use lib.ListN.{length, drop}
-use Rattle.index.specs.Families.{indexLength}
+use Rattle.figure.specs.Kept.{keptLength}
 use Rattle.store.specs.Store.{placesIn}
 use Rattle.store.specs.Kept.{pastPlaces}
 use Rattle.table.specs.Memory.{bodiesLength, fixedBy}
@@ -29,7 +29,7 @@ pub data Calls : Memory → List Step → List Said → Memory → Type 0 where
 -- over a list of calls: the bytes past the needed lengths, the lengths of the store's parts and what lies past their whole places are
 -- as they were
 pub record PastCalls (m m' : Memory) : Type 0 where
-  pub index : drop indexLength (m' .index) ≡ drop indexLength (m .index)
+  pub index : drop keptLength (m' .index) ≡ drop keptLength (m .index)
   pub bodies : drop bodiesLength (m' .bodies) ≡ drop bodiesLength (m .bodies)
   pub lengths : map length (m' .store) ≡ map length (m .store)
   pub store : pastPlaces (m' .store) ≡ pastPlaces (m .store)

@@ -3,26 +3,26 @@ use Prim.Native.Nat.{ℕ, _+_}
 use mathlib.Core.Path.{_≡_}
 use mathlib.Core.List.{List, [], _∷_}
 use lib.ListN.{getD}
-use Rattle.layout.specs.Layouts.{newerStart, newerSize, notificationSize, desktopSize, pictureSize}
+use Rattle.layout.specs.Layouts.{notificationSize, desktopSize, pictureSize}
 use Rattle.chunk.specs.Memory.{memorySize}
 use Rattle.ids.specs.Ids.{listSize}
-use Rattle.index.specs.Families.{indexLength}
 use Rattle.store.specs.Store.{placeLength}
 use Rattle.table.specs.Memory.{bodiesLength}
 use Rattle.journal.specs.Limits.{journalLength}
 use Rattle.journal.specs.View.{Memory, viewOf, Past}
 use Rattle.record.specs.Layout.{mostRecord}
 use Rattle.session.specs.Calls.{answerView, nextView}
-use Rattle.session.specs.Outcome.{Request, Response, responseOf}
+use Rattle.session.specs.Outcome.{pixelsStart, pixelsSize, Request, Response, responseOf}
 use Rattle.session.specs.Packed.{packedOf}
-use Rattle.visible.specs.Outcome.{figureLength}
+use Rattle.figure.specs.Figure.{figureLength}
+use Rattle.figure.specs.Kept.{keptLength}
 
 -- the bytes of index, bodies, a place of the store and journal, of the three records with the pictures that are handed out with them,
 -- of a picture, of the chunk memory, of the longest session record, of a list, and of a figure
 abbrev pub sizes : List ℕ
 sizes =
-    indexLength ∷ bodiesLength ∷ placeLength ∷ journalLength ∷ (newerStart + (newerSize + pictureSize))
-    ∷ (notificationSize + pictureSize) ∷ desktopSize ∷ pictureSize ∷ memorySize ∷ mostRecord ∷ listSize ∷ figureLength ∷ []
+    keptLength ∷ bodiesLength ∷ placeLength ∷ journalLength ∷ (pixelsStart + pixelsSize)
+    ∷ (notificationSize + pictureSize) ∷ (desktopSize + figureLength) ∷ pictureSize ∷ memorySize ∷ mostRecord ∷ listSize ∷ figureLength ∷ []
 
 unfoldable pub sizeOf : ℕ → ℕ
 sizeOf what = getD sizes what 0

@@ -27,14 +27,14 @@ pub extern "C" fn rail_size(what: u32) -> u32
         1 => session::BODIES as u32,
         2 => store::PLACE as u32,
         3 => session::JOURNAL as u32,
-        4 => (layout::WINDOW + layout::NEWER + 3 * layout::PICTURE) as u32,
+        4 => session::lookups::WINDOW as u32,
         5 => (layout::NOTIFICATION + layout::PICTURE) as u32,
-        6 => layout::DESKTOP as u32,
+        6 => session::lookups::DESKTOP as u32,
         7 => layout::PICTURE as u32,
         8 => chunk::MEMORY as u32,
         9 => record::MOST as u32,
         10 => ids::LENGTH as u32,
-        11 => visible::LENGTH as u32,
+        11 => figure::BYTES as u32,
         _ => 0,
     }
 }

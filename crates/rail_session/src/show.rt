@@ -18,7 +18,8 @@ use view::Stack;
 use view::Text;
 use view::WindowRecord;
 
-// A record is handed out with the pictures of its icons after it: two for a window, and one after its newer fields.
+// A record is handed out with the pictures of its icons after it: two for a window, and one after its newer fields; a window's pixels
+// and the desktop's figure stand at the very end.
 const SMALL: usize = layout::WINDOW;
 
 const BIG: usize = SMALL + layout::PICTURE;
@@ -27,8 +28,19 @@ const ICON: usize = layout::NOTIFICATION;
 
 const OVERLAY: usize = BIG + layout::PICTURE + layout::NEWER;
 
+const PIXELS: usize = OVERLAY + layout::PICTURE;
+
+const SHOWN: usize = layout::DESKTOP;
+
+const PIXELS_LOW: usize = SHOWN + 4;
+
+const PIXELS_HIGH: usize = PIXELS_LOW + 4;
+
+// The numbers of 4 bytes.
+const HALF: u64 = 4294967296;
+
 // The most bytes that a lookup hands out.
-pub(crate) const FOUND: usize = OVERLAY + layout::PICTURE;
+pub(crate) const FOUND: usize = session::lookups::WINDOW;
 
 fn point(out: &mut [u8], at: usize, name: &[u8], p: Point) -> usize {
     let n = text(out, at, name);
@@ -141,7 +153,8 @@ fn window_record(out: &mut [u8], at: usize, id: WindowId, bytes: &[u8; FOUND]) -
     let n = field(out, at, b" id=", id.id as u64);
     let n = window_looks(out, n, w);
     let n = window_places(out, n, w);
-    window_icons(out, n, w, bytes)
+    let n = window_icons(out, n, w, bytes);
+    field(out, n, b" pixels=", wire::read_u32(bytes, PIXELS) as u64)
 }
 
 fn notification_tip(out: &mut [u8], at: usize, r: NotificationRecord) -> usize {
@@ -201,11 +214,24 @@ fn stack(out: &mut [u8], at: usize, s: Stack) -> usize {
     listed(out, n, &list, s.count as usize)
 }
 
-fn desktop_record(out: &mut [u8], at: usize, d: DesktopRecord) -> usize {
+fn desktop_fields(out: &mut [u8], at: usize, d: DesktopRecord) -> usize {
     let n = field(out, at, b" active=", d.active.id as u64);
     let n = field(out, n, b" hooked=", yes_number(d.hooked));
     let n = field(out, n, b" syncing=", yes_number(d.syncing));
     stack(out, n, d.stack)
+}
+
+// The windows that are shown, and their pixels.
+fn figure(out: &mut [u8], at: usize, bytes: &[u8; FOUND]) -> usize {
+    let n = field(out, at, b" shown=", wire::read_u32(bytes, SHOWN) as u64);
+    let low = wire::read_u32(bytes, PIXELS_LOW) as u64;
+    let high = wire::read_u32(bytes, PIXELS_HIGH) as u64;
+    field(out, n, b" pixels=", low + HALF * high)
+}
+
+fn desktop_record(out: &mut [u8], at: usize, bytes: &[u8; FOUND]) -> usize {
+    let n = desktop_fields(out, at, view::desktop(bytes));
+    figure(out, n, bytes)
 }
 
 // The kind and the number, and for a granted call the count and the bytes.
@@ -224,7 +250,7 @@ fn record(out: &mut [u8], at: usize, target: LookupTarget, bytes: &[u8; FOUND]) 
         LookupTarget::Window(w) => window_record(out, at, w, bytes),
         LookupTarget::Notification(w, n) => notification_record(out, at, w, n, bytes),
         LookupTarget::Cell(_, _) => pictures::cell(out, at, bytes),
-        LookupTarget::Desktop => desktop_record(out, at, view::desktop(bytes)),
+        LookupTarget::Desktop => desktop_record(out, at, bytes),
         LookupTarget::Windows | LookupTarget::Notifications => at,
         LookupTarget::Shares(_, _) => field(out, at, b" shared=", wire::read_u8(bytes, 0) as u64),
     }

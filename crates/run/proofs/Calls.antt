@@ -14,7 +14,8 @@ use Rattle.wire.specs.Parts.{splice}
 use Rattle.wire.specs.Numbers.{numAt, bytesOf}
 use Rattle.wire.proofs.Parts.{splice-start, splice-after}
 use Rattle.wire.proofs.Numbers.{length-bytes}
-use Rattle.layout.specs.Layouts.{windowSize, newerSize, notificationSize, desktopSize, pictureSize}
+use Rattle.layout.specs.Layouts.{notificationSize, desktopSize, pictureSize}
+use Rattle.figure.specs.Figure.{figureLength}
 use Rattle.ids.specs.Ids.{listSize}
 use Rattle.journal.specs.View.{Memory}
 use Rattle.record.specs.Layout.{mostRecord}
@@ -24,7 +25,7 @@ use Rattle.session.specs.declared.LookupTarget.{LookupTarget}
 use Rattle.session.specs.declared.LookupTarget.the-variants.{Window, Notification, Cell, Desktop, Windows, Notifications, Shares}
 use Rattle.session.specs.Calls.{Call, reset, deliver, checkpoint, undo, look, writeRecord}
 use Rattle.session.specs.Holders.{holderFrom}
-use Rattle.session.specs.Outcome.{Response, replied, handed, neededFor, CallOutcome}
+use Rattle.session.specs.Outcome.{pixelsStart, pixelsSize, Response, replied, handed, neededFor, CallOutcome}
 use Rattle.session.specs.Packed.{packedOf}
 use Rattle.update.specs.declared.Report.{Report}
 use Rattle.update.specs.Outcome.{UpdateOutcome}
@@ -159,7 +160,7 @@ module _ (kind : ℕ) where
   pub length-record : kind ≡ recordKind → TakesOne kind (4 + mostRecord)
   length-record e = record { takes = λ lent arg. ap oneLength (sym (is-record lent kind arg e)) }
 
-  pub length-window : kind ≡ 4 → TakesOne kind (4 + windowSize + newerSize + 3 * pictureSize)
+  pub length-window : kind ≡ 4 → TakesOne kind (4 + (pixelsStart + pixelsSize))
   unfolding targetOf
   length-window e = length-look (omega (arith, e)) (λ x. omega (arith, e, x)) (λ arg. rw e)
 
@@ -184,7 +185,7 @@ module _ (kind : ℕ) where
   length-shares e = length-look (omega (arith, e)) (λ x. omega (arith, e, x)) (λ arg. rw e)
 
   pub length-desktop : 4 ≤ kind → (kind ≡ 4 → ⊥) → (kind ≡ 5 → ⊥) → (kind ≡ 6 → ⊥) → (kind ≡ recordKind → ⊥) → (kind ≡ 10 → ⊥) → (kind ≡ 11 → ⊥) → (kind ≡ 12 → ⊥)
-      → TakesOne kind (4 + desktopSize)
+      → TakesOne kind (4 + (desktopSize + figureLength))
   unfolding targetOf
   length-desktop l a b c r d e f =
       length-look l r (λ arg. rw (ne-eqb kind 4 a, ne-eqb kind 5 b, ne-eqb kind 6 c, ne-eqb kind 10 d, ne-eqb kind 11 e, ne-eqb kind 12 f))

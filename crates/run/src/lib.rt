@@ -122,7 +122,7 @@ fn single_length(kind: u8) -> usize
         return 4;
     }
     if kind == 4 {
-        return 4 + layout::WINDOW + layout::NEWER + 3 * layout::PICTURE;
+        return 4 + session::lookups::WINDOW;
     }
     if kind == 5 {
         return 4 + layout::NOTIFICATION + layout::PICTURE;
@@ -142,7 +142,7 @@ fn single_length(kind: u8) -> usize
     if kind == 12 {
         return 5;
     }
-    4 + layout::DESKTOP
+    4 + session::lookups::DESKTOP
 }
 
 // The bytes that the block of a call takes.

@@ -14,7 +14,7 @@ use Rattle.wire.proofs.Parts.{drop-splice}
 use Rattle.places.specs.Memory.{placesOf}
 use Rattle.store.specs.Store.{placesIn}
 use Rattle.table.specs.Table.{Table, emptied}
-use Rattle.table.specs.Memory.{fixedBy, soundTable}
+use Rattle.table.specs.Memory.{fixedBy, decode, soundTable}
 use Rattle.table.specs.Outcome.{StoreKept, PastKept, Emptied}
 use Rattle.table.proofs.Past.{same-store}
 use Rattle.table.proofs.Changed.{as-many-places}
@@ -25,42 +25,46 @@ use Rattle.journal.specs.Journal.{endFrom, withinFrom}
 use Rattle.journal.specs.View.{Memory, memory, tooShort, wellFormed, formed, viewOf}
 use Rattle.journal.specs.Replay.{Applied}
 use Rattle.journal.proofs.Logged.{LongIn, Logged, markedIn, withJournal, logged-none, logged-take, logged-within, logged-orders, logged-low, logged-high, past-counted}
+use Rattle.journal.proofs.Front.{past-kept, FiguresKept, figures-kept}
 use Rattle.session.specs.declared.Reply.{Reply}
+use Rattle.session.specs.Mark.{MarkSet}
 use Rattle.session.specs.Calls.{Call, reset, checkpoint, undo, nothing, refuse, grant, answer, next, answerView, nextView}
 use Rattle.session.specs.Outcome.{plain, replied, sizeFor, bytesFor, replyOf, CallOutcome}
 use Rattle.session.proofs.Outcomes.{answer-in, next-in, refused-in, granted}
 
-abbrev pub nothingStands : Reply
-nothingStands = record { number = 0; count = 0; bytes = 0 }
+-- ---- a table with its figures, and no orders after it
 
--- ---- a table with no orders after it
+module _ (m : Memory) (l : LongIn m) {x b : List ℕ} (same-x : length x ≡ length (m .index)) (same-b : length b ≡ length (m .bodies)) {y j : List ℕ}
+    {r : Reply} (set : MarkSet x b (m .journal) r y j) where
+  -- its figures stand behind its index
+  kept : FiguresKept x b y
+  kept = figures-kept x b (omega (arith, same-x, l .index)) (set .bytes) (set .index)
 
-module _ (m : Memory) (l : LongIn m) {x b : List ℕ} (same-x : length x ≡ length (m .index)) (same-b : length b ≡ length (m .bodies)) {j : List ℕ}
-    (put : j ≡ splice (m .journal) 0 (bytesOf 2 0)) where
   -- with the table t at the mark
-  restarted : (c : Call) {t : Table} {p : List (List ℕ)} {r : Reply} → sizeFor c nothing ≡ 0 → bytesFor c nothing ≡ [] → markedIn (memory x b p j) ≡ t
+  restarted : (c : Call) {t : Table} {p : List (List ℕ)} → sizeFor c nothing ≡ 0 → bytesFor c nothing ≡ [] → decode x b p ≡ t
       → soundTable x b (placesIn p) ≡ true → PastKept (m .index) (m .bodies) x b → StoreKept (placesOf (m .index)) (m .store) p
-      → answerView c (viewOf m) ≡ grant [] nothing → nextView c (viewOf m) ≡ formed (record { marked = t; log = [] }) → r ≡ nothingStands
-      → CallOutcome (plain c) m (replied r) (memory x b p j)
-  restarted c {t = t} {p = p} room none table sound past store a n e =
+      → answerView c (viewOf m) ≡ grant [] nothing → nextView c (viewOf m) ≡ formed (record { marked = t; log = [] })
+      → CallOutcome (plain c) m (replied r) (memory y b p j)
+  restarted c {t = t} {p = p} room none table sound past store a n =
       let n' = length-bytes 2 0 in
       let same = as-many-places store in
-      let parts : LongIn (memory x b p (m .journal)) =
-      record { index = omega (arith, same-x, l .index); bodies = omega (arith, same-b, l .bodies); places = omega (arith, same, l .places); journal = l .journal } in
-      let log : Logged (memory x b p j) (record { count = 0; end = logStart }) [] = rw put (logged-none x b p (m .journal) parts sound) in
-      granted c room none log a (n ∙ ap (λ (t : Table). formed (record { marked = t; log = [] })) (sym table)) e
+      let parts : LongIn (memory y b p (m .journal)) =
+      record { index = omega (arith, kept .long, same-x, l .index); bodies = omega (arith, same-b, l .bodies); places = omega (arith, same, l .places); journal = l .journal } in
+      let log : Logged (memory y b p j) (record { count = 0; end = logStart }) [] =
+      rw (set .journal) (logged-none y b p (m .journal) parts (kept .sound (placesIn p) sound) (kept .figures)) in
+      granted c room none log a (n ∙ ap (λ (t : Table). formed (record { marked = t; log = [] })) (sym (kept .table p ∙ table))) (set .reply)
       (record {
-        index = past .index;
+        index = kept .past ∙ past-kept past;
         bodies = past .bodies;
         store = store;
-        journal = ap (drop journalLength) put ∙ drop-splice (m .journal) 0 (bytesOf 2 0) (omega (arith, l .journal)) journalLength (omega arith);
+        journal = ap (drop journalLength) (set .journal) ∙ drop-splice (m .journal) 0 (bytesOf 2 0) (omega (arith, l .journal)) journalLength (omega arith);
       })
 
-  pub reset-granted : {lent : ℕ} {r : Reply} → placesIn (m .store) ≡ lent → tooShort m ≡ false → Emptied (m .index) (m .bodies) lent x b → r ≡ nothingStands
-      → CallOutcome (plain (reset lent)) m (replied r) (memory x b (m .store) j)
-  reset-granted {lent = lent} is t e f =
+  pub reset-granted : {lent : ℕ} → placesIn (m .store) ≡ lent → tooShort m ≡ false → Emptied (m .index) (m .bodies) lent x b
+      → CallOutcome (plain (reset lent)) m (replied r) (memory y b (m .store) j)
+  reset-granted {lent = lent} is t e =
       restarted (reset lent) refl refl (e .table (m .store)) (ap (soundTable x b) is ∙ e .sound) (e .past) (same-store (placesOf (m .index)) (m .store))
-      (reset-answers t .0) (reset-answers t .1) f
+      (reset-answers t .0) (reset-answers t .1)
     where
       reset-answers : tooShort m ≡ false
           → (answerView (reset lent) (viewOf m) ≡ grant [] nothing) × (nextView (reset lent) (viewOf m) ≡ formed (record { marked = emptied (fixedBy lent); log = [] }))
@@ -71,11 +75,11 @@ module _ (m : Memory) (l : LongIn m) {x b : List ℕ} (same-x : length x ≡ len
           go true w = (unfold viewOf answerView answer in rw (t, w), unfold viewOf nextView next in rw (t, w))
           go false w = (unfold viewOf answerView in rw (t, w), unfold viewOf nextView in rw (t, w))
 
-  pub checkpoint-granted : {w : JournalExtent} {os : List (List ℕ)} {p : List (List ℕ)} {r : Reply} → Logged m w os
-      → Applied (m .index) (m .bodies) (m .store) (m .journal) (w .count) x b p → r ≡ nothingStands → CallOutcome (plain checkpoint) m (replied r) (memory x b p j)
+  pub checkpoint-granted : {w : JournalExtent} {os : List (List ℕ)} {p : List (List ℕ)} → Logged m w os
+      → Applied (m .index) (m .bodies) (m .store) (m .journal) (w .count) x b p → CallOutcome (plain checkpoint) m (replied r) (memory y b p j)
   unfolding answer next
-  checkpoint-granted g a f =
-      restarted checkpoint refl refl (a .table ∙ ap (run (markedIn m)) (logged-orders g)) (a .sound) (a .past) (a .store) (answer-in g checkpoint) (next-in g checkpoint) f
+  checkpoint-granted g a =
+      restarted checkpoint refl refl (a .table ∙ ap (run (markedIn m)) (logged-orders g)) (a .sound) (a .past) (a .store) (answer-in g checkpoint) (next-in g checkpoint)
 
 -- ---- fewer orders
 

@@ -9,7 +9,7 @@ use lib.Dec.{eqb, leb}
 use lib.ListN.{length}
 use borrow.Author.Tests.{lt-ltb, le-ltb, eq-eqb}
 use Rattle.wire.specs.Tests.{pick, both}
-use Rattle.wire.specs.Numbers.{numAt}
+use Rattle.wire.specs.Numbers.{numAt, Bytes}
 use Rattle.wire.specs.Parts.{splice}
 use Rattle.wire.proofs.Tests.{both-right}
 use Rattle.wire.proofs.Parts.{length-slice}
@@ -23,29 +23,34 @@ use Rattle.index.specs.Memory.{indexOf}
 use Rattle.index.proofs.Ways.{sound-long}
 use Rattle.store.specs.Store.{placesIn}
 use Rattle.ids.specs.Ids.{idsIn}
+use Rattle.figure.specs.declared.Figure.{Figure}
 use Rattle.body.specs.Bodies.{windowFields, notificationFields, desktopFields, fieldsOk, bodyOk}
 use Rattle.table.specs.Table.{Table}
 use Rattle.table.specs.Memory.{shownIn}
 use Rattle.table.proofs.Rule.{table-has}
+use Rattle.follow.specs.declared.Want.{Want}
 use Rattle.follow.specs.declared.Want.the-variants as want
 use Rattle.follow.specs.Follow.{originsLength, roomFor, heldSlot, heldOrigins, originAt, presentPictures, PicturesHeld, Holds}
 use Rattle.shown.specs.Shown.{Ready}
 use Rattle.journal.specs.declared.JournalExtent.{JournalExtent}
 use Rattle.journal.specs.Limits.{logStart, journalLength}
-use Rattle.journal.specs.Journal.{sizeAt}
+use Rattle.journal.specs.Journal.{countOf, sizeAt, logOf}
 use Rattle.journal.specs.State.{run}
-use Rattle.journal.specs.View.{Memory, viewOf}
-use Rattle.journal.specs.Replay.{markedPictures, sincePictures, headIsOk}
+use Rattle.journal.specs.View.{Memory, meetsRule, stateOf, viewOf}
+use Rattle.journal.specs.Replay.{extentOf, markedPictures, sincePictures, headIsOk, Validation}
 use Rattle.journal.proofs.Logged.{markedIn, logged-view}
-use Rattle.journal.proofs.Indexed.{Indexed, Followed}
+use Rattle.journal.proofs.Indexed.{Indexed, Followed, indexed}
 use Rattle.session.specs.declared.Reply.{Reply}
 use Rattle.session.specs.declared.LookupTarget.{LookupTarget}
 use Rattle.session.specs.declared.LookupTarget.the-variants.{Window, Notification, Cell, Desktop, Windows, Notifications, Shares}
 use Rattle.session.specs.Calls.{look, nothing, ids, shared, refuse, grant, aPicture, cellNumber, holderOf, payloadIn, found, answer, next, answerView, nextView}
 use Rattle.session.specs.Outcome.{lookup, handed, layoutSize, replyOf, answerWithin, outAfter, responseOf, CallOutcome}
+use Rattle.session.specs.TableFigure.{figureIn}
+use Rattle.session.specs.PresentFigure.{Followable, figureHeld, noFigure, figureFor, PresentHasFigure}
 use Rattle.session.specs.Targets.{wantOf, listedIn, payloadHeld}
 use Rattle.session.specs.Handing.{picturesFor, bytesHeld, validHeld, ReadyFor, HandsOut}
 use Rattle.session.proofs.Targets.{shares-by}
+use Rattle.session.proofs.PresentFigure.{present-has-figure}
 use Rattle.session.proofs.Handed.{cell-some}
 use Rattle.session.proofs.Outcomes.{answer-in, next-in, refused-in, reply-in, stays}
 
@@ -73,7 +78,17 @@ fields-of rows slot x y e =
 
 -- ---- on a table
 
-module _ (t : Table) (x m : List ℕ) (marked since : ℕ → List ℕ) (ok : ℕ → Bool) (same : indexOf x ≡ t .index) where
+-- a figure is that of the table, where the target is the desktop state
+unfoldable pub FigureGoes : LookupTarget → Figure → Table → Type 0
+FigureGoes (Window w) f t = Unit {0}
+FigureGoes (Notification w n) f t = Unit {0}
+FigureGoes (Cell cache entry) f t = Unit {0}
+FigureGoes Desktop f t = f ≡ figureIn t
+FigureGoes Windows f t = Unit {0}
+FigureGoes Notifications f t = Unit {0}
+FigureGoes (Shares g k) f t = Unit {0}
+
+module _ (t : Table) (x m : List ℕ) (f : Figure) (marked since : ℕ → List ℕ) (ok : ℕ → Bool) (same : indexOf x ≡ t .index) where
   -- 9
   absent : (target : LookupTarget) → listedIn target (t .index) ≡ false → Holds (wantOf target) t x m marked since ok → payloadIn target t ≡ nothing
   unfolding payloadIn listedIn wantOf Holds
@@ -89,41 +104,85 @@ module _ (t : Table) (x m : List ℕ) (marked since : ℕ → List ℕ) (ok : �
   absent Notifications e h = clash e
   absent (Shares g k) e h = rw e
 
-  -- what is listed is held
+  -- what is listed is held, with the figure of the table where that is handed out
   record Held (target : LookupTarget) : Type 0 where
-    payload : payloadIn target t ≡ payloadHeld target x m (presentPictures marked since (heldOrigins (wantOf target) m))
+    payload : payloadIn target t ≡ payloadHeld target x m f (presentPictures marked since (heldOrigins (wantOf target) m))
     valid : validHeld target m ≡ true
 
-  held-in : (target : LookupTarget) → listedIn target (t .index) ≡ true → Holds (wantOf target) t x m marked since ok → Held target
-  unfolding payloadIn listedIn wantOf payloadHeld validHeld Holds
-  held-in (Window w) e h =
+  held-in : (target : LookupTarget) → listedIn target (t .index) ≡ true → FigureGoes target f t → Holds (wantOf target) t x m marked since ok → Held target
+  unfolding FigureGoes payloadIn listedIn wantOf payloadHeld validHeld Holds
+  held-in (Window w) e own h =
       record {
         payload = rw (e, h .0 .fields e, h .1 .shows (icon family.Windows (w .id) 0 0), h .1 .shows (icon family.Windows (w .id) 0 1), h .1 .shows (icon family.Windows (w .id) 0 2));
         valid = fields-of windowFields (heldSlot family.Windows m) 0 0 (h .0 .ok e);
       }
-  held-in (Notification w n) e h =
+  held-in (Notification w n) e own h =
       record {
         payload = rw (e, h .0 .fields e, h .1 .shows (icon family.Notifications (w .id) (n .id) 0));
         valid = fields-of notificationFields (heldSlot family.Notifications m) 0 0 (h .0 .ok e);
       }
-  held-in (Cell cache entry) e h = record { payload = ap aPicture (h .shows (cell (cellNumber cache entry))); valid = refl }
-  held-in Desktop e h = record { payload = rw (h .0); valid = fields-of desktopFields m 1 1 (h .1) }
-  held-in Windows e h = record { payload = ap (λ (i : Index). ids family.Windows (idsIn i family.Windows)) (sym same); valid = refl }
-  held-in Notifications e h = record { payload = ap (λ (i : Index). ids family.Notifications (idsIn i family.Notifications)) (sym same); valid = refl }
-  held-in (Shares g k) e h = record { payload = rw e (ap (λ (i : Index). shared (i .sharing .shares (holderOf g) (holderOf k))) (sym same)); valid = refl }
+  held-in (Cell cache entry) e own h = record { payload = ap aPicture (h .shows (cell (cellNumber cache entry))); valid = refl }
+  held-in Desktop e own h = record { payload = rw (h .0, own); valid = fields-of desktopFields m 1 1 (h .1) }
+  held-in Windows e own h = record { payload = ap (λ (i : Index). ids family.Windows (idsIn i family.Windows)) (sym same); valid = refl }
+  held-in Notifications e own h = record { payload = ap (λ (i : Index). ids family.Notifications (idsIn i family.Notifications)) (sym same); valid = refl }
+  held-in (Shares g k) e own h = record { payload = rw e (ap (λ (i : Index). shared (i .sharing .shares (holderOf g) (holderOf k))) (sym same)); valid = refl }
 
-payload-found : (log : List (List ℕ)) (target : LookupTarget) (x m : List ℕ) (pictures : ℕ → List ℕ) → listedIn target (indexOf x) ≡ true
-    → found log (payloadHeld target x m pictures) ≡ grant log (payloadHeld target x m pictures)
+payload-found : (log : List (List ℕ)) (target : LookupTarget) (x m : List ℕ) (f : Figure) (pictures : ℕ → List ℕ) → listedIn target (indexOf x) ≡ true
+    → found log (payloadHeld target x m f pictures) ≡ grant log (payloadHeld target x m f pictures)
 unfolding payloadHeld listedIn
-payload-found log (Window w) x m pictures e = refl
-payload-found log (Notification w n) x m pictures e = refl
-payload-found log (Cell cache entry) x m pictures e = rw (cell-some x (cellNumber cache entry) e pictures)
-payload-found log Desktop x m pictures e = refl
-payload-found log Windows x m pictures e = refl
-payload-found log Notifications x m pictures e = refl
-payload-found log (Shares g k) x m pictures e = refl
+payload-found log (Window w) x m f pictures e = refl
+payload-found log (Notification w n) x m f pictures e = refl
+payload-found log (Cell cache entry) x m f pictures e = rw (cell-some x (cellNumber cache entry) e pictures)
+payload-found log Desktop x m f pictures e = refl
+payload-found log Windows x m f pictures e = refl
+payload-found log Notifications x m f pictures e = refl
+payload-found log (Shares g k) x m f pictures e = refl
 
 -- ---- on a memory that meets the rule
+
+-- the table's own figure goes with any target
+pub own-goes : (t : Table) (target : LookupTarget) → FigureGoes target (figureIn t) t
+unfolding FigureGoes
+own-goes t (Window w) = tt
+own-goes t (Notification w n) = tt
+own-goes t (Cell cache entry) = tt
+own-goes t Desktop = refl
+own-goes t Windows = tt
+own-goes t Notifications = tt
+own-goes t (Shares g k) = tt
+
+-- and so does the one that is counted
+module _ {want : Want} {m : Memory} {d g : List ℕ} {w : JournalExtent} {x held : List ℕ} (v : Validation want m d g w x held) (some : w .end ≡ 0 → ⊥) where
+  met : meetsRule m ≡ true
+  unfolding extentOf
+  met = go (meetsRule m) refl
+    where
+      go : (b : Bool) → meetsRule m ≡ b → meetsRule m ≡ true
+      go true e = e
+      go false e = absurd (some (ap (λ (x : JournalExtent). x .end) (v .extent) ∙ rw e))
+
+  counted : w .count ≡ countOf (m .journal)
+  unfolding extentOf
+  counted = ap (λ (x : JournalExtent). x .count) (v .extent) ∙ rw met
+
+  pub figure-goes : (target : LookupTarget) → Bytes (m .journal) → Bytes x → {f : Figure} → f ≡ figureFor target x (m .index) (m .bodies) (m .journal) (w .count)
+      → FigureGoes target f (run (markedIn m) (logOf (m .journal)))
+  unfolding FigureGoes figureFor PresentHasFigure stateOf
+  figure-goes (Window w) a b e = tt
+  figure-goes (Notification w n) a b e = tt
+  figure-goes (Cell cache entry) a b e = tt
+  figure-goes Desktop a b e =
+      let i = v .means met in
+      e ∙ ap (figureHeld x (m .index) (m .bodies) (m .journal)) counted ∙ present-has-figure m x a b met (i .sound) (i .index)
+  figure-goes Windows a b e = tt
+  figure-goes Notifications a b e = tt
+  figure-goes (Shares g k) a b e = tt
+
+  -- what counting it asks
+  pub followable : Followable (m .index) (m .bodies) (m .journal)
+  followable =
+      let l = indexed v some .logged in
+      record { sound = table-has (m .index) (m .bodies) (placesIn (m .store)) (l .sound) .index; room = l .long .bodies; long = l .long .journal }
 
 module _ {m : Memory} {w : JournalExtent} {x : List ℕ} {os : List (List ℕ)} (i : Indexed m w x os) where
   -- pictures that are held can be handed out
@@ -167,18 +226,18 @@ module _ {m : Memory} {w : JournalExtent} {x : List ℕ} {os : List (List ℕ)} 
   unfolding answer next
   look-absent e f =
       refused-in (i .logged) (lookup target out) 9 (λ z. omega (arith, z))
-      (rw (absent table x held (markedPictures m) (sincePictures m) (headIsOk m) (i .index) target (listed-is ∙ e) (holds .holds))) refl f
+      (rw (absent table x held noFigure (markedPictures m) (sincePictures m) (headIsOk m) (i .index) target (listed-is ∙ e) (holds .holds))) refl f
 
-  module _ (there : b ≡ true) where
+  module _ (there : b ≡ true) (f : Figure) (figured : FigureGoes target f table) where
     abbrev pictures : ℕ → List ℕ
     pictures = picturesFor target (m .bodies) (m .store) (m .journal) held
 
-    has : Held table x held (markedPictures m) (sincePictures m) (headIsOk m) (i .index) target
-    has = held-in table x held (markedPictures m) (sincePictures m) (headIsOk m) (i .index) target (listed-is ∙ there) (holds .holds)
+    has : Held table x held f (markedPictures m) (sincePictures m) (headIsOk m) (i .index) target
+    has = held-in table x held f (markedPictures m) (sincePictures m) (headIsOk m) (i .index) target (listed-is ∙ there) figured (holds .holds)
 
-    found-is : answerView (look target) (viewOf m) ≡ grant os (payloadHeld target x held pictures)
+    found-is : answerView (look target) (viewOf m) ≡ grant os (payloadHeld target x held f pictures)
     unfolding answer
-    found-is = answer-in (i .logged) (look target) ∙ rw (has .payload) (payload-found os target x held pictures (sym says ∙ there))
+    found-is = answer-in (i .logged) (look target) ∙ rw (has .payload) (payload-found os target x held f pictures (sym says ∙ there))
 
     same-view : nextView (look target) (viewOf m) ≡ viewOf m
     unfolding next
@@ -193,13 +252,13 @@ module _ {m : Memory} {w : JournalExtent} {x : List ℕ} {os : List (List ℕ)} 
           stays (lookup target out) m found-is same-view (rw (e, l))
 
       module _ (fits : size ≤ length out) where
-        pub look-found : {r : Reply} {out' : List ℕ} → out' ≡ splice out 0 (bytesHeld target x (m .bodies) (m .store) (m .journal) held)
+        pub look-found : {r : Reply} {out' : List ℕ} → out' ≡ splice out 0 (bytesHeld target x (m .bodies) (m .store) (m .journal) held f)
             → r ≡ record { number = 0; count = w .count; bytes = w .end - logStart } → CallOutcome (lookup target out) m (handed r out') m
         unfolding responseOf answerWithin outAfter bytesHeld
-        look-found f e =
+        look-found put e =
             let l = le-ltb (length out) (layoutSize target) (omega (arith, is)) in
-            let g = e ∙ reply-in (i .logged) (payloadHeld target x held pictures) in
-            stays (lookup target out) m found-is same-view (rw (g, f, l))
+            let g = e ∙ reply-in (i .logged) (payloadHeld target x held f pictures) in
+            stays (lookup target out) m found-is same-view (rw (g, put, l))
 
         -- what handing out asks
         pub look-hands : length held ≡ roomFor (wantOf target) → HandsOut target x (m .bodies) (m .store) (m .journal) held out

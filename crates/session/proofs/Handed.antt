@@ -32,18 +32,21 @@ use Rattle.ids.specs.Ids.{idsIn, listBytes}
 use Rattle.ids.specs.Steps.{familyOf}
 use Rattle.body.specs.Bodies.{Body, windowFields, notificationFields, desktopFields, fieldsOf, bodyOf, fieldsOk}
 use Rattle.body.specs.Stores.{roomAll}
-use Rattle.layout.specs.Layouts.{pictureSize, windowSize, newerStart, newerSize, notificationSize, olderFields, newerFields, olderPart, newerPart, fieldsBytes, recordBytes, pictureBytes}
+use Rattle.layout.specs.Layouts.{pictureSize, desktopSize, windowSize, newerStart, newerSize, notificationSize, olderFields, newerFields, olderPart, newerPart, fieldsBytes, recordBytes, pictureBytes}
 use Rattle.layout.proofs.LayoutsWritten.{length-record}
 use Rattle.table.specs.Memory.{shownIn}
+use Rattle.figure.specs.declared.Figure.{Figure}
+use Rattle.figure.specs.Figure.{figureLength, figureBytes}
 use Rattle.follow.specs.Follow.{heldSlot}
 use Rattle.shown.specs.Shown.{isThere, shows, shownBytes, heldPictures, Ready}
 use Rattle.session.specs.declared.PictureHolder.{PictureHolder}
 use Rattle.session.specs.declared.LookupTarget.{LookupTarget}
 use Rattle.session.specs.declared.LookupTarget.the-variants.{Window, Notification, Cell, Desktop, Windows, Notifications, Shares}
 use Rattle.session.specs.Calls.{aPicture, cellNumber, holderOf}
-use Rattle.session.specs.Outcome.{listedBytes, payloadBytes}
+use Rattle.session.specs.Outcome.{windowBytes, listedBytes, payloadBytes}
+use Rattle.session.specs.PresentFigure.{noFigure}
 use Rattle.session.specs.Targets.{wantOf, listedIn, payloadHeld}
-use Rattle.session.specs.Handing.{bytesHeld, validHeld, ReadyFor, HandsOut}
+use Rattle.session.specs.Handing.{recordsHeld, bytesHeld, validHeld, ReadyFor, HandsOut}
 use Rattle.session.proofs.Targets.{slot-below, shares-by, no-pointer}
 
 no : {A : Type 0} → _≡_ {A = Bool} false true → A
@@ -51,7 +54,7 @@ no e = let z : _≡_ {A = ℕ} 0 1 = cc in absurd (omega arith)
 
 -- ---- a record and its pictures
 
-length-shown : (p : Option (List ℕ)) → length (shownBytes p) ≡ pictureSize
+pub length-shown : (p : Option (List ℕ)) → length (shownBytes p) ≡ pictureSize
 unfolding pictureBytes
 length-shown none = length-padded {A = ℕ} 0 pictureSize []
 length-shown (some p) = length-padded {A = ℕ} 0 pictureSize p
@@ -170,14 +173,14 @@ module _ (out : List ℕ) (b c : Body) (p q o : Option (List ℕ)) (room : newer
           third-put out (recordBytes olderFields d ++ two) newerStart (c .first) t (c .second ∷ (fieldsBytes newerFields (c .fields) ++ shownBytes o)) (front-long d) (omega (arith, l, room))
 
 module _ (out slot : List ℕ) {x y v z : List ℕ} {r : Bool} where
-  -- a window
+  -- the records of a window
   pub window-laid : (p q o : Option (List ℕ)) → newerStart + (newerSize + pictureSize) ≤ length out
       → x ≡ splice out 0 (recordBytes olderFields (olderPart (bodyOf windowFields slot)))
       → r ≡ shows p → y ≡ splice x windowSize (shownBytes p) → {t k : Bool} {a b c d : List ℕ} → t ≡ shows q → v ≡ splice y (windowSize + pictureSize) (shownBytes q)
       → z ≡ splice v newerStart (recordBytes newerFields (newerPart (bodyOf windowFields slot))) → k ≡ shows o → a ≡ splice z (newerStart + newerSize) (shownBytes o)
       → b ≡ splice a 0 (bytesOf 1 (boolByte r)) → c ≡ splice b 1 (bytesOf 1 (boolByte t)) → d ≡ splice c newerStart (bytesOf 1 (boolByte k))
-      → d ≡ splice out 0 (listedBytes family.Windows (fieldsOf windowFields 2 slot) (p ∷ q ∷ o ∷ []))
-  unfolding listedBytes bodyOf roomAll flatten
+      → d ≡ splice out 0 (windowBytes (fieldsOf windowFields 2 slot) (p ∷ q ∷ o ∷ []))
+  unfolding bodyOf roomAll flatten
   window-laid p q o room e rs f {a = a} {b = b} {c = c} ts g h ks i j k l =
       let m = olderPart (bodyOf windowFields slot) in
       let n = newerPart (bodyOf windowFields slot) in
@@ -270,8 +273,9 @@ module _ {x bodies : List ℕ} {store : List (List ℕ)} {journal m out : List �
   pub hands-as : {target v : LookupTarget} → target ≡ v → HandsOut target x bodies store journal m out → HandsOut v x bodies store journal m out
   hands-as e h = subst (λ (t : LookupTarget). HandsOut t x bodies store journal m out) e h
 
-  pub handed-as : {target v : LookupTarget} {out' : List ℕ} → target ≡ v → HandsOut target x bodies store journal m out → out' ≡ splice out 0 (bytesHeld v x bodies store journal m) → out' ≡ splice out 0 (bytesHeld target x bodies store journal m)
-  handed-as e h f = f ∙ ap (λ (t : LookupTarget). splice out 0 (bytesHeld t x bodies store journal m)) (sym e)
+  pub handed-as : {target v : LookupTarget} (f : Figure) {out' : List ℕ} → target ≡ v → HandsOut target x bodies store journal m out
+      → out' ≡ splice out 0 (bytesHeld v x bodies store journal m f) → out' ≡ splice out 0 (bytesHeld target x bodies store journal m f)
+  handed-as f e h p = p ∙ ap (λ (t : LookupTarget). splice out 0 (bytesHeld t x bodies store journal m f)) (sym e)
 
   -- a window
   module _ {w : WindowId} (h : HandsOut (Window w) x bodies store journal m out) where
@@ -301,7 +305,7 @@ module _ {x bodies : List ℕ} {store : List (List ℕ)} {journal m out : List �
     unfolding listedIn
     window-overlay e = icon-third x family.Windows (w .id) 0 (h .listed) e
 
-    pub window-handed : {n k l : ℕ} → n ≡ numberOf (slotOf x) (icon family.Windows (w .id) 0 0) → k ≡ numberOf (slotOf x) (icon family.Windows (w .id) 0 1)
+    pub records-handed : {n k l : ℕ} → n ≡ numberOf (slotOf x) (icon family.Windows (w .id) 0 0) → k ≡ numberOf (slotOf x) (icon family.Windows (w .id) 0 1)
         → l ≡ numberOf (slotOf x) (icon family.Windows (w .id) 0 2) → {p q r s t u v z : List ℕ} {small big overlay : Bool}
         → p ≡ splice out 0 (recordBytes olderFields (olderPart (bodyOf windowFields (heldSlot family.Windows m))))
         → small ≡ shows (shown x (heldPictures bodies store journal (slice m 1392 128)) n)
@@ -312,17 +316,17 @@ module _ {x bodies : List ℕ} {store : List (List ℕ)} {journal m out : List �
         → overlay ≡ shows (shown x (heldPictures bodies store journal (slice m 1392 128)) l)
         → t ≡ splice s (newerStart + newerSize) (shownBytes (shown x (heldPictures bodies store journal (slice m 1392 128)) l))
         → u ≡ splice t 0 (bytesOf 1 (boolByte small)) → v ≡ splice u 1 (bytesOf 1 (boolByte big)) → z ≡ splice v newerStart (bytesOf 1 (boolByte overlay))
-        → z ≡ splice out 0 (bytesHeld (Window w) x bodies store journal m)
-    unfolding bytesHeld payloadHeld payloadBytes wantOf
-    window-handed {n = n} {k = k} {l = l} e f g a b c d i j o p q y z =
+        → z ≡ splice out 0 (recordsHeld w x bodies store journal m)
+    unfolding recordsHeld wantOf
+    records-handed {n = n} {k = k} {l = l} e f g a b c d i j o p q y z =
         let pictures = heldPictures bodies store journal (slice m 1392 128) in
         let fields = fieldsOf windowFields 2 (heldSlot family.Windows m) in
         let small = shownIn x pictures (icon family.Windows (w .id) 0 0) in
         let big = shownIn x pictures (icon family.Windows (w .id) 0 1) in
-        window-laid out (heldSlot family.Windows m) (shown x pictures n) (shown x pictures k) (shown x pictures l) (h .room) a b c d i j o p q y z
-        ∙ ap (λ (v : ℕ). splice out 0 (listedBytes family.Windows fields (shown x pictures v ∷ shown x pictures k ∷ shown x pictures l ∷ []))) e
-        ∙ ap (λ (v : ℕ). splice out 0 (listedBytes family.Windows fields (small ∷ shown x pictures v ∷ shown x pictures l ∷ []))) f
-        ∙ ap (λ (v : ℕ). splice out 0 (listedBytes family.Windows fields (small ∷ big ∷ shown x pictures v ∷ []))) g
+        window-laid out (heldSlot family.Windows m) (shown x pictures n) (shown x pictures k) (shown x pictures l) (omega (arith, h .room)) a b c d i j o p q y z
+        ∙ ap (λ (v : ℕ). splice out 0 (windowBytes fields (shown x pictures v ∷ shown x pictures k ∷ shown x pictures l ∷ []))) e
+        ∙ ap (λ (v : ℕ). splice out 0 (windowBytes fields (small ∷ shown x pictures v ∷ shown x pictures l ∷ []))) f
+        ∙ ap (λ (v : ℕ). splice out 0 (windowBytes fields (small ∷ big ∷ shown x pictures v ∷ []))) g
 
   -- a notification icon
   module _ {w : WindowId} {i : NotifyIconId} (h : HandsOut (Notification w i) x bodies store journal m out) where
@@ -349,7 +353,7 @@ module _ {x bodies : List ℕ} {store : List (List ℕ)} {journal m out : List �
         → p ≡ splice out 0 (recordBytes notificationFields (bodyOf notificationFields (heldSlot family.Notifications m)))
         → own ≡ shows (shown x (heldPictures bodies store journal (slice m 916 128)) n)
         → q ≡ splice p notificationSize (shownBytes (shown x (heldPictures bodies store journal (slice m 916 128)) n))
-        → r ≡ splice q 0 (bytesOf 1 (boolByte own)) → s ≡ splice r 1 (bytesOf 1 0) → s ≡ splice out 0 (bytesHeld (Notification w i) x bodies store journal m)
+        → r ≡ splice q 0 (bytesOf 1 (boolByte own)) → s ≡ splice r 1 (bytesOf 1 0) → s ≡ splice out 0 (bytesHeld (Notification w i) x bodies store journal m noFigure)
     unfolding bytesHeld payloadHeld payloadBytes wantOf
     notification-handed {n = n} e a b c d g =
         let pictures = heldPictures bodies store journal (slice m 916 128) in
@@ -374,7 +378,7 @@ module _ {x bodies : List ℕ} {store : List (List ℕ)} {journal m out : List �
     cell-ready = h .ready
 
     pub cell-handed : {k : ℕ} {out' : List ℕ} → k ≡ cellNumber cache entry → out' ≡ splice out 0 (shownBytes (shown x (heldPictures bodies store journal (slice m 0 128)) k))
-        → out' ≡ splice out 0 (bytesHeld (Cell cache entry) x bodies store journal m)
+        → out' ≡ splice out 0 (bytesHeld (Cell cache entry) x bodies store journal m noFigure)
     unfolding bytesHeld payloadHeld wantOf
     cell-handed e f =
         let pictures = heldPictures bodies store journal (slice m 0 128) in
@@ -382,28 +386,47 @@ module _ {x bodies : List ℕ} {store : List (List ℕ)} {journal m out : List �
         ∙ ap (splice out 0) (sym (cell-bytes x (cellNumber cache entry) is-listed pictures (Cell cache entry)))
 
   -- the desktop state, the lists, and whether two share
-  pub desktop-asks : HandsOut Desktop x bodies store journal m out
-      → ((29 ≤ 31) × (31 ≤ 31) × (2 + roomAll desktopFields ≤ length out) × (2 + roomAll desktopFields ≤ length m)) × (fieldsOk desktopFields 2 m ≡ true)
-  unfolding roomAll wantOf validHeld
-  desktop-asks h = ((omega arith, omega arith, omega (arith, h .room), omega (arith, h .size)), h .valid)
+  pub desktop-asks : HandsOut Desktop x bodies store journal m out → (desktopSize + figureLength ≤ length out) × (desktopSize ≤ length m) × (fieldsOk desktopFields 2 m ≡ true)
+  unfolding wantOf validHeld
+  desktop-asks h = (h .room, omega (arith, h .size), h .valid)
 
-  pub desktop-handed : HandsOut Desktop x bodies store journal m out → {out' : List ℕ} → out' ≡ splice out 0 (recordBytes desktopFields (bodyOf desktopFields m)) → out' ≡ splice out 0 (bytesHeld Desktop x bodies store journal m)
-  unfolding bytesHeld payloadHeld payloadBytes
-  desktop-handed h e = e
+  module _ (f : Figure) where
+    -- the figure goes with the desktop state alone
+    pub window-with : {w : WindowId} → HandsOut (Window w) x bodies store journal m out → {out' : List ℕ} → out' ≡ splice out 0 (bytesHeld (Window w) x bodies store journal m noFigure)
+        → out' ≡ splice out 0 (bytesHeld (Window w) x bodies store journal m f)
+    unfolding bytesHeld payloadHeld
+    window-with h e = e
 
-  pub windows-handed : HandsOut Windows x bodies store journal m out → {out' : List ℕ} → out' ≡ splice out 0 (listBytes (familyOf false) (idsIn (indexOf x) (familyOf false))) → out' ≡ splice out 0 (bytesHeld Windows x bodies store journal m)
-  unfolding bytesHeld payloadHeld payloadBytes
-  windows-handed h e = e
+    pub notification-with : {w : WindowId} {n : NotifyIconId} → HandsOut (Notification w n) x bodies store journal m out → {out' : List ℕ}
+        → out' ≡ splice out 0 (bytesHeld (Notification w n) x bodies store journal m noFigure)
+        → out' ≡ splice out 0 (bytesHeld (Notification w n) x bodies store journal m f)
+    unfolding bytesHeld payloadHeld
+    notification-with h e = e
 
-  pub notifications-handed : HandsOut Notifications x bodies store journal m out → {out' : List ℕ} → out' ≡ splice out 0 (listBytes (familyOf true) (idsIn (indexOf x) (familyOf true))) → out' ≡ splice out 0 (bytesHeld Notifications x bodies store journal m)
-  unfolding bytesHeld payloadHeld payloadBytes
-  notifications-handed h e = e
+    pub cell-with : {cache entry : ℕ} → HandsOut (Cell cache entry) x bodies store journal m out → {out' : List ℕ}
+        → out' ≡ splice out 0 (bytesHeld (Cell cache entry) x bodies store journal m noFigure)
+        → out' ≡ splice out 0 (bytesHeld (Cell cache entry) x bodies store journal m f)
+    unfolding bytesHeld payloadHeld
+    cell-with h e = e
 
-  pub shares-handed : (g k : PictureHolder) → HandsOut (Shares g k) x bodies store journal m out → {b : Bool} {out' : List ℕ} → b ≡ indexOf x .sharing .shares (holderOf g) (holderOf k)
-      → out' ≡ splice out 0 (bytesOf 1 (boolByte b)) → out' ≡ splice out 0 (bytesHeld (Shares g k) x bodies store journal m)
-  unfolding bytesHeld payloadHeld payloadBytes
-  shares-handed g k h {b = b} e f = f ∙ ap (splice out 0) (one b ∙ ap (λ (b : Bool). pick b 1 0 ∷ []) e)
-    where
-      one : (b : Bool) → bytesOf 1 (boolByte b) ≡ pick b 1 0 ∷ []
-      one true = unfold bytesOf in refl
-      one false = unfold bytesOf in refl
+    pub desktop-handed : HandsOut Desktop x bodies store journal m out → {out' : List ℕ} → out' ≡ splice out 0 (recordBytes desktopFields (bodyOf desktopFields m) ++ figureBytes f)
+        → out' ≡ splice out 0 (bytesHeld Desktop x bodies store journal m f)
+    unfolding bytesHeld payloadHeld payloadBytes
+    desktop-handed h e = e
+
+    pub windows-handed : HandsOut Windows x bodies store journal m out → {out' : List ℕ} → out' ≡ splice out 0 (listBytes (familyOf false) (idsIn (indexOf x) (familyOf false))) → out' ≡ splice out 0 (bytesHeld Windows x bodies store journal m f)
+    unfolding bytesHeld payloadHeld payloadBytes
+    windows-handed h e = e
+
+    pub notifications-handed : HandsOut Notifications x bodies store journal m out → {out' : List ℕ} → out' ≡ splice out 0 (listBytes (familyOf true) (idsIn (indexOf x) (familyOf true))) → out' ≡ splice out 0 (bytesHeld Notifications x bodies store journal m f)
+    unfolding bytesHeld payloadHeld payloadBytes
+    notifications-handed h e = e
+
+    pub shares-handed : (g k : PictureHolder) → HandsOut (Shares g k) x bodies store journal m out → {b : Bool} {out' : List ℕ} → b ≡ indexOf x .sharing .shares (holderOf g) (holderOf k)
+        → out' ≡ splice out 0 (bytesOf 1 (boolByte b)) → out' ≡ splice out 0 (bytesHeld (Shares g k) x bodies store journal m f)
+    unfolding bytesHeld payloadHeld payloadBytes
+    shares-handed g k h {b = b} e p = p ∙ ap (splice out 0) (one b ∙ ap (λ (b : Bool). pick b 1 0 ∷ []) e)
+      where
+        one : (b : Bool) → bytesOf 1 (boolByte b) ≡ pick b 1 0 ∷ []
+        one true = unfold bytesOf in refl
+        one false = unfold bytesOf in refl

@@ -11,6 +11,7 @@ use Rattle.places.specs.declared.Family.the-variants as family
 use Rattle.places.specs.Holder.{Holder, cell, icon}
 use Rattle.ids.specs.Ids.{idsIn}
 use Rattle.body.specs.Bodies.{Body}
+use Rattle.figure.specs.declared.Figure.{Figure}
 use Rattle.table.specs.Table.{Table, emptied, number}
 use Rattle.table.specs.Memory.{fixedBy}
 use Rattle.journal.specs.Limits.{mostOrders, mostBytes}
@@ -20,6 +21,7 @@ use Rattle.session.specs.declared.PictureHolder.{PictureHolder}
 use Rattle.session.specs.declared.PictureHolder.the-variants as holder
 use Rattle.session.specs.declared.LookupTarget.{LookupTarget}
 use Rattle.session.specs.declared.LookupTarget.the-variants.{Window, Notification, Cell, Desktop, Windows, Notifications, Shares}
+use Rattle.session.specs.TableFigure.{figureIn}
 
 -- document 01's emptying, with so many places lent, delivery, mark, step back and looking up; writing the session record
 pub data Call : Type 0 where
@@ -30,11 +32,12 @@ pub data Call : Type 0 where
   look : LookupTarget → Call
   writeRecord : Call
 
--- what a call hands out, raw: of a record its fields and the pictures that its icons show, of a list the keys of its ids
+-- what a call hands out, raw: of a record its fields and the pictures that its icons show, of the desktop state the figure of the
+-- table too, of a list the keys of its ids
 pub data Payload : Type 0 where
   nothing : Payload
   listed : Family → List (List ℕ) → List (Option (List ℕ)) → Payload
-  body : Body → Payload
+  desktop : Body → Figure → Payload
   picture : List ℕ → Payload
   ids : Family → List ℕ → Payload
   orders : List (List ℕ) → Payload
@@ -100,7 +103,7 @@ unfoldable pub payloadIn : LookupTarget → Table → Payload
 payloadIn (Window w) t = recordIn t family.Windows (w .id) 0
 payloadIn (Notification w n) t = recordIn t family.Notifications (w .id) (n .id)
 payloadIn (Cell cache entry) t = aPicture (t .shown (cell (cellNumber cache entry)))
-payloadIn Desktop t = body (t .desktop)
+payloadIn Desktop t = desktop (t .desktop) (figureIn t)
 payloadIn Windows t = ids family.Windows (idsIn (t .index) family.Windows)
 payloadIn Notifications t = ids family.Notifications (idsIn (t .index) family.Notifications)
 payloadIn (Shares g k) t = sharedIn t (holderOf g) (holderOf k)
@@ -109,7 +112,7 @@ payloadIn (Shares g k) t = sharedIn t (holderOf g) (holderOf k)
 abbrev pub found : List (List ℕ) → Payload → Answer
 found log nothing = refuse 9
 found log (listed f fs ps) = grant log (listed f fs ps)
-found log (body b) = grant log (body b)
+found log (desktop b f) = grant log (desktop b f)
 found log (picture p) = grant log (picture p)
 found log (ids f ks) = grant log (ids f ks)
 found log (orders os) = grant log (orders os)

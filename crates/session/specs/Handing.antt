@@ -4,25 +4,32 @@ use mathlib.Core.Path.{_≡_}
 use mathlib.Core.Bool.{Bool, true}
 use mathlib.Core.List.{List}
 use lib.ListN.{length}
+use Rattle.protocol.specs.declared.WindowId.{WindowId}
 use Rattle.places.specs.declared.Family.the-variants as family
 use Rattle.index.specs.Families.{indexLength}
 use Rattle.index.specs.Memory.{indexOf}
-use Rattle.body.specs.Bodies.{desktopFields, fieldsOk}
+use Rattle.body.specs.Bodies.{desktopFields, fieldsOf, fieldsOk}
 use Rattle.table.specs.Table.{fieldRows}
 use Rattle.follow.specs.declared.Want.the-variants as want
 use Rattle.follow.specs.Follow.{roomFor, heldSlot, heldOrigins}
 use Rattle.shown.specs.Shown.{heldPictures, Ready}
+use Rattle.figure.specs.declared.Figure.{Figure}
 use Rattle.session.specs.declared.LookupTarget.{LookupTarget}
 use Rattle.session.specs.declared.LookupTarget.the-variants.{Window, Notification, Cell, Desktop, Windows, Notifications, Shares}
-use Rattle.session.specs.Outcome.{layoutSize, payloadBytes}
-use Rattle.session.specs.Targets.{wantOf, listedIn, payloadHeld}
+use Rattle.session.specs.Outcome.{layoutSize, windowBytes, payloadBytes}
+use Rattle.session.specs.Targets.{wantOf, listedIn, iconsHeld, payloadHeld}
 
 -- the pictures at the places, by the memory m of the target
 abbrev pub picturesFor : LookupTarget → List ℕ → List (List ℕ) → List ℕ → List ℕ → ℕ → List ℕ
 picturesFor target bodies store journal m = heldPictures bodies store journal (heldOrigins (wantOf target) m)
 
-unfoldable pub bytesHeld : LookupTarget → List ℕ → List ℕ → List (List ℕ) → List ℕ → List ℕ → List ℕ
-bytesHeld target x bodies store journal m = payloadBytes target (payloadHeld target x m (picturesFor target bodies store journal m))
+unfoldable pub bytesHeld : LookupTarget → List ℕ → List ℕ → List (List ℕ) → List ℕ → List ℕ → Figure → List ℕ
+bytesHeld target x bodies store journal m f = payloadBytes target (payloadHeld target x m f (picturesFor target bodies store journal m))
+
+-- of a window its records, without its pixels
+unfoldable pub recordsHeld : WindowId → List ℕ → List ℕ → List (List ℕ) → List ℕ → List ℕ → List ℕ
+recordsHeld w x bodies store journal m =
+    windowBytes (fieldsOf (fieldRows family.Windows) 2 (heldSlot family.Windows m)) (iconsHeld x (picturesFor (Window w) bodies store journal m) family.Windows (w .id) 0)
 
 -- the memory is in its sets
 unfoldable pub validHeld : LookupTarget → List ℕ → Bool

@@ -6,6 +6,7 @@ use mathlib.Core.Option.{Option}
 use lib.Dec.{eqb, ltb}
 use lib.ListN.{length, take, drop}
 use Rattle.wire.specs.Tests.{pick, both}
+use Rattle.wire.specs.Numbers.{bytesOf}
 use Rattle.wire.specs.Parts.{splice}
 use Rattle.ids.specs.Ids.{listSize, listBytes}
 use Rattle.body.specs.Bodies.{notificationFields, desktopFields}
@@ -13,12 +14,14 @@ use Rattle.places.specs.declared.Family.{Family}
 use Rattle.places.specs.declared.Family.the-variants as family
 use Rattle.layout.specs.Layouts.{newerStart, newerSize, notificationSize, desktopSize, pictureSize, olderFields, newerFields, olderOf, newerOf, recordBytes, pictureBytes}
 use Rattle.shown.specs.Shown.{isThere, shownBytes}
+use Rattle.figure.specs.Figure.{pixelsOf, figureLength, figureBytes}
 use Rattle.journal.specs.View.{Memory, Past, viewOf}
 use Rattle.record.specs.Layout.{recordOf, mostRecord}
 use Rattle.session.specs.declared.Reply.{Reply}
 use Rattle.session.specs.declared.LookupTarget.{LookupTarget}
 use Rattle.session.specs.declared.LookupTarget.the-variants.{Window, Notification, Cell, Desktop, Windows, Notifications, Shares}
-use Rattle.session.specs.Calls.{Call, reset, deliver, checkpoint, undo, look, writeRecord, Payload, nothing, listed, body, picture, ids, orders, shared, Answer, refuse, answerView, nextView}
+use Rattle.session.specs.TableFigure.{unmarked}
+use Rattle.session.specs.Calls.{Call, reset, deliver, checkpoint, undo, look, writeRecord, Payload, nothing, listed, desktop, picture, ids, orders, shared, Answer, refuse, answerView, nextView}
 
 -- a call and the output memory lent with it: none for a call that hands nothing out
 pub record Request : Type 0 where
@@ -47,13 +50,20 @@ handed r out = record { reply = r; out = out }
 
 -- ---- the fixed layout of what is handed out
 
+-- where the pixels of a window stand, and the bytes that they take
+abbrev pub pixelsStart : ℕ
+pixelsStart = newerStart + (newerSize + pictureSize)
+
+abbrev pub pixelsSize : ℕ
+pixelsSize = 4
+
 -- the bytes that a target takes: a record's fields, and a picture for each of its icons; a window's newer fields stand before its
--- last picture
+-- last picture and its pixels after that, the table's figure after the desktop state
 abbrev pub layoutSize : LookupTarget → ℕ
-layoutSize (Window w) = newerStart + (newerSize + pictureSize)
+layoutSize (Window w) = pixelsStart + pixelsSize
 layoutSize (Notification w n) = notificationSize + pictureSize
 layoutSize (Cell cache entry) = pictureSize
-layoutSize Desktop = desktopSize
+layoutSize Desktop = desktopSize + figureLength
 layoutSize Windows = listSize
 layoutSize Notifications = listSize
 layoutSize (Shares g k) = 1
@@ -75,13 +85,17 @@ thirdThere (p ∷ ps) = secondThere ps
 abbrev pub picturesBytes : List (Option (List ℕ)) → List ℕ
 picturesBytes pictures = flatten (map shownBytes pictures)
 
--- a window as two records, each with pictures after it; a notification icon as one
-unfoldable pub listedBytes : Family → List (List ℕ) → List (Option (List ℕ)) → List ℕ
-listedBytes family.Windows fields pictures =
+-- a window as two records, each with pictures after it
+abbrev pub windowBytes : List (List ℕ) → List (Option (List ℕ)) → List ℕ
+windowBytes fields pictures =
     recordBytes olderFields (record { first = firstThere pictures; second = secondThere pictures; fields = olderOf fields })
     ++ (picturesBytes (take 2 pictures)
     ++ (recordBytes newerFields (record { first = thirdThere pictures; second = 0; fields = newerOf fields })
     ++ picturesBytes (drop 2 pictures)))
+
+-- then its pixels; a notification icon as one record
+unfoldable pub listedBytes : Family → List (List ℕ) → List (Option (List ℕ)) → List ℕ
+listedBytes family.Windows fields pictures = windowBytes fields pictures ++ bytesOf pixelsSize (pixelsOf (unmarked fields))
 listedBytes family.Notifications fields pictures =
     recordBytes notificationFields (record { first = firstThere pictures; second = secondThere pictures; fields = fields })
     ++ picturesBytes pictures
@@ -89,7 +103,7 @@ listedBytes family.Notifications fields pictures =
 unfoldable pub payloadBytes : LookupTarget → Payload → List ℕ
 payloadBytes target nothing = []
 payloadBytes target (listed f fields pictures) = listedBytes f fields pictures
-payloadBytes target (body b) = recordBytes desktopFields b
+payloadBytes target (desktop b f) = recordBytes desktopFields b ++ figureBytes f
 payloadBytes target (picture p) = pictureBytes p
 payloadBytes target (ids f ks) = listBytes f ks
 payloadBytes target (orders os) = []
@@ -99,7 +113,7 @@ payloadBytes target (shared b) = pick b 1 0 ∷ []
 unfoldable pub sessionRecord : Payload → List ℕ
 sessionRecord nothing = []
 sessionRecord (listed f fields pictures) = []
-sessionRecord (body b) = []
+sessionRecord (desktop b f) = []
 sessionRecord (picture p) = []
 sessionRecord (ids f ks) = []
 sessionRecord (orders os) = recordOf os

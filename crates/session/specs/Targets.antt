@@ -17,9 +17,10 @@ use Rattle.table.specs.Memory.{shownIn}
 use Rattle.follow.specs.declared.Want.{Want}
 use Rattle.follow.specs.declared.Want.the-variants as want
 use Rattle.follow.specs.Follow.{heldSlot}
+use Rattle.figure.specs.declared.Figure.{Figure}
 use Rattle.session.specs.declared.LookupTarget.{LookupTarget}
 use Rattle.session.specs.declared.LookupTarget.the-variants.{Window, Notification, Cell, Desktop, Windows, Notifications, Shares}
-use Rattle.session.specs.Calls.{Payload, listed, body, ids, shared, aPicture, cellNumber, holderOf}
+use Rattle.session.specs.Calls.{Payload, listed, desktop, ids, shared, aPicture, cellNumber, holderOf}
 
 unfoldable pub wantOf : LookupTarget → Want
 wantOf (Window w) = want.Window w
@@ -46,14 +47,15 @@ iconsHeld d pictures family.Windows a b =
     shownIn d pictures (icon family.Windows a b 0) ∷ shownIn d pictures (icon family.Windows a b 1) ∷ shownIn d pictures (icon family.Windows a b 2) ∷ []
 iconsHeld d pictures family.Notifications a b = shownIn d pictures (icon family.Notifications a b 0) ∷ []
 
--- what the index d of the present table, the memory m of the target and the pictures at the places hold
-unfoldable pub payloadHeld : LookupTarget → List ℕ → List ℕ → (ℕ → List ℕ) → Payload
-payloadHeld (Window w) d m pictures =
+-- what the index d of the present table, the memory m of the target and the pictures at the places hold; the figure f goes with the
+-- desktop state
+unfoldable pub payloadHeld : LookupTarget → List ℕ → List ℕ → Figure → (ℕ → List ℕ) → Payload
+payloadHeld (Window w) d m f pictures =
     listed family.Windows (fieldsOf (fieldRows family.Windows) 2 (heldSlot family.Windows m)) (iconsHeld d pictures family.Windows (w .id) 0)
-payloadHeld (Notification w n) d m pictures =
+payloadHeld (Notification w n) d m f pictures =
     listed family.Notifications (fieldsOf (fieldRows family.Notifications) 2 (heldSlot family.Notifications m)) (iconsHeld d pictures family.Notifications (w .id) (n .id))
-payloadHeld (Cell cache entry) d m pictures = aPicture (shownIn d pictures (cell (cellNumber cache entry)))
-payloadHeld Desktop d m pictures = body (bodyOf desktopFields m)
-payloadHeld Windows d m pictures = ids family.Windows (idsIn (indexOf d) family.Windows)
-payloadHeld Notifications d m pictures = ids family.Notifications (idsIn (indexOf d) family.Notifications)
-payloadHeld (Shares g k) d m pictures = shared (indexOf d .sharing .shares (holderOf g) (holderOf k))
+payloadHeld (Cell cache entry) d m f pictures = aPicture (shownIn d pictures (cell (cellNumber cache entry)))
+payloadHeld Desktop d m f pictures = desktop (bodyOf desktopFields m) f
+payloadHeld Windows d m f pictures = ids family.Windows (idsIn (indexOf d) family.Windows)
+payloadHeld Notifications d m f pictures = ids family.Notifications (idsIn (indexOf d) family.Notifications)
+payloadHeld (Shares g k) d m f pictures = shared (indexOf d .sharing .shares (holderOf g) (holderOf k))

@@ -6,15 +6,31 @@ ghost use Rattle.wire.specs.Numbers.{bytesOf};
 ghost use Rattle.wire.specs.Parts.{splice};
 ghost use Rattle.journal.specs.Limits.{journalLength, mostOrders};
 ghost use Rattle.store.specs.Store.{five};
+ghost use Rattle.figure.specs.Figure.{windowsLength};
+ghost use Rattle.figure.specs.Kept.{keptLength};
 ghost use Rattle.journal.specs.View.{memory, InEachStore};
 ghost use Rattle.session.specs.Calls.{reset, deliver, checkpoint, undo};
 ghost use Rattle.session.specs.Outcome.{plain, replied, CallOutcome};
+ghost use Rattle.session.specs.Mark.{MarkSet};
 ghost use Rattle.session.specs.Delivery.{Ready, DeliveredOn};
 use crate::Delivery;
 use crate::Reply;
 use crate::replies::granted;
 use crate::replies::refused;
 use journal::JournalExtent;
+
+// Makes a table that at the mark: stores its figures, and counts no order after it.
+fn set_mark(index: &mut [u8], bodies: &[u8], journal: &mut [u8]) -> Reply
+    requires { ⌜ (keptLength ≤ length (now index)) × (windowsLength ≤ length (now bodies)) × (journalLength ≤ length (now journal)) ⌝ }
+    ensures { λ r. ⌜ MarkSet (now (index .entry)) (now (bodies .entry)) (now (journal .entry)) r (now (index .exit)) (now (journal .exit)) ⌝ }
+{
+    figure::keep(index, bodies);
+    wire::write_u16(journal, 0, 0);
+    granted(JournalExtent {
+        count: 0,
+        end: journal::START,
+    })
+}
 
 // Empties a state to which so many places are lent.
 pub fn reset(index: &mut [u8], bodies: &mut [u8], lent: usize, journal: &mut [u8]) -> Reply
@@ -24,11 +40,7 @@ pub fn reset(index: &mut [u8], bodies: &mut [u8], lent: usize, journal: &mut [u8
         return refused(1);
     }
     table::empty(index, bodies, lent);
-    wire::write_u16(journal, 0, 0);
-    granted(JournalExtent {
-        count: 0,
-        end: journal::START,
-    })
+    set_mark(index, bodies, journal)
 }
 
 // Appends an order to the journal of count orders that end at index end.
@@ -74,7 +86,7 @@ pub fn deliver_on(journal: &mut [u8], d: &mut [u8], s: &[u8], w: JournalExtent) 
 pub fn deliver(index: &[u8], bodies: &[u8], lent: usize, journal: &mut [u8], s: &[u8]) -> Reply
     ensures { λ r. ⌜ InEachStore lent (λ store. CallOutcome (plain (deliver (now (s .entry)))) (memory (now (index .entry)) (now (bodies .entry)) store (now (journal .entry))) (replied r) (memory (now (index .entry)) (now (bodies .entry)) store (now (journal .exit)))) ⌝ }
 {
-    let mut d = [0u8; crate::INDEX];
+    let mut d = [0u8; index::LENGTH];
     let w = journal::extent(index, bodies, lent, journal, &mut d);
     if w.end == 0 {
         return refused(1);
@@ -99,23 +111,19 @@ pub fn checkpoint(
     ensures { λ r. ⌜ CallOutcome (plain checkpoint) (memory (now (index .entry)) (now (bodies .entry)) (five (now (a .entry)) (now (b .entry)) (now (c .entry)) (now (d .entry)) (now (e .entry))) (now (journal .entry))) (replied r) (memory (now (index .exit)) (now (bodies .exit)) (five (now (a .exit)) (now (b .exit)) (now (c .exit)) (now (d .exit)) (now (e .exit))) (now (journal .exit))) ⌝ }
 {
     let lent = store::places(a, b, c, d, e);
-    let mut x = [0u8; crate::INDEX];
+    let mut x = [0u8; index::LENGTH];
     let w = journal::extent(index, bodies, lent, journal, &mut x);
     if w.end == 0 {
         return refused(1);
     }
     journal::apply(index, bodies, a, b, c, d, e, journal, w.count);
-    wire::write_u16(journal, 0, 0);
-    granted(JournalExtent {
-        count: 0,
-        end: journal::START,
-    })
+    set_mark(index, bodies, journal)
 }
 
 pub fn undo(index: &[u8], bodies: &[u8], lent: usize, journal: &mut [u8], k: u64) -> Reply
     ensures { λ r. ⌜ InEachStore lent (λ store. CallOutcome (plain (undo k)) (memory (now (index .entry)) (now (bodies .entry)) store (now (journal .entry))) (replied r) (memory (now (index .entry)) (now (bodies .entry)) store (now (journal .exit)))) ⌝ }
 {
-    let mut d = [0u8; crate::INDEX];
+    let mut d = [0u8; index::LENGTH];
     let w = journal::extent(index, bodies, lent, journal, &mut d);
     if w.end == 0 {
         return refused(1);

@@ -9,11 +9,12 @@ pub mod calls;
 pub mod holders;
 pub mod lookups;
 pub mod packed;
+mod present;
 pub mod records;
 mod replies;
 
-// The needed bytes of index, bodies and journal.
-pub const INDEX: usize = index::LENGTH;
+// The needed bytes of index with the figures behind it, bodies and journal.
+pub const INDEX: usize = figure::LENGTH;
 
 pub const BODIES: usize = table::BODIES;
 

@@ -1,6 +1,8 @@
 // The lookup: what is looked up is followed from the mark through the journal's orders, and handed out in its fixed layout.
 ghost use mathlib.Core.Path.{_≡_};
 ghost use Prim.Native.Nat.{_+_, _<_, _≤_};
+ghost use mathlib.Core.Bool.{true};
+ghost use mathlib.Core.List.{_++_};
 ghost use lib.ListN.{length};
 ghost use Rattle.wire.specs.Parts.{splice};
 ghost use Rattle.places.specs.Memory.{pointerAt};
@@ -8,6 +10,9 @@ ghost use Rattle.places.specs.Holder.{icon, numberOf};
 ghost use Rattle.index.specs.Families.{indexLength};
 ghost use Rattle.index.specs.Slots.{slotOf};
 ghost use Rattle.index.specs.Memory.{indexOf};
+ghost use Rattle.body.specs.Bodies.{desktopFields, fieldsOk, bodyOf};
+ghost use Rattle.layout.specs.Layouts.{desktopSize, recordBytes};
+ghost use Rattle.figure.specs.Figure.{figureLength, figureBytes};
 ghost use Rattle.store.specs.Store.{five};
 ghost use Rattle.follow.specs.Follow.{roomFor};
 ghost use Rattle.journal.specs.View.{memory};
@@ -15,20 +20,23 @@ ghost use Rattle.session.specs.declared.LookupTarget.the-variants as tar
 ghost use Rattle.session.specs.Calls.{cellNumber, holderOf};
 ghost use Rattle.session.specs.Outcome.{lookup, handed, layoutSize, CallOutcome};
 ghost use Rattle.session.specs.Targets.{wantOf, listedIn};
-ghost use Rattle.session.specs.Handing.{bytesHeld, HandsOut};
+ghost use Rattle.session.specs.PresentFigure.{noFigure};
+ghost use Rattle.session.specs.Handing.{recordsHeld, bytesHeld, HandsOut};
 use crate::LookupTarget;
 use crate::PictureHolder;
 use crate::Reply;
+use crate::present::figure_for;
 use crate::replies::granted;
 use crate::replies::refused;
+use figure::Figure;
 use follow::Want;
 use places::Family;
 use places::Found;
 use protocol::NotifyIconId;
 use protocol::WindowId;
 
-// Where the parts of a window that is handed out begin: the pictures of its small and its big icon, its newer fields, and the picture
-// of its overlay icon.
+// Where the parts of a window that is handed out begin: the pictures of its small and its big icon, its newer fields, the picture of
+// its overlay icon, and its pixels.
 const SMALL_PICTURE: usize = layout::WINDOW;
 
 const BIG_PICTURE: usize = SMALL_PICTURE + layout::PICTURE;
@@ -36,6 +44,18 @@ const BIG_PICTURE: usize = SMALL_PICTURE + layout::PICTURE;
 const NEWER: usize = BIG_PICTURE + layout::PICTURE;
 
 const OVERLAY_PICTURE: usize = NEWER + layout::NEWER;
+
+const PIXELS: usize = OVERLAY_PICTURE + layout::PICTURE;
+
+// The bytes of these, and the numbers that they can hold.
+const PIXELS_SIZE: usize = 4;
+
+const PIXELS_END: u64 = 4294967296;
+
+// The bytes of a window and of the desktop state that are handed out.
+pub const WINDOW: usize = PIXELS + PIXELS_SIZE;
+
+pub const DESKTOP: usize = layout::DESKTOP + figure::BYTES;
 
 // The cell of a cache and an entry, 12 for one outside the caches.
 fn cell_number(cache: u8, entry: u16) -> usize
@@ -152,19 +172,19 @@ fn size_of(target: LookupTarget) -> usize
     ensures { λ r. ⌜ r ≡ layoutSize target ⌝ }
 {
     match target {
-        LookupTarget::Window(_) => OVERLAY_PICTURE + layout::PICTURE,
+        LookupTarget::Window(_) => WINDOW,
         LookupTarget::Notification(_, _) => layout::NOTIFICATION + layout::PICTURE,
         LookupTarget::Cell(_, _) => layout::PICTURE,
-        LookupTarget::Desktop => layout::DESKTOP,
+        LookupTarget::Desktop => DESKTOP,
         LookupTarget::Windows => ids::LENGTH,
         LookupTarget::Notifications => ids::LENGTH,
         LookupTarget::Shares(_, _) => 1,
     }
 }
 
-// Hands out a window: its older fields, the pictures of its small and its big icon, its newer fields, and the picture of its overlay
-// icon; a mark says of each picture whether it is there.
-fn window(
+// Hands out the records of a window: its older fields, the pictures of its small and its big icon, its newer fields, and the picture
+// of its overlay icon; a mark says of each picture whether it is there.
+fn window_records(
     out: &mut [u8],
     x: &[u8],
     bodies: &[u8],
@@ -178,7 +198,7 @@ fn window(
     w: WindowId,
 )
     requires { ⌜ HandsOut (target.Window w) (now x) (now bodies) (five (now a) (now b) (now c) (now d) (now e)) (now journal) (now m) (now out) ⌝ }
-    ensures { λ _. ⌜ now (out .exit) ≡ splice (now (out .entry)) 0 (bytesHeld (target.Window w) (now (x .entry)) (now (bodies .entry)) (five (now (a .entry)) (now (b .entry)) (now (c .entry)) (now (d .entry)) (now (e .entry))) (now (journal .entry)) (now (m .entry))) ⌝ }
+    ensures { λ _. ⌜ now (out .exit) ≡ splice (now (out .entry)) 0 (recordsHeld w (now (x .entry)) (now (bodies .entry)) (five (now (a .entry)) (now (b .entry)) (now (c .entry)) (now (d .entry)) (now (e .entry))) (now (journal .entry)) (now (m .entry))) ⌝ }
 {
     let none = NotifyIconId { id: 0 };
     let small = icon_number(x, Family::Windows, w, none, 0);
@@ -235,6 +255,28 @@ fn window(
     wire::write_u8(out, NEWER, u as u8);
 }
 
+// Hands out a window: its records, then its pixels.
+fn window(
+    out: &mut [u8],
+    x: &[u8],
+    bodies: &[u8],
+    a: &[u8],
+    b: &[u8],
+    c: &[u8],
+    d: &[u8],
+    e: &[u8],
+    journal: &[u8],
+    m: &[u8],
+    w: WindowId,
+)
+    requires { ⌜ HandsOut (target.Window w) (now x) (now bodies) (five (now a) (now b) (now c) (now d) (now e)) (now journal) (now m) (now out) ⌝ }
+    ensures { λ _. ⌜ now (out .exit) ≡ splice (now (out .entry)) 0 (bytesHeld (target.Window w) (now (x .entry)) (now (bodies .entry)) (five (now (a .entry)) (now (b .entry)) (now (c .entry)) (now (d .entry)) (now (e .entry))) (now (journal .entry)) (now (m .entry)) noFigure) ⌝ }
+{
+    window_records(out, x, bodies, a, b, c, d, e, journal, m, w);
+    let pixels = figure::pixels(&m[0..body::WINDOW]);
+    wire::write_u32(out, PIXELS, (pixels % PIXELS_END) as u32);
+}
+
 // Hands out a notification icon: its fields, then its picture; its first mark says whether that is there.
 fn notification(
     out: &mut [u8],
@@ -251,7 +293,7 @@ fn notification(
     n: NotifyIconId,
 )
     requires { ⌜ HandsOut (target.Notification w n) (now x) (now bodies) (five (now a) (now b) (now c) (now d) (now e)) (now journal) (now m) (now out) ⌝ }
-    ensures { λ _. ⌜ now (out .exit) ≡ splice (now (out .entry)) 0 (bytesHeld (target.Notification w n) (now (x .entry)) (now (bodies .entry)) (five (now (a .entry)) (now (b .entry)) (now (c .entry)) (now (d .entry)) (now (e .entry))) (now (journal .entry)) (now (m .entry))) ⌝ }
+    ensures { λ _. ⌜ now (out .exit) ≡ splice (now (out .entry)) 0 (bytesHeld (target.Notification w n) (now (x .entry)) (now (bodies .entry)) (five (now (a .entry)) (now (b .entry)) (now (c .entry)) (now (d .entry)) (now (e .entry))) (now (journal .entry)) (now (m .entry)) noFigure) ⌝ }
 {
     let own = icon_number(x, Family::Notifications, w, n, 0);
     let origins = &m[body::OTHER..follow::NOTIFICATION];
@@ -278,14 +320,24 @@ fn cell(
     entry: u16,
 )
     requires { ⌜ HandsOut (target.Cell cache entry) (now x) (now bodies) (five (now a) (now b) (now c) (now d) (now e)) (now journal) (now m) (now out) ⌝ }
-    ensures { λ _. ⌜ now (out .exit) ≡ splice (now (out .entry)) 0 (bytesHeld (target.Cell cache entry) (now (x .entry)) (now (bodies .entry)) (five (now (a .entry)) (now (b .entry)) (now (c .entry)) (now (d .entry)) (now (e .entry))) (now (journal .entry)) (now (m .entry))) ⌝ }
+    ensures { λ _. ⌜ now (out .exit) ≡ splice (now (out .entry)) 0 (bytesHeld (target.Cell cache entry) (now (x .entry)) (now (bodies .entry)) (five (now (a .entry)) (now (b .entry)) (now (c .entry)) (now (d .entry)) (now (e .entry))) (now (journal .entry)) (now (m .entry)) noFigure) ⌝ }
 {
     let h = cell_number(cache, entry);
     let origins = &m[0..follow::ORIGINS];
     shown::holder(out, 0, x, h, bodies, a, b, c, d, e, journal, origins);
 }
 
-// Hands out what the index x of the present table, the memory m of the target and the pictures hold.
+// Hands out the desktop state, then the figure of the table.
+fn desktop(out: &mut [u8], m: &[u8], f: Figure)
+    requires { ⌜ (desktopSize + figureLength ≤ length (now out)) × (desktopSize ≤ length (now m)) × (fieldsOk desktopFields 2 (now m) ≡ true) ⌝ }
+    ensures { λ _. ⌜ now (out .exit) ≡ splice (now (out .entry)) 0 (recordBytes desktopFields (bodyOf desktopFields (now (m .entry))) ++ figureBytes f) ⌝ }
+{
+    layout::record(out, m, 29, 31);
+    figure::write(out, layout::DESKTOP, f);
+}
+
+// Hands out what the index x of the present table, the memory m of the target and the pictures hold, and the figure f with the desktop
+// state.
 fn hand_out(
     out: &mut [u8],
     x: &[u8],
@@ -297,10 +349,11 @@ fn hand_out(
     e: &[u8],
     journal: &[u8],
     m: &[u8],
+    f: Figure,
     target: LookupTarget,
 )
     requires { ⌜ HandsOut target (now x) (now bodies) (five (now a) (now b) (now c) (now d) (now e)) (now journal) (now m) (now out) ⌝ }
-    ensures { λ _. ⌜ now (out .exit) ≡ splice (now (out .entry)) 0 (bytesHeld target (now (x .entry)) (now (bodies .entry)) (five (now (a .entry)) (now (b .entry)) (now (c .entry)) (now (d .entry)) (now (e .entry))) (now (journal .entry)) (now (m .entry))) ⌝ }
+    ensures { λ _. ⌜ now (out .exit) ≡ splice (now (out .entry)) 0 (bytesHeld target (now (x .entry)) (now (bodies .entry)) (five (now (a .entry)) (now (b .entry)) (now (c .entry)) (now (d .entry)) (now (e .entry))) (now (journal .entry)) (now (m .entry)) f) ⌝ }
 {
     match target {
         LookupTarget::Window(w) => window(out, x, bodies, a, b, c, d, e, journal, m, w),
@@ -310,7 +363,7 @@ fn hand_out(
         LookupTarget::Cell(cache, entry) => {
             cell(out, x, bodies, a, b, c, d, e, journal, m, cache, entry)
         }
-        LookupTarget::Desktop => layout::record(out, m, 29, 31),
+        LookupTarget::Desktop => desktop(out, m, f),
         LookupTarget::Windows => ids::list(out, x, false),
         LookupTarget::Notifications => ids::list(out, x, true),
         LookupTarget::Shares(g, k) => wire::write_u8(out, 0, shares(x, g, k) as u8),
@@ -335,7 +388,7 @@ fn look_in(
     ensures { λ r. ⌜ CallOutcome (lookup target (now (out .entry))) (memory (now (index .entry)) (now (bodies .entry)) (five (now (a .entry)) (now (b .entry)) (now (c .entry)) (now (d .entry)) (now (e .entry))) (now (journal .entry))) (handed r (now (out .exit))) (memory (now (index .entry)) (now (bodies .entry)) (five (now (a .entry)) (now (b .entry)) (now (c .entry)) (now (d .entry)) (now (e .entry))) (now (journal .entry))) ⌝ }
 {
     let lent = store::places(a, b, c, d, e);
-    let mut x = [0u8; crate::INDEX];
+    let mut x = [0u8; index::LENGTH];
     let want = want_of(target);
     let w = journal::validate(index, bodies, lent, journal, want, &mut x, m);
     if w.end == 0 {
@@ -348,7 +401,8 @@ fn look_in(
     if out.len() < size {
         return refused(14);
     }
-    hand_out(out, &x, bodies, a, b, c, d, e, journal, m, target);
+    let f = figure_for(target, &x, index, bodies, journal, w.count);
+    hand_out(out, &x, bodies, a, b, c, d, e, journal, m, f, target);
     granted(w)
 }
 

@@ -1,4 +1,2 @@
 pub mod TableFigure
-pub mod OutcomeBytes
 pub mod OutcomeAnswers
-pub mod Examples

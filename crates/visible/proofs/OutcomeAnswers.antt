@@ -4,26 +4,28 @@ use mathlib.Core.Bool.{Bool, true, false}
 use mathlib.Core.List.{List, []}
 use Prim.Native.Nat.{ℕ, _-_, _<_, _≤_}
 use native.Mathlib.Omega.{arith}
-use lib.Dec.{ltb}
 use lib.ListN.{length}
 use borrow.Author.Tests.{lt-ltb, le-ltb}
 use Rattle.wire.specs.Parts.{splice}
 use Rattle.wire.proofs.Numbers.{Bytes}
 use Rattle.figure.specs.declared.Figure.{Figure}
-use Rattle.figure.specs.Figure.{figureOf}
+use Rattle.figure.specs.Figure.{figureLength, figureBytes}
+use Rattle.figure.specs.Kept.{keptFigure}
+use Rattle.figure.proofs.KeptFigures.{kept-figure}
 use Rattle.store.specs.Store.{placesIn}
 use Rattle.table.proofs.Rule.{table-has}
 use Rattle.journal.specs.declared.JournalExtent.{JournalExtent}
 use Rattle.journal.specs.Limits.{logStart}
-use Rattle.journal.specs.State.{State, present}
+use Rattle.journal.specs.State.{present}
 use Rattle.journal.specs.View.{Memory, View, short, unformed, formed, tooShort, wellFormed, meetsRule, viewOf}
 use Rattle.journal.proofs.Logged.{Logged, markedIn, logged-view}
 use Rattle.session.specs.declared.Reply.{Reply}
-use Rattle.session.specs.Calls.{checkpoint, nothing, refuse, grant, next, nextView}
+use Rattle.session.specs.Calls.{checkpoint, nothing, refuse, next, nextView}
+use Rattle.session.specs.TableFigure.{figureIn}
 use Rattle.session.specs.Outcome.{replyOf}
 use Rattle.session.proofs.Outcomes.{reply-in}
-use Rattle.visible.specs.TableFigure.{figureIn, MemoryHasFigure}
-use Rattle.visible.specs.Outcome.{figureLength, figureBytes, figureAnswer, figureOut, FigureOutcome, MarkedFigure, AtTheMark}
+use Rattle.visible.specs.TableFigure.{MemoryHasFigure}
+use Rattle.visible.specs.Outcome.{figureAnswer, figureOut, FigureOutcome, AtTheMark}
 use Rattle.visible.proofs.TableFigure.{memory-has-figure}
 
 no : {A : Type 0} → _≡_ {A = Bool} true false → A
@@ -60,12 +62,14 @@ module _ {m : Memory} {w : JournalExtent} {os : List (List ℕ)} (l : Logged m w
       let t = lt-ltb (length out) figureLength h in
       record { says = e ∙ rw (v, t); gives = rw (v, t) }
 
-  -- the memory has the figure of the table at the mark
-  pub marked-figure : Bytes (m .index) → figureOf (m .index) (m .bodies) ≡ figureIn (markedIn m)
+  -- the memory stores the figure of the table at the mark
+  pub marked-figure : Bytes (m .index) → keptFigure (m .index) ≡ figureIn (markedIn m)
   unfolding MemoryHasFigure
-  marked-figure bytes = memory-has-figure (m .index) (m .bodies) (m .store) bytes (table-has (m .index) (m .bodies) (placesIn (m .store)) (l .sound) .index)
+  marked-figure bytes =
+      kept-figure (m .index) (m .bodies) (l .figures)
+      ∙ memory-has-figure (m .index) (m .bodies) (m .store) bytes (table-has (m .index) (m .bodies) (placesIn (m .store)) (l .sound) .index)
 
-  pub figure-given : {r : Reply} {f : Figure} {out' : List ℕ} → Bytes (m .index) → figureLength ≤ length out → f ≡ figureOf (m .index) (m .bodies)
+  pub figure-given : {r : Reply} {f : Figure} {out' : List ℕ} → Bytes (m .index) → figureLength ≤ length out → f ≡ keptFigure (m .index)
       → out' ≡ splice out 0 (figureBytes f)
       → r ≡ record { number = 0; count = w .count; bytes = w .end - logStart }
       → FigureOutcome m out r out'

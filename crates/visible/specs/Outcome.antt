@@ -1,26 +1,18 @@
 -- The figure as a state call: that of the table at the mark, which after a checkpoint is the present one. Assumes nothing.
 use Prim.Native.Nat.{ℕ, _≤_}
 use mathlib.Core.Path.{_≡_}
-use mathlib.Core.List.{List, [], _++_}
+use mathlib.Core.List.{List, []}
 use lib.Dec.{ltb}
 use lib.ListN.{length}
 use Rattle.wire.specs.Tests.{pick}
-use Rattle.wire.specs.Numbers.{bytesOf}
 use Rattle.wire.specs.Parts.{splice}
-use Rattle.figure.specs.declared.Figure.{Figure}
+use Rattle.figure.specs.Figure.{figureLength, figureBytes}
 use Rattle.journal.specs.State.{State, present}
 use Rattle.journal.specs.View.{Memory, View, short, unformed, formed, viewOf}
 use Rattle.session.specs.declared.Reply.{Reply}
 use Rattle.session.specs.Calls.{checkpoint, nothing, Answer, refuse, grant}
 use Rattle.session.specs.Outcome.{plain, replied, replyOf, CallOutcome}
-use Rattle.visible.specs.TableFigure.{figureIn}
-
--- a figure as bytes: the windows in 4, the pixels in 8
-abbrev pub figureLength : ℕ
-figureLength = 12
-
-unfoldable pub figureBytes : Figure → List ℕ
-figureBytes f = bytesOf 4 (f .windows) ++ bytesOf 8 (f .pixels)
+use Rattle.session.specs.TableFigure.{figureIn}
 
 -- 1 where the memory is too short or not well formed, then 14 where the output is too small
 unfoldable pub figureAnswer : View → ℕ → Answer

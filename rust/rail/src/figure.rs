@@ -1,4 +1,4 @@
-//! How much was visible at a checkpoint.
+//! How much is visible, at a checkpoint and at any moment.
 
 /// The figure of a table: how many windows have a show state other than 0, and the pixels
 /// of their visibility rectangles.
@@ -6,6 +6,10 @@
 /// Right and bottom are outside, and a rectangle that ends where it begins or before
 /// counts nothing. Points in several rectangles of one window count once; the points of
 /// several windows are added up, wherever the windows lie.
+///
+/// That of the present table is in [`Desktop::figure`](crate::Desktop::figure), what each
+/// window has of it in [`Window::pixels`](crate::Window::pixels); that of the checkpoint is
+/// asked for by itself.
 #[derive(Clone, Copy, Debug, Default, PartialEq, Eq, Hash)]
 pub struct Figure {
     /// The windows that are shown, minimized ones too.

@@ -9,9 +9,9 @@ use crate::ffi;
 use crate::update::Report;
 use crate::view::View;
 
-/// The bytes needed of the index: which ids are listed, and at which place of the store
-/// each cell, window and notification icon has its picture.
-pub const INDEX_SIZE: usize = 589;
+/// The bytes needed of the index: which ids are listed, at which place of the store each
+/// cell, window and notification icon has its picture, and what of the windows is visible.
+pub const INDEX_SIZE: usize = 729;
 /// The bytes needed of the bodies: the records and the desktop state.
 pub const BODIES_SIZE: usize = 61_012;
 /// The bytes of a place of the store, for one picture.

@@ -1,8 +1,10 @@
-//! The figure at each mark beside the second program's report.
+//! The figure at each mark beside the second program's report, and the present one beside
+//! its book.
 
 use std::fmt::Write;
 
 use rail::{Figure, Session};
+use second::book::Book;
 use second::generate::report::input;
 use second::report::{run, take_item, HEAD, MARK};
 
@@ -26,6 +28,30 @@ fn report(input: &[u8]) -> String {
         writeln!(text, "{mark} {windows} {pixels}").expect("a text takes all");
     }
     text
+}
+
+/// After each order and each mark the present figure is the book's.
+#[test]
+fn at_any_moment() {
+    for seed in 0..20 {
+        let mut session = Session::new();
+        let mut book = Book::new();
+        let input = input(seed, 300);
+        let mut rest = input.as_slice();
+        while let Some((item, tail)) = take_item(rest) {
+            rest = tail;
+            if item.kind == MARK {
+                session.checkpoint();
+                book.mark();
+            } else {
+                let granted = session.deliver(item.payload).is_ok();
+                assert_eq!(granted, book.deliver(item.payload).is_ok());
+            }
+            let Figure { windows, pixels } = session.desktop().figure;
+            let figure = book.figure();
+            assert_eq!((windows as usize, pixels), (figure.windows, figure.pixels));
+        }
+    }
 }
 
 #[test]

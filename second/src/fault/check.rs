@@ -2,7 +2,11 @@
 //!
 //! Up to the first fault, and from each emptying to the next one, the lines are those of
 //! the book. A fault in the store alone changes pictures, so a line must be the book's but
-//! for the bytes of pictures. After a fault in the state memory only numbers are known.
+//! for the bytes of pictures. While a figure is not the one that the windows have, every
+//! call but an emptying answers 1. After another fault in the state memory only numbers are
+//! known.
+
+use std::collections::BTreeMap;
 
 use super::Met;
 use crate::compare::{item_text, line_text};
@@ -31,7 +35,7 @@ pub fn check(faulty: &Faulty, parts: &Parts, printed: &[u8]) -> Result<Met, Stri
         met.items += 1;
         let call = call(item, parts).ok_or("the script has a bad item")?;
         if SILENT.contains(&item.kind) {
-            judge.pass(&call, &mut met);
+            judge.pass(&call, item.payload, &mut met);
             continue;
         }
         let line = lines.next();
@@ -58,6 +62,8 @@ enum Sight {
     Known,
     /// The same but for the bytes of pictures.
     AllButPictures,
+    /// What it described until figures changed, which are to change back.
+    WrongFigures,
     /// Nothing.
     Unknown,
 }
@@ -67,6 +73,8 @@ struct Judge<'a> {
     /// The calls, as far as the memory is known.
     session: Session,
     sight: Sight,
+    /// The bytes of figures that are wrong, each by its offset with the bits changed.
+    figures: BTreeMap<u32, u8>,
     /// The next call is lent too little state memory.
     is_short: bool,
     /// What the book prints for the last call.
@@ -79,24 +87,27 @@ impl<'a> Judge<'a> {
             parts,
             session: Session::default(),
             sight: Sight::Known,
+            figures: BTreeMap::new(),
             is_short: false,
             line: Vec::new(),
         }
     }
 
     /// An item that prints nothing.
-    fn pass(&mut self, call: &Call<'_>, met: &mut Met) {
+    fn pass(&mut self, call: &Call<'_>, payload: &[u8], met: &mut Met) {
         match call {
             Call::Fault => {
                 met.faults += 1;
-                self.sight = Sight::Unknown;
+                self.sight = self.sight_after(payload, met);
             }
             Call::FaultStore(..) => {
                 met.faults += 1;
                 met.store_faults += 1;
-                if self.sight == Sight::Known {
-                    self.sight = Sight::AllButPictures;
-                }
+                self.sight = match self.sight {
+                    Sight::Known => Sight::AllButPictures,
+                    Sight::WrongFigures => Sight::Unknown,
+                    sight => sight,
+                };
             }
             Call::Shorten => self.is_short = true,
             Call::ShortenStore(..) => self.is_short = false,
@@ -105,12 +116,43 @@ impl<'a> Judge<'a> {
         self.session.make(call);
     }
 
+    /// What is known after a fault in the state memory.
+    fn sight_after(&mut self, payload: &[u8], met: &mut Met) -> Sight {
+        let &[0, a, b, c, d, bits] = payload else {
+            return Sight::Unknown;
+        };
+        let offset = u32::from_le_bytes([a, b, c, d]);
+        let is_figure = self.parts.figures().is_some_and(|at| at.contains(&offset));
+        if !is_figure || !matches!(self.sight, Sight::Known | Sight::WrongFigures) {
+            return Sight::Unknown;
+        }
+        met.figure_faults += 1;
+        let changed = self.figures.entry(offset).or_default();
+        *changed ^= bits;
+        match self.figures.values().all(|&bits| bits == 0) {
+            true => Sight::Known,
+            false => Sight::WrongFigures,
+        }
+    }
+
+    /// Whether a call is refused for a wrong figure: all are that are lent state memory, but
+    /// an emptying.
+    fn is_refused(&self, call: &Call<'_>) -> bool {
+        let others = matches!(call, Call::Empty | Call::ReadRecord(_) | Call::Dump);
+        self.sight == Sight::WrongFigures && !others
+    }
+
     /// Whether the line may be printed for an item that prints one.
     fn may_print(&mut self, kind: u8, call: &Call<'_>, line: &[u8], met: &mut Met) -> bool {
         let lent = places(&self.session.lent());
         self.line.clear();
-        self.session
-            .make_line(kind, call, self.parts, &mut self.line);
+        if self.is_refused(call) {
+            self.session.refuse();
+            self.line.extend_from_slice(&[kind, b' ', b'1', b'\n']);
+        } else {
+            self.session
+                .make_line(kind, call, self.parts, &mut self.line);
+        }
         if *call == Call::Dump {
             let size = self.session.dump_size(self.parts);
             return memory(line).is_some_and(|memory| memory.len() == size);
@@ -123,14 +165,19 @@ impl<'a> Judge<'a> {
             return false;
         };
         let is_right = match self.sight {
-            Sight::Known => line == self.line,
+            Sight::Known | Sight::WrongFigures => line == self.line,
             Sight::AllButPictures => without_pictures(line) == without_pictures(&self.line),
             Sight::Unknown => *call != Call::Empty || line == self.line,
         };
         match number {
-            STATE_UNFIT if is_short || self.sight != Sight::Unknown => met.lent_short += 1,
+            STATE_UNFIT if is_short => met.lent_short += 1,
+            STATE_UNFIT if self.is_refused(call) => met.wrong_figures += 1,
+            STATE_UNFIT if self.sight != Sight::Unknown => met.lent_short += 1,
             STATE_UNFIT => met.unfit += 1,
-            0 if *call == Call::Empty => self.sight = Sight::Known,
+            0 if *call == Call::Empty => {
+                self.sight = Sight::Known;
+                self.figures.clear();
+            }
             0 if self.sight == Sight::AllButPictures => met.granted_after_store_fault += 1,
             0 if self.sight == Sight::Unknown => met.granted_after_fault += 1,
             _ => {}

@@ -31,6 +31,10 @@ pub struct Met {
     pub store_faults: u64,
     /// Calls granted after faults in the store alone and before the next emptying.
     pub granted_after_store_fault: u64,
+    /// Items that change the figures and leave all else as it was.
+    pub figure_faults: u64,
+    /// Calls that were lent the whole and answered 1 for a wrong figure.
+    pub wrong_figures: u64,
 }
 
 impl AddAssign for Met {
@@ -42,6 +46,8 @@ impl AddAssign for Met {
         self.granted_after_fault += other.granted_after_fault;
         self.store_faults += other.store_faults;
         self.granted_after_store_fault += other.granted_after_store_fault;
+        self.figure_faults += other.figure_faults;
+        self.wrong_figures += other.wrong_figures;
     }
 }
 
@@ -58,11 +64,13 @@ pub struct Tally {
 
 impl Tally {
     /// Whether nothing is wrong, and faults were found out as well as lived with, those in
-    /// a store too if there were any.
+    /// a store too if there were any, and wrong figures were found out.
     pub fn holds(&self) -> bool {
         let met = &self.met;
         let store_holds = met.store_faults == 0 || met.granted_after_store_fault > 0;
-        self.wrong == 0 && met.unfit > 0 && met.granted_after_fault > 0 && store_holds
+        let figures_hold = met.figure_faults == 0 || met.wrong_figures > 0;
+        let others_hold = met.unfit > 0 && met.granted_after_fault > 0;
+        self.wrong == 0 && others_hold && store_holds && figures_hold
     }
 }
 

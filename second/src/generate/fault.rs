@@ -1,9 +1,10 @@
-//! Scripts with faults in the state memory and in the store: those of state calls with
-//! `X` items strewn in, then the store as it is lent at first, an emptying, and calls
+//! Scripts with faults in the state memory, at times in its figures alone, and in the store:
+//! those of state calls with `X` items strewn in, then the store as it is lent at first, an emptying, and calls
 //! without faults.
 
 use super::random::Random;
 use super::session;
+use crate::memory::figures::SHOWN_AT;
 use crate::script::parts::{Parts, StoreLengths, FIRST_LENGTHS, STORE_PARTS};
 use crate::script::session::{call, Call, Session};
 use crate::script::{push_item, take_item, Item};
@@ -11,8 +12,10 @@ use crate::table::PLACE_SIZE;
 
 /// One item in this many is followed by a fault.
 const FAULT_EVERY: usize = 10;
-/// In so many of a hundred cases faults are in the store alone up to the next emptying.
+/// In so many of a hundred cases faults are in the store alone up to the next emptying, and
+/// in so many in the figures alone.
 const STORE_ALONE: usize = 35;
+const FIGURES_ALONE: usize = 20;
 /// Of the other faults so many of a hundred are in the store.
 const IN_STORE: usize = 15;
 /// Faults that are aimed stand below this offset, where the memory is in use.
@@ -39,18 +42,17 @@ pub fn script(seed: u64, items: usize, parts: &Parts) -> Faulty {
     };
     let mut script = Vec::new();
     let mut session = Session::default();
-    // Between some emptyings there are faults in the store alone.
-    let mut in_store = strewer.random.chance(STORE_ALONE);
+    let mut aim = strewer.aim();
     let calls = session::script(seed, items, parts);
     for (item, call) in good_items(&calls, parts) {
         push_item(&mut script, item.kind, item.payload);
         let number = session.make(&call);
         if call == Call::Empty && number == Some(0) {
             strewer.standing.clear();
-            in_store = strewer.random.chance(STORE_ALONE);
+            aim = strewer.aim();
         }
         if strewer.random.below(FAULT_EVERY) == 0 {
-            if let Some(fault) = strewer.fault(in_store, &session.lengths()) {
+            if let Some(fault) = strewer.fault(aim, &session.lengths()) {
                 push_item(&mut script, b'X', &fault);
             }
         }
@@ -91,6 +93,14 @@ fn good_items<'a>(script: &'a [u8], parts: &Parts) -> Vec<(Item<'a>, Call<'a>)> 
     items
 }
 
+/// Where faults are, up to the next emptying.
+#[derive(Clone, Copy, PartialEq, Eq)]
+enum Aim {
+    Any,
+    Store,
+    Figures,
+}
+
 struct Strewer<'a> {
     random: Random,
     parts: &'a Parts,
@@ -99,10 +109,18 @@ struct Strewer<'a> {
 }
 
 impl Strewer<'_> {
+    fn aim(&mut self) -> Aim {
+        match self.random.below(100) {
+            n if n < STORE_ALONE => Aim::Store,
+            n if n < STORE_ALONE + FIGURES_ALONE => Aim::Figures,
+            _ => Aim::Any,
+        }
+    }
+
     /// A fault, or the last one again, which takes it back. The store has these lengths;
     /// a byte past them is left alone, as is all where a fault in the store is due and
     /// none of it is lent.
-    fn fault(&mut self, in_store: bool, lengths: &StoreLengths) -> Option<[u8; 6]> {
+    fn fault(&mut self, aim: Aim, lengths: &StoreLengths) -> Option<[u8; 6]> {
         if self.random.chance(50) {
             let parts = self.parts;
             let again = self.standing.pop_if(|fault| is_lent(fault, parts, lengths));
@@ -110,9 +128,11 @@ impl Strewer<'_> {
                 return again;
             }
         }
-        let fault = match in_store || self.random.chance(IN_STORE) {
-            true => self.store_fault(lengths)?,
-            false => self.new_fault(),
+        let fault = match aim {
+            Aim::Store => self.store_fault(lengths)?,
+            Aim::Figures => self.figure_fault()?,
+            Aim::Any if self.random.chance(IN_STORE) => self.store_fault(lengths)?,
+            Aim::Any => self.new_fault(),
         };
         self.standing.push(fault);
         Some(fault)
@@ -132,6 +152,19 @@ impl Strewer<'_> {
         };
         let part = self.parts.first_of_store() + part as u8;
         Some(self.item(part, offset.min(length - 1)))
+    }
+
+    /// A fault in the figures, half of them in those of all windows; none where the parts
+    /// are not the ones of which it is known where they stand.
+    fn figure_fault(&mut self) -> Option<[u8; 6]> {
+        let figures = self.parts.figures()?;
+        let totals = figures.start as usize + SHOWN_AT;
+        let from = match self.random.chance(50) {
+            true => totals,
+            false => figures.start as usize,
+        };
+        let offset = from + self.random.below(figures.end as usize - from);
+        Some(self.item(0, offset))
     }
 
     /// Half of them are aimed at the beginning of the first or the last part.

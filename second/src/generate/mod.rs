@@ -7,3 +7,4 @@ pub mod pdu;
 pub mod random;
 pub mod report;
 pub mod session;
+mod windows;

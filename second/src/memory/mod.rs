@@ -3,6 +3,7 @@
 //! makes such a file of a book.
 
 mod body;
+pub(crate) mod figures;
 mod write;
 
 use std::collections::BTreeMap;
@@ -16,9 +17,10 @@ use crate::table::{
     Cell, Holder, Table, FEWEST_PLACES, MOST_PLACES, NOTIFICATION_ICONS, PLACE_SIZE, WINDOWS,
 };
 use body::Fields;
+use figures::Figures;
 
-/// The bytes of the index, the bodies and the journal.
-pub const PARTS: [usize; 3] = [589, 61_012, 32_770];
+/// The bytes of the index with its figures, the bodies and the journal.
+pub const PARTS: [usize; 3] = [FIGURES_AT + FIGURES_SIZE, 61_012, 32_770];
 /// The bytes of all three.
 pub const STATE_SIZE: usize = PARTS[0] + PARTS[1] + PARTS[2];
 /// The bytes of a file that say anything: past the most places nothing does.
@@ -32,6 +34,10 @@ const POINTERS_EACH: usize = 3;
 const POINTERS_AT: usize = 1;
 const SLOTS_AT: usize = POINTERS_AT + CELL_COUNT + POINTERS_EACH * SLOTS;
 const SLOT_SIZE: usize = 9;
+/// Where behind the index the figures begin.
+pub const FIGURES_AT: usize = SLOTS_AT + SLOT_SIZE * SLOTS;
+/// The bytes of all of them.
+pub const FIGURES_SIZE: usize = figures::PIXELS_AT + figures::PIXELS_SIZE;
 /// The bytes of a window's body, and of another; the desktop's follows those of the slots.
 const WINDOW_SIZE: usize = 1_392;
 const BODY_SIZE: usize = 916;
@@ -118,6 +124,7 @@ impl<'a> Parts<'a> {
         }
         let mut windows = BTreeMap::new();
         let mut icons = BTreeMap::new();
+        let mut figures = Figures::default();
         for slot in 0..SLOTS {
             let pointers = self.pointers(slot);
             let Some((window, icon)) = self.ids(slot)? else {
@@ -134,7 +141,9 @@ impl<'a> Parts<'a> {
                 if icon != NotifyIconId(0) {
                     return None;
                 }
-                if windows.insert(window, fields.window()?).is_some() {
+                let record = fields.window()?;
+                figures.add(slot, &record);
+                if windows.insert(window, record).is_some() {
                     return None;
                 }
                 Holder::of_window(window).map(Some)
@@ -148,6 +157,9 @@ impl<'a> Parts<'a> {
             for (pointer, holder) in pointers.into_iter().zip(holders) {
                 held.add(pointer, holder);
             }
+        }
+        if self.index[FIGURES_AT..] != figures.bytes() {
+            return None;
         }
         let desktop = Fields::of(self.body(SLOTS)).desktop()?;
         let mut pictures = Vec::new();

@@ -4,9 +4,10 @@
 
 use std::collections::BTreeMap;
 
+use super::figures::Figures;
 use super::{
-    body_at, CELL_COUNT, HEADS_AT, HEAD_SIZE, ORDERS_AT, PARTS, POINTERS_AT, POINTERS_EACH, SLOTS,
-    SLOTS_AT, SLOT_SIZE, STATE_SIZE,
+    body_at, CELL_COUNT, FIGURES_AT, HEADS_AT, HEAD_SIZE, ORDERS_AT, PARTS, POINTERS_AT,
+    POINTERS_EACH, SLOTS, SLOTS_AT, SLOT_SIZE, STATE_SIZE,
 };
 use crate::book::Book;
 use crate::generate::random::Random;
@@ -56,11 +57,16 @@ impl Writer<'_> {
             self.index[SLOTS_AT + SLOT_SIZE * slot] = 0;
         }
         let free = self.shuffled(WINDOWS);
+        let mut figures = Figures::default();
         for (id, slot) in table.window_ids().zip(free) {
             self.list(slot, (id, None));
-            let body = table.window(id).map(window).unwrap_or_default();
-            self.body(slot, &body);
+            let Some(record) = table.window(id) else {
+                continue;
+            };
+            self.body(slot, &window(record));
+            figures.add(slot, record);
         }
+        self.index[FIGURES_AT..].copy_from_slice(&figures.bytes());
         let free = self.shuffled(NOTIFICATION_ICONS);
         for ((window, icon), slot) in table.icon_ids().zip(free) {
             let slot = WINDOWS + slot;

@@ -1,7 +1,7 @@
 //! What `Z` prints: the state memory and the places of the store, as hex.
 //!
 //! How a program lays out its state memory is its own affair, and the book here has none.
-//! So a run prints the size alone, `Z 364707 bytes`, and before another program's output is
+//! So a run prints the size alone, `Z 364847 bytes`, and before another program's output is
 //! compared, each line of a `Z` in it is [`told`] in the same way: it must have just so many
 //! bytes. What must not change from one such line to the next is looked at too.
 

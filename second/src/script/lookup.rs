@@ -4,6 +4,7 @@ use std::fmt::Display;
 
 use super::print::{push_hex, Fields};
 use super::session::Call;
+use crate::figure;
 use crate::ids::{NotifyIconId, WindowId};
 use crate::table::{Cell, Desktop, Holder, NotificationIcon, Rect, Table, Window};
 
@@ -16,6 +17,7 @@ pub fn push_found(line: &mut Vec<u8>, table: &Table, call: &Call<'_>) {
                 push_picture(line, "small", table.shown(Holder::Small(id)));
                 push_picture(line, "big", table.shown(Holder::Big(id)));
                 push_picture(line, "overlay", table.shown(Holder::Overlay(id)));
+                Fields { line }.number("pixels", figure::of_window(window));
             }
         }
         Call::Icon(window, icon) => {
@@ -30,7 +32,13 @@ pub fn push_found(line: &mut Vec<u8>, table: &Table, call: &Call<'_>) {
                 push_cell(line, cell);
             }
         }
-        Call::Desktop => push_desktop(line, table.desktop()),
+        Call::Desktop => {
+            push_desktop(line, table.desktop());
+            let figure = figure::of(table);
+            Fields { line }
+                .text("shown", &figure.windows.to_string())
+                .text("pixels", &figure.pixels.to_string());
+        }
         Call::Lists => push_lists(line, table),
         Call::Shared(one, other) => {
             if let Some(shared) = table.store().shared(one, other) {
@@ -53,7 +61,7 @@ fn push_lists(line: &mut Vec<u8>, table: &Table) {
         .text("icons", &icons.join(","));
 }
 
-/// Adds the fields of a window, its pictures aside.
+/// Adds the fields of a window, its pictures and its pixels aside.
 fn push_window(line: &mut Vec<u8>, id: WindowId, window: &Window) {
     Fields { line }
         .number("id", id.0)
@@ -106,7 +114,7 @@ fn push_cell(line: &mut Vec<u8>, cell: &Cell) {
         .string("color", &cell.color);
 }
 
-/// Adds the fields of the desktop state.
+/// Adds the fields of the desktop state, the figure aside.
 fn push_desktop(line: &mut Vec<u8>, desktop: &Desktop) {
     let stack: Vec<String> = desktop.stack.iter().map(|id| id.0.to_string()).collect();
     Fields { line }

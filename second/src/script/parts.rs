@@ -2,14 +2,15 @@
 //! after them in number the parts of the store. The book keeps no memory; lengths only
 //! tell which `T` and `X` items are bad, how many places are lent, and how long `Z` is.
 
+use std::ops::Range;
+
+use crate::memory;
 use crate::table::PLACE_SIZE;
 
 /// The most bytes of a part.
 pub const PART_LIMIT: u32 = 65_536;
 /// The most parts that an item can name.
 const PARTS_LIMIT: usize = 256;
-/// The parts of state memory that the program compared has, if no others are named.
-const STATE_PARTS: [u32; 3] = [589, 61_012, 32_770];
 
 /// The parts of the store.
 pub const STORE_PARTS: usize = 5;
@@ -45,9 +46,10 @@ pub fn first_places(lengths: &StoreLengths, count: usize) -> Vec<(usize, usize)>
 #[derive(Clone, Debug, PartialEq, Eq)]
 pub struct Parts(Vec<u32>);
 
+/// Those that the program compared has, if no others are named.
 impl Default for Parts {
     fn default() -> Self {
-        Self(STATE_PARTS.to_vec())
+        Self(memory::PARTS.map(|length| length as u32).to_vec())
     }
 }
 
@@ -73,6 +75,12 @@ impl Parts {
     /// The number of the first part of the store.
     pub fn first_of_store(&self) -> u8 {
         self.0.len() as u8
+    }
+
+    /// Where in part 0 the figures stand, if these are the parts of [`memory`].
+    pub fn figures(&self) -> Option<Range<u32>> {
+        let from = memory::FIGURES_AT as u32;
+        (*self == Self::default()).then_some(from..from + memory::FIGURES_SIZE as u32)
     }
 
     /// The bytes of all of them.

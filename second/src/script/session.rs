@@ -216,6 +216,17 @@ impl Session {
         None
     }
 
+    /// The next call is on another book.
+    pub fn go_on_from(&mut self, book: Book) {
+        self.book = book;
+    }
+
+    /// A call is refused for what its memory holds: nothing changes, and the next one is lent
+    /// the whole again.
+    pub fn refuse(&mut self) {
+        self.short = None;
+    }
+
     /// Whether enough is lent to a call: to an emptying the fewest places, to another as
     /// many as the last emptying fixed.
     fn fits(&self, call: &Call<'_>) -> bool {

@@ -237,7 +237,8 @@ fn set_bytes(field: &mut Vec<u8>, carried: Option<&[u8]>) {
     set(field, carried.map(<[u8]>::to_vec));
 }
 
-fn rects(bytes: &[u8]) -> Vec<Rect> {
+/// The rectangles that an order carries.
+pub(crate) fn rects(bytes: &[u8]) -> Vec<Rect> {
     bytes
         .chunks_exact(RECT_SIZE)
         .map(|rect| {

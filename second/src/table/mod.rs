@@ -3,6 +3,7 @@
 mod change;
 mod store;
 
+pub(crate) use change::rects;
 pub use change::{brings_icon, number, setting};
 pub use store::{Holder, Store, FEWEST_PLACES, MOST_PLACES, PLACE_SIZE};
 

@@ -3,6 +3,7 @@
 #[allow(dead_code)]
 #[path = "../common/mod.rs"]
 mod common;
+mod figures;
 mod files;
 mod generator;
 

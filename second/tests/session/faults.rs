@@ -55,11 +55,12 @@ fn faults_are_in_every_part() {
     let parts = Parts::default();
     let state = parts.lengths().len();
     let (mut aimed, mut elsewhere) = ([0; 32], [0; 32]);
-    let mut stores_alone = 0;
-    for seed in 0..100 {
+    let figures = parts.figures().expect("known parts");
+    let (mut stores_alone, mut figures_alone) = (0, 0);
+    for seed in 0..200 {
         let faulty = script(seed, 60, &parts);
         let mut session = Session::default();
-        let (mut in_state, mut in_store) = (0, 0);
+        let (mut in_state, mut in_store, mut in_figures) = (0, 0, 0);
         let mut rest = faulty.script.as_slice();
         while let Some((item, tail)) = take_item(rest) {
             if let (b'X', &[part, a, b, c, d, value]) = (item.kind, item.payload) {
@@ -78,11 +79,13 @@ fn faults_are_in_every_part() {
                 count[part] += 1;
                 in_state += u32::from(part < state);
                 in_store += u32::from(part >= state);
+                in_figures += u32::from(part == 0 && figures.contains(&offset));
             }
             session.make(&call(item, &parts).expect("a good item"));
             rest = tail;
         }
         stores_alone += u32::from(in_state == 0 && in_store > 0);
+        figures_alone += u32::from(in_figures > 0 && in_figures == in_state + in_store);
     }
     assert!(aimed[0] > 50 && aimed[state - 1] > 50, "{aimed:?}");
     assert!(elsewhere[1..state].iter().all(|&n| n > 10), "{elsewhere:?}");
@@ -92,6 +95,7 @@ fn faults_are_in_every_part() {
         "{elsewhere:?}"
     );
     assert!(stores_alone > 5, "{stores_alone}");
+    assert!(figures_alone > 5, "{figures_alone}");
 }
 
 const FIRST: &str = "D 2E0700 02000004\nX 00 00000000 01\nS\nX 01 05000000 FF\n\
@@ -180,7 +184,7 @@ fn faults_in_the_store_change_pictures_alone() {
         "W 0 2 37 id=65624 owner=0 style=0 ext=0 show=0 title= client=0,0 client_size=0,0 \
         margin_x=0,0 margin_y=0,0 rp=0 root=0 offset=0,0 delta=0,0 size=0,0 rects= visible=0,0 vis_rects= \
         overlay_text= taskbar=0 server_z=0 app_bar=0 edge=0 \
-        small=32,1,1,a1,,b1b2 big=none overlay=none";
+        small=32,1,1,a1,,b1b2 big=none overlay=none pixels=0";
     let cell = "C 0 2 37 bpp=32 width=1 height=1 mask=a1 table= color=b1b2";
     let printed = format!("D 0 1 11\nD 0 2 37\n{window}\n{cell}\nM 0 0 0\nE 0 0 0\nM 0 0 0\n");
     let checked = |old: &str, new: &str| {
@@ -209,6 +213,7 @@ fn faults_in_the_store_change_pictures_alone() {
         ("a1,,b1b2", "a1,b1,b2"),
         ("a1,,b1b2", "a1,,b1"),
         ("rp=0", "rp=1"),
+        ("pixels=0", "pixels=1"),
         ("bpp=32", "bpp=24"),
         ("color=b1b2", "color="),
         ("M 0 0 0", "M 1"),
@@ -234,7 +239,7 @@ fn a_store_lent_too_short_after_a_fault() {
     let parts = Parts::parse("1").expect("a length");
     let memory = "00".repeat(1 + 12 * 4_224);
     let check = |lines: &str| check(&faulty, &parts, format!("{lines}\nZ {memory}\n").as_bytes());
-    let state = "S 0 0 0 active=0 hooked=0 syncing=0 stack=";
+    let state = "S 0 0 0 active=0 hooked=0 syncing=0 stack= shown=0 pixels=0";
     assert!(check("S 1\nS 1\nE 0 0 0\nM 0 0 0").is_ok());
     assert!(check(&format!("S 1\n{state}\nE 0 0 0\nM 0 0 0")).is_ok());
     assert!(check(&format!("{state}\nS 1\nE 0 0 0\nM 0 0 0")).is_err());
@@ -261,6 +266,11 @@ fn a_run_without_faults_met_does_not_hold() {
     assert!(!Tally { met, ..tally }.holds());
     let met = Met {
         store_faults: 1,
+        ..tally.met
+    };
+    assert!(!Tally { met, ..tally }.holds());
+    let met = Met {
+        figure_faults: 1,
         ..tally.met
     };
     assert!(!Tally { met, ..tally }.holds());

@@ -23,7 +23,8 @@ W 57000100";
             "W 0 3 165 id=65624 owner=1 style=2 ext=3 show=5 title=41004200 client=4,5 \
              client_size=6,7 margin_x=0,0 margin_y=0,0 rp=1 root=8 offset=9,10 delta=11,12 size=13,14 \
              rects=1,2,3,4;65535,6,7,8 visible=15,-1 \
-             vis_rects=9,8,7,6;5,4,3,2;1,0,0,32768 overlay_text= taskbar=0 server_z=0 app_bar=0 edge=0 small=24,2,3,99,, big=24,2,3,99,, overlay=none",
+             vis_rects=9,8,7,6;5,4,3,2;1,0,0,32768 overlay_text= taskbar=0 server_z=0 app_bar=0 edge=0 small=24,2,3,99,, big=24,2,3,99,, overlay=none \
+             pixels=0",
             "W 9",
         ]
     );
@@ -47,8 +48,8 @@ W 58000100";
     assert_eq!(
         ends,
         [
-            "small=32,1,1,,, big=none overlay=none",
-            "small=32,1,1,,, big=32,1,1,,, overlay=32,2,1,,,"
+            "small=32,1,1,,, big=none overlay=none pixels=0",
+            "small=32,1,1,,, big=32,1,1,,, overlay=32,2,1,,, pixels=0"
         ]
     );
 }
@@ -118,12 +119,12 @@ M
 S";
     assert_eq!(
         run_text(text),
-        "S 0 0 0 active=0 hooked=0 syncing=0 stack=\n\
+        "S 0 0 0 active=0 hooked=0 syncing=0 stack= shown=0 pixels=0\n\
          D 0 1 28\n\
-         S 0 1 28 active=1 hooked=1 syncing=1 stack=4294967295,3,2,3\n\
+         S 0 1 28 active=1 hooked=1 syncing=1 stack=4294967295,3,2,3 shown=0 pixels=0\n\
          D 0 2 35\n\
-         S 0 2 35 active=1 hooked=1 syncing=0 stack=4294967295,3,2,3\n\
+         S 0 2 35 active=1 hooked=1 syncing=0 stack=4294967295,3,2,3 shown=0 pixels=0\n\
          M 0 0 0\n\
-         S 0 0 0 active=1 hooked=1 syncing=0 stack=4294967295,3,2,3\n"
+         S 0 0 0 active=1 hooked=1 syncing=0 stack=4294967295,3,2,3 shown=0 pixels=0\n"
     );
 }

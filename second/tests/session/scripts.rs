@@ -67,7 +67,7 @@ fn a_bad_item_ends_the_run() {
     assert_eq!(run_text("S\nM 00\nS"), format!("{DESKTOP}bad item\n"));
 }
 
-const DESKTOP: &str = "S 0 0 0 active=0 hooked=0 syncing=0 stack=\n";
+const DESKTOP: &str = "S 0 0 0 active=0 hooked=0 syncing=0 stack= shown=0 pixels=0\n";
 
 /// Whatever the next call is, it answers 1; the one after it is made.
 #[test]

@@ -28,6 +28,11 @@ fn public_document() {
 }
 
 #[test]
+fn figures() {
+    check(include_str!("../../vectors/session-figures.txt"), 58);
+}
+
+#[test]
 fn session_record() {
     check(include_str!("../../vectors/session-record.txt"), 32);
 }
@@ -43,7 +48,7 @@ fn stored_script() {
     let text = include_str!("../../scripts/session.txt");
     let expected = text.lines().filter_map(|line| line.split_once("# => "));
     let expected: Vec<&str> = expected.map(|(_, line)| line).collect();
-    assert_eq!(expected.len(), 647);
+    assert_eq!(expected.len(), 705);
     assert_lines(&run_text(text), &expected);
 }
 

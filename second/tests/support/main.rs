@@ -261,7 +261,7 @@ fn newer_fields_in_words() {
         "3: deliver 23 bytes: window 7 overlay icon into cell 255/0, 1 by 1, 32 bits"
     );
     assert!(lines[7].contains(" overlay_text=\"A\" taskbar=1 server_z=0 app_bar=1 edge=3 "));
-    assert!(lines[7].ends_with(" overlay=(1 by 1, 32 bits, 0 bytes)"));
+    assert!(lines[7].ends_with(" overlay=(1 by 1, 32 bits, 0 bytes) pixels=0"));
     let holder = "the overlay icon of window 7";
     assert_eq!(
         lines[8],

@@ -79,6 +79,7 @@ static void print_window(uint32_t id) {
     print_picture("small", w.small_icon);
     print_picture("big", w.big_icon);
     print_picture("overlay", w.overlay_icon);
+    printf(" pixels=%lu", (unsigned long)w.pixels);
 }
 
 static void print_notification(uint32_t window_id, uint32_t notify_icon_id) {
@@ -109,6 +110,7 @@ static void print_desktop(void) {
     printf(" active=%u hooked=%u syncing=%u stack=", d.active_window_id, d.hooked, d.syncing);
     for (i = 0; i < d.num_window_ids; i++)
         printf("%s%u", i == 0 ? "" : ",", d.window_ids[i]);
+    printf(" shown=%lu pixels=%llu", (unsigned long)d.shown, (unsigned long long)d.pixels);
 }
 
 static void print_lists(void) {

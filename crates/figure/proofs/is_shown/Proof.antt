@@ -1,39 +1,29 @@
--- `is_shown`: the two bytes are the used mark and the show state. Assumes nothing.
+-- `is_shown`: the byte is the used mark, and the part lent to `shows` is the window's slot. Assumes nothing.
+use mathlib.Core.Path.{refl}
+use Prim.Native.Nat.{_+_, _*_, _-_}
+use native.Mathlib.Omega.{arith}
 use denote.Ref.{now}
-use Rattle.figure.proofs.FigureSums.{shown-is}
 use borrow.Author.Needs.{needs}
+use Rattle.figure.proofs.FigureSums.{unused, shown-is}
 use Rattle.figure.proofs.is_shown.Statement.{statement}
 use Rattle.figure.proofs.is_shown.Tie as tie
-
-mul-used : tie.Need-mul-used
-mul-used c = search needs
-
-add-used : tie.Need-add-used
-add-used c = search needs
-
-shared-slice-read-used : tie.Need-shared-slice-read-used
-shared-slice-read-used c = search needs
-
-mul-result : tie.Need-mul-result
-mul-result c = search needs
-
-add-result : tie.Need-add-result
-add-result c = search needs
-
-shared-slice-read-result : tie.Need-shared-slice-read-result
-shared-slice-read-result c = search needs
-
-returns : tie.Need-returns
-returns c = let a = c .before .before .args in shown-is (now (a .index)) (now (a .bodies)) (a .i) (c .before .before .pre .0)
 
 pub is-shown-spec : {M : Type 1} → statement M
 is-shown-spec =
     tie.close
     (tie.spec
-    mul-used
-    add-used
-    shared-slice-read-used
-    mul-result
-    add-result
-    shared-slice-read-result
-    returns)
+    (λ c. search needs)
+    (λ c. search needs)
+    (λ c. search needs)
+    (λ c. let a = c .before .before .before .before .args in unused (now (a .index)) (now (a .bodies)) (a .i) (c .if1 .taken))  -- returns
+    (λ c. search needs)
+    (λ c. search needs)
+    (λ c. search needs)
+    (λ c. search needs)
+    (λ c. search needs)
+    (λ c κs. search needs)
+    (λ c.  -- returns-2
+    let w = c .before .before in
+    let u = w .before .before .before .before in
+    let a = u .args in
+    shown-is (now (a .index)) (now (a .bodies)) (a .i) (1392 * a .i) (1392 * a .i + 1392 - 1392 * a .i) (u .pre .0) refl (omega arith) (w .if1 .left) (c .shows .ensures)))

@@ -1,6 +1,6 @@
 use denote.Ref.{now}
 use borrow.Author.Tests.{not-true, not-false}
-use Rattle.journal.proofs.Validations.{replayable-short, replayable-unsound, replayable-counted}
+use Rattle.journal.proofs.Validations.{replayable-short, replayable-unsound, kept-asks, replayable-counted}
 use borrow.Author.Needs.{needs}
 use Rattle.journal.proofs.can_replay.Statement.{statement}
 use Rattle.journal.proofs.can_replay.Tie as tie
@@ -22,8 +22,13 @@ can-replay-spec =
     (not-true (c .before .is-sound .result) (c .if2 .taken)))
     (λ c κs. search needs)
     (λ c. search needs)
-    (λ c.  -- returns-3
+    (λ c κs.  -- is-kept-requires
     let s = c .before .before in
     let v = s .before .before in
-    replayable-counted (now (start v .args .index)) (now (start v .args .bodies)) (start v .args .lent) (now (start v .args .journal)) (v .too-short .ensures) (s .before .if1 .left) (s .is-sound .ensures) (not-false (s .is-sound .result) (c .before .if2 .left))
-    (c .read-u16 .ensures)))
+    kept-asks (now (start v .args .index)) (now (start v .args .bodies)) (start v .args .lent) (now (start v .args .journal)) (v .too-short .ensures) (s .before .if1 .left) (s .is-sound .ensures))
+    (λ c.  -- returns-3
+    let n = c .before in
+    let s = n .before .before in
+    let v = s .before .before in
+    replayable-counted (now (start v .args .index)) (now (start v .args .bodies)) (start v .args .lent) (now (start v .args .journal)) (v .too-short .ensures) (s .before .if1 .left) (s .is-sound .ensures) (not-false (s .is-sound .result) (n .before .if2 .left))
+    (n .read-u16 .ensures) (c .is-kept .ensures)))

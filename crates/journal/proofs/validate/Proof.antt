@@ -1,18 +1,17 @@
-use mathlib.Core.Path.{_≡_, sym, ap, _∙_}
+use mathlib.Core.Path.{_≡_, sym, _∙_}
 use mathlib.Core.Bool.{true}
 use native.Mathlib.Omega.{arith}
-use lib.ListN.{length}
 use denote.Ref.{now}
 use borrow.Author.Tests.{not-true, not-false}
 use Rattle.wire.proofs.Numbers.{Bytes}
-use Rattle.index.specs.Sound.{soundIndex}
+use Rattle.table.proofs.Rule.{table-has}
 use Rattle.journal.specs.Replay.{replayable}
-use Rattle.journal.proofs.Validations.{Replayable, replayable-has, not-validated, copy-sound, begun-length, validated-none, validated-some}
+use Rattle.journal.proofs.Validations.{Replayable, replayable-has, not-validated, validated-none, validated-some}
 use borrow.Author.Needs.{needs}
 use Rattle.journal.proofs.validate.Statement.{statement}
 use Rattle.journal.proofs.validate.Tie as tie
 
--- What cannot be replayed does not meet the rule; else the replay on the copies ends at 0 just where it is not met.
+-- What cannot be replayed does not meet the rule; else the replay from the mark ends at 0 just where it is not met.
 abbrev start : tie.After-can-replay → tie.Start
 start v = v .before .before .before .before .before .before
 
@@ -29,10 +28,6 @@ has e =
     let u = start (e .before) in
     replayable-has (now (u .args .index)) (now (u .args .bodies)) (u .args .lent) (now (u .args .journal)) (ready e)
 
--- from the replay back to the count
-abbrev counted : tie.After-replay → tie.After-read-u16
-counted r = r .before .before .before .before .before .before .before .before .before .before .before
-
 pub validate-spec : {M : Type 1} → statement M
 validate-spec =
     tie.close
@@ -45,44 +40,25 @@ validate-spec =
     (sym (v .can-replay .ensures) ∙ not-true (v .can-replay .result) (c .if1 .taken)))
     (λ c κs. search needs)
     (λ c. search needs)
-    (λ c κs.  -- copy-part-requires
-    let e = c .before .before in
-    (omega (arith, start (e .before) .pre .0), has e .long .index))
-    (λ c κs.  -- begin-requires
-    let e = c .before .before .before .before .before .before in
-    (start (e .before) .pre .1, has e .long .index, has e .long .bodies))
-    (λ c κs.  -- replay-requires
-    let b = c .before .before .before .before in
-    let k = b .before .before .before .before in
-    let e = k .before .before .before in
-    let u = start (e .before) in (
-      ap soundIndex (k .copy-part .ensures)
-          ∙ copy-sound (u .args .want) (now (u .args .index)) (now (u .args .bodies)) (u .args .lent) (now (u .args .journal)) (now (u .args .d)) (now (u .args .m))
-          (u .pre .0) (u .pre .1) (has e),
-      ap length (b .begin .ensures)
-          ∙ begun-length (u .args .want) (now (u .args .index)) (now (u .args .bodies)) (u .args .lent) (now (u .args .journal)) (now (u .args .d)) (now (u .args .m))
-          (u .pre .0) (u .pre .1) (has e),
-      has e .long .journal,
-    ))
+    (λ c κs.  -- from-mark-requires
+    let e = c .before .before .before in
+    let u = start (e .before) in
+    ((table-has (now (u .args .index)) (now (u .args .bodies)) (u .args .lent) (has e .sound) .index, has e .long .bodies, has e .long .journal), u .pre))
     (λ c. search needs)
     (λ c. search needs)
     (λ c.  -- returns-2
     let r = c .before .before .before .before .before in
-    let b = r .before .before .before .before .before in
-    let k = b .before .before .before .before in
-    let n = counted r in
+    let n = r .before .before .before in
     let e = n .before in
     let u = start (e .before) in
     validated-none (u .args .want) (now (u .args .index)) (now (u .args .bodies)) (u .args .lent) (now (u .args .journal)) (bytes (e .before)) (now (u .args .d))
-    (now (u .args .m)) (u .pre .0) (u .pre .1) (ready e) (n .read-u16 .ensures) (k .copy-part .ensures) (b .begin .ensures) (r .replay .ensures) (c .if2 .taken))
+    (now (u .args .m)) (u .pre .0) (u .pre .1) (ready e) (n .read-u16 .ensures) (r .from-mark .ensures) (c .if2 .taken))
     (λ c. search needs)
     (λ c. search needs)
     (λ c.  -- returns-3
     let r = c .before .before .before .before .before in
-    let b = r .before .before .before .before .before in
-    let k = b .before .before .before .before in
-    let n = counted r in
+    let n = r .before .before .before in
     let e = n .before in
     let u = start (e .before) in
     validated-some (u .args .want) (now (u .args .index)) (now (u .args .bodies)) (u .args .lent) (now (u .args .journal)) (bytes (e .before)) (now (u .args .d))
-    (now (u .args .m)) (u .pre .0) (u .pre .1) (ready e) (n .read-u16 .ensures) (k .copy-part .ensures) (b .begin .ensures) (r .replay .ensures) (c .if2 .left)))
+    (now (u .args .m)) (u .pre .0) (u .pre .1) (ready e) (n .read-u16 .ensures) (r .from-mark .ensures) (c .if2 .left)))

@@ -10,9 +10,6 @@ single-length-spec =
     (tie.spec
     (λ c. length-change _ (c .if1 .taken))  -- returns
     (λ c. search needs)
-    (λ c. search needs)
-    (λ c. search needs)
-    (λ c. search needs)
     (λ c. length-window _ (c .if2 .taken))  -- returns-2
     (λ c. search needs)
     (λ c. search needs)

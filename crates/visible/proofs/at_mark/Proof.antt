@@ -1,4 +1,4 @@
--- 1 where the rule is not met, 14 where the output is too small; else the figure that the memory at the mark has.
+-- 1 where the rule is not met, 14 where the output is too small; else the figure that is stored for the table at the mark.
 use mathlib.Core.Path.{_≡_, refl}
 use mathlib.Core.List.{List}
 use Prim.Native.Nat.{ℕ}
@@ -46,9 +46,7 @@ at-mark-spec =
     (λ c p is.  -- returns-2
     let x = c .before .before .before .before in
     figure-small (logged-in x (c .before .if1 .left) p is) (now (start x .args .out)) (c .if2 .taken) refl)
-    (λ c κs.  -- count-requires
-    let g = logged-any (c .before .before .before .before) (c .before .if1 .left) in
-    (g .long .index, omega (arith, g .long .bodies)))
+    (λ c κs. logged-any (c .before .before .before .before) (c .before .if1 .left) .long .index)  -- kept-requires
     (λ c κs. search needs)
     (λ c. let g = logged-any (c .before .before .before .before .before .before .before .before .before .before) (c .before .before .before .before .before .before .before .if1 .left) in omega (arith, g .few))  -- cast-t16
     (λ c. let g = logged-any (c .before .before .before .before .before .before .before .before .before .before .before) (c .before .before .before .before .before .before .before .before .if1 .left) in omega (arith, logged-low g))  -- sub-t12
@@ -56,4 +54,4 @@ at-mark-spec =
     (λ c. search needs)
     (λ c p is.  -- returns-3
     let x = c .before .before .before .before .before .before .before .before .before .before .before in
-    figure-given (logged-in x (c .before .before .before .before .before .before .before .before .if1 .left) p is) (now (start x .args .out)) (bytes x) (omega (arith, c .before .before .before .before .before .before .before .if2 .left)) (c .before .before .before .before .before .before .count .ensures) (c .before .before .before .before .write .ensures) refl))
+    figure-given (logged-in x (c .before .before .before .before .before .before .before .before .if1 .left) p is) (now (start x .args .out)) (bytes x) (omega (arith, c .before .before .before .before .before .before .before .if2 .left)) (c .before .before .before .before .before .before .kept .ensures) (c .before .before .before .before .write .ensures) refl))

@@ -3,6 +3,7 @@
 use alloc::vec::Vec;
 
 use super::{Margins, Picture, Point, Rectangle, Size};
+use crate::figure::Figure;
 use crate::ids::WindowId;
 use crate::text::units;
 
@@ -42,6 +43,10 @@ impl<'a> Reader<'a> {
 
     pub(super) fn u32(&mut self) -> u32 {
         u32::from_le_bytes(self.array())
+    }
+
+    pub(super) fn figure(&mut self) -> Figure {
+        Figure::of(&self.array())
     }
 
     pub(super) fn window_id(&mut self) -> WindowId {

@@ -85,17 +85,23 @@ pub struct Window {
     pub app_bar: bool,
     /// The edge of the application bar, 0 to 3 (AppBarEdge).
     pub app_bar_edge: u8,
+    /// The pixels of its visibility rectangles, those that several have counted once; 0 if
+    /// it is hidden.
+    pub pixels: u32,
     title: Vec<u16>,
     overlay_description: Vec<u16>,
 }
 
 impl Window {
     /// The bytes in which a lookup hands it out.
-    pub const SIZE: usize = Self::FIELDS + 2 * Picture::SIZE + Self::NEWER + Picture::SIZE;
+    pub const SIZE: usize =
+        Self::FIELDS + 2 * Picture::SIZE + Self::NEWER + Picture::SIZE + Self::PIXELS;
     /// Those before its small and its big icon.
     const FIELDS: usize = 850;
     /// Those of newer servers' fields, before the overlay icon.
     const NEWER: usize = 544;
+    /// Those of its pixels, behind all others.
+    const PIXELS: usize = 4;
     /// The most bytes of a title, and of an overlay description.
     const TITLE: usize = 520;
 
@@ -152,6 +158,7 @@ impl Window {
             app_bar: newer.yes(),
             app_bar_edge: newer.u8(),
             overlay: newer.picture(shows_overlay),
+            pixels: newer.u32(),
         }
     }
 }
@@ -174,7 +181,7 @@ mod tests {
 
     /// A record with every field at its place in the layout.
     fn laid_out() -> [u8; Window::SIZE] {
-        let fields: [(usize, &[u8]); 21] = [
+        let fields: [(usize, &[u8]); 22] = [
             (0, &[1, 1]),
             (2, &[2, 0, 0, 0]),
             (6, &[6, 0, 0, 0, 10, 0, 0, 0, 5]),
@@ -196,6 +203,7 @@ mod tests {
             (9_338, &[2, 0, 0x42, 0]),
             (9_860, &[1, 0, 1, 3]),
             (9_864, &[32, 1, 0, 1, 0, 0, 0, 1, 0, 8]),
+            (Window::SIZE - 4, &[1, 2, 3, 4]),
         ];
         let mut bytes = [0; Window::SIZE];
         for (at, field) in fields {
@@ -259,6 +267,7 @@ mod tests {
             enforce_server_z_order: false,
             app_bar: true,
             app_bar_edge: 3,
+            pixels: 0x0403_0201,
             title: vec![0x41, 0xD800],
             overlay_description: vec![0x42],
         };

@@ -383,7 +383,8 @@ impl Session {
         granted(self.memory.view().desktop()).record
     }
 
-    /// How much was visible at the checkpoint: orders since then do not count.
+    /// How much was visible at the checkpoint: orders since then do not count. The present
+    /// figure is in the [`desktop`](Self::desktop) state, that of a window in its record.
     ///
     /// ```
     /// use rail::{Figure, Refusal, Session};
@@ -395,6 +396,7 @@ impl Session {
     ///     2, 0, 0, 0, 0, 0, 10, 0, 10, 0, 5, 0, 5, 0, 15, 0, 15, 0,
     /// ])?;
     /// assert_eq!(session.figure(), Figure { windows: 0, pixels: 0 });
+    /// assert_eq!(session.desktop().figure, Figure { windows: 1, pixels: 175 });
     /// session.checkpoint();
     /// assert_eq!(session.figure(), Figure { windows: 1, pixels: 175 });
     /// # Ok::<(), Refusal>(())

@@ -3,6 +3,7 @@
 use std::fmt::Debug;
 
 use rail::{Desktop, NotificationIcon, Picture, Point, Rectangle, Size, Window};
+use second::figure::{self, of_window, Figure};
 use second::ids::WindowId;
 use second::script::session::Call;
 use second::table::{self, Holder, Table};
@@ -14,6 +15,7 @@ pub fn found(table: &Table, call: &Call<'_>, record: &Record) -> Result<(), Stri
     match (call, record) {
         (Call::Window(id), Record::Window(found)) => {
             same(table.window(*id), window(found))?;
+            same(table.window(*id).map(of_window).as_ref(), found.pixels)?;
             shown(table, Holder::Small(*id), &found.small)?;
             shown(table, Holder::Big(*id), &found.big)?;
             shown(table, Holder::Overlay(*id), &found.overlay)
@@ -33,7 +35,11 @@ pub fn found(table: &Table, call: &Call<'_>, record: &Record) -> Result<(), Stri
                 icons.iter().map(|(w, i)| (w.0, i.0)).collect(),
             ),
         ),
-        (Call::Desktop, Record::Desktop(found)) => same(Some(table.desktop()), desktop(found)),
+        (Call::Desktop, Record::Desktop(found)) => {
+            same(Some(table.desktop()), desktop(found))?;
+            let (windows, pixels) = (found.figure.windows as usize, found.figure.pixels);
+            same(Some(&figure::of(table)), Figure { windows, pixels })
+        }
         (_, Record::Nothing) => Ok(()),
         _ => Err(format!("the record is of another kind: {record:?}")),
     }

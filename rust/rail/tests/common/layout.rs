@@ -1,6 +1,7 @@
 //! The bytes that a lookup writes, from the second program's records: each field at its
 //! place, and zeros after its end.
 
+use second::figure;
 use second::script::session::Call;
 use second::table::{Cell, Desktop, Holder, NotificationIcon, Rect, Table, Window};
 
@@ -21,7 +22,10 @@ pub fn bytes(table: &Table, call: &Call<'_>) -> Option<Vec<u8>> {
             1
         }
         Call::Cell(place) => to.cell(table.cell(place)?),
-        Call::Desktop => to.desktop(table.desktop()),
+        Call::Desktop => {
+            let at = to.desktop(table.desktop());
+            to.figure(figure::of(table), at)
+        }
         Call::Lists => to.lists(table),
         _ => return None,
     };
@@ -67,7 +71,16 @@ impl Writer {
         self.0
             .extend([window.taskbar, window.server_z, window.app_bar, window.edge]);
         self.picture(overlay, 14_099);
-        14_099
+        self.numbers(&[figure::of_window(window)]);
+        self.0.len()
+    }
+
+    /// The totals behind the desktop state.
+    fn figure(&mut self, figure: figure::Figure, at: usize) -> usize {
+        self.0.resize(at, 0);
+        self.numbers(&[figure.windows as u32]);
+        self.0.extend(figure.pixels.to_le_bytes());
+        self.0.len()
     }
 
     fn icon(&mut self, icon: &NotificationIcon, picture: Option<&Cell>) -> usize {

@@ -1,6 +1,6 @@
 //! The facts that generated scripts of state calls have to meet.
 
-use super::of_stores;
+use super::{figures, of_stores};
 use crate::coverage::order::expected as order;
 
 /// The calls with the numbers that each can meet.
@@ -114,6 +114,7 @@ pub fn facts() -> Vec<String> {
     }
 
     facts.extend(RECORDS.map(String::from));
+    facts.extend(figures::FACTS.map(String::from));
     facts.extend(of_stores::facts());
     facts
 }

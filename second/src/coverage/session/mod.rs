@@ -1,11 +1,13 @@
 //! What generated scripts of state calls reach.
 
 mod expected;
+mod figures;
 mod of_stores;
 mod overlay;
 mod records;
 mod store;
 
+use figures::Earlier;
 use store::{Before, Stores};
 
 use super::order::{Listed, Room};
@@ -59,6 +61,7 @@ impl Coverage {
         let standing = session.book().standing();
         let listed = Listed::of(session.book().table());
         let before = matches!(call, Call::StepBack(_)).then(|| session.book().table().clone());
+        let of_figures = Earlier::of(session, call);
         let Some(number) = session.make(call) else {
             if *call == Call::Dump {
                 self.facts.add_dump(stores, session);
@@ -70,6 +73,10 @@ impl Coverage {
             let made = (kind, call);
             self.facts
                 .add_store(stores, &earlier, session, made, number);
+        }
+        if number != STATE_UNFIT {
+            self.facts
+                .add_figures(of_figures.as_ref(), session, call, number);
         }
         match (call, before) {
             _ if number == STATE_UNFIT => {}

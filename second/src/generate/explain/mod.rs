@@ -1,6 +1,7 @@
 //! Pairs of a state and an order, as files: states that scripts of state calls lead to,
 //! and orders of every number and with each field at fault.
 
+mod figures;
 pub mod orders;
 pub mod states;
 

@@ -1,6 +1,7 @@
 //! Files of a state: whole, with more places than it has fixed, cut, and with a byte that
 //! breaks one of the rules of state memory.
 
+use super::figures;
 use crate::book::Book;
 use crate::generate::random::Random;
 use crate::memory::{self, Memory, PARTS, STATE_SIZE};
@@ -49,7 +50,7 @@ const RULES: [&str; 36] = [
 
 /// Every rule by its name.
 pub fn rules() -> impl Iterator<Item = &'static str> {
-    RULES.into_iter()
+    RULES.into_iter().chain(figures::RULES)
 }
 
 /// A file of a book, and what else is in it.
@@ -92,8 +93,9 @@ pub fn other(book: &Book, turn: usize, random: &mut Random) -> (Vec<u8>, &'stati
     if random.chance(50) {
         let whole = file.clone();
         // Not every state can break every rule: the next that it can is taken.
-        for n in 0..RULES.len() {
-            let rule = RULES[(turn + n) % RULES.len()];
+        let rules: Vec<_> = rules().collect();
+        for n in 0..rules.len() {
+            let rule = rules[(turn + n) % rules.len()];
             if Breaker::of(&mut file).breaks(rule, random).is_some() {
                 return (file, rule);
             }
@@ -133,11 +135,16 @@ fn change(file: &mut [u8], random: &mut Random) {
 /// Where the parts of a file stand, by docs/MEMORY.md.
 const POINTERS: usize = 1;
 const SLOTS: usize = 157;
-const BODIES: usize = 589;
+const BODIES: usize = PARTS[0];
 const ICONS: usize = BODIES + 44_544;
 const DESKTOP: usize = BODIES + 59_200;
 const HEADS: usize = BODIES + 60_116;
-const JOURNAL: usize = BODIES + 61_012;
+const JOURNAL: usize = BODIES + PARTS[1];
+
+/// Where the body of a window stands, by its slot.
+pub(super) fn window_at(slot: usize) -> usize {
+    BODIES + 1_392 * slot
+}
 
 /// Breaks a rule in a file.
 struct Breaker<'a> {
@@ -163,10 +170,13 @@ impl<'a> Breaker<'a> {
     /// Breaks a rule; none where the state has nothing of the sort.
     fn breaks(&mut self, rule: &str, random: &mut Random) -> Option<()> {
         let windows = self.slots(false, true);
+        if figures::RULES.contains(&rule) {
+            return figures::breaks(self.file, rule, &windows, random);
+        }
         let icons = self.slots(true, true);
         let mut one = |list: &[usize]| (!list.is_empty()).then(|| random.pick(list));
         let (window, icon) = (one(&windows), one(&icons));
-        let in_window = |offset: usize| window.map(|slot| BODIES + 1_392 * slot + offset);
+        let in_window = |offset: usize| window.map(|slot| window_at(slot) + offset);
         let in_icon = |offset: usize| icon.map(|slot| ICONS + 916 * (slot - 32) + offset);
         let desktop = DESKTOP;
         let pointers: Vec<usize> = (POINTERS..SLOTS).filter(|&at| self.file[at] > 0).collect();

@@ -137,7 +137,7 @@ impl Maker<'_> {
             60..=64 => {
                 let fields = self.some_of(&WINDOW_FIELDS);
                 let both = flags::BIG | flags::OVERLAY;
-                let which = self.random.pick(&[flags::BIG, flags::OVERLAY, both]);
+                let which = self.random.pick(&[flags::BIG, flags::OVERLAY, both, both]);
                 let picture = match which == both {
                     true => self.random.pick(&[0, flags::ICON, flags::CACHED_ICON]),
                     false => 0,

@@ -3,6 +3,7 @@
 
 pub(super) mod draft;
 mod faults;
+mod figures;
 mod good;
 mod newer;
 mod pair;
@@ -72,6 +73,10 @@ enum Aim {
     Store,
     /// The combinations of the newer servers' flags.
     Newer,
+    /// What is visible, of few windows.
+    Figures,
+    /// The same of as many as there can be.
+    MostFigures,
 }
 
 struct Writer<'a> {
@@ -116,6 +121,8 @@ impl Writer<'_> {
             Aim::Icons => self.fill_icons(),
             Aim::Orders => self.fill_orders(),
             Aim::Bytes => self.fill_bytes(),
+            Aim::Figures => self.change_figures(),
+            Aim::MostFigures => self.fill_figures(),
         }
     }
 
@@ -123,7 +130,9 @@ impl Writer<'_> {
     /// fixes how many places it has, and of the others many with the most places.
     fn next_stretch(&mut self) -> (u8, Vec<u8>) {
         (self.aim, self.left) = match self.random.below(100) {
-            0..=39 => (Aim::Any, 30 + self.random.below(60)),
+            0..=30 => (Aim::Any, 30 + self.random.below(60)),
+            31..=36 => (Aim::Figures, 30 + self.random.below(60)),
+            37..=39 => (Aim::MostFigures, 90),
             40..=51 => (Aim::Windows, 50),
             52..=62 => (Aim::Icons, 35),
             63..=73 => (Aim::Orders, 160),

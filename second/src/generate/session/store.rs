@@ -18,7 +18,7 @@ use crate::table::{Holder, FEWEST_PLACES, MOST_PLACES, PLACE_SIZE};
 const MOST_OF_PART: usize = PART_LIMIT as usize / PLACE_SIZE;
 /// The places to empty with; under 12 is refused, over 64 counts as 64.
 const SIZES: [usize; 20] = [
-    12, 12, 12, 12, 12, 13, 13, 13, 14, 20, 33, 63, 63, 64, 64, 70, 70, 75, 11, 0,
+    12, 12, 12, 13, 13, 13, 14, 20, 33, 63, 63, 63, 63, 64, 64, 70, 70, 75, 11, 0,
 ];
 
 type Item = (u8, Vec<u8>);
@@ -71,6 +71,8 @@ impl Writer<'_> {
     /// it was.
     pub(super) fn lend_and_empty(&mut self) -> Item {
         let count = self.random.pick(&SIZES);
+        // More places take longer to fill.
+        self.left += count;
         let lengths = cut(&mut self.random, count);
         if count < FEWEST_PLACES {
             let same = self.same_places();

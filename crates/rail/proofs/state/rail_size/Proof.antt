@@ -22,9 +22,6 @@ rail-size-spec =
     (λ c. search needs)
     (λ c. search needs)
     (λ c. search needs)
-    (λ c. search needs)
-    (λ c. search needs)
-    (λ c. search needs)
     (λ c. size-at 0 (c .match .keys1) refl)  -- returns
     (λ c. size-at 1 (c .match .keys2) refl)  -- returns-2
     (λ c. size-at 2 (c .match .keys3) refl)  -- returns-3

@@ -17,7 +17,7 @@ use borrow.Author.Needs.{needs}
 use Rattle.session.proofs.calls.checkpoint.Statement.{statement}
 use Rattle.session.proofs.calls.checkpoint.Tie as tie
 
--- 1 where the rule is not met; else the orders applied to the table at the mark, and none left.
+-- 1 where the rule is not met; else the orders applied to the table at the mark, its figures stored, and no order left.
 abbrev parts : tie.Start → List (List ℕ)
 parts u = five (now (u .args .a)) (now (u .args .b)) (now (u .args .c)) (now (u .args .d)) (now (u .args .e))
 
@@ -53,10 +53,11 @@ checkpoint-spec =
     let x = c .before .before .before .before in
     refused-unmet (plain checkpoint) (mem (start x)) refl (unmet-in x (c .before .if1 .taken)) (c .refused .ensures))
     (λ c κs. let f = c .before .before .before .before .before .before .before .before in apply-asks (logged-in (f .before .before .before) (f .if1 .left)))  -- apply-requires
-    (λ c κs.  -- write-u16-requires
-    let f = c .before .before .before .before .before .before .before .before .before .before .before .before .before .before .before .before .before .before .before .before .before .before .before .before in
-    omega (arith, logged-in (f .before .before .before) (f .if1 .left) .long .journal))
-    (λ c κs. search needs)
+    (λ c κs.  -- set-mark-requires
+    let a = c .before .before .before .before .before .before .before .before .before .before .before .before .before .before .before .before .before in
+    let f = a .before .before .before .before .before .before .before .before .before in
+    let l = logged-in (f .before .before .before) (f .if1 .left) .long in
+    (omega (arith, a .apply .kept .0, l .index), omega (arith, a .apply .kept .1 .0, l .bodies), l .journal))
     (λ c. search needs)
     (λ c. search needs)
     (λ c. search needs)
@@ -66,9 +67,8 @@ checkpoint-spec =
     (λ c. search needs)
     (λ c. search needs)
     (λ c.  -- returns-2
-    let a = c .before .before .before .before .before .before .before .before .before .before .before .before .before .before .before .before .before .before .before in
+    let a = c .before .before .before .before .before .before .before .before .before .before .before .before .before .before .before .before .before .before .before .before .before .before in
     let f = a .before .before .before .before .before .before .before .before .before in
     let x = f .before .before .before in
     let l = logged-in x (f .if1 .left) in
-    checkpoint-granted (mem (start x)) (l .long) (a .apply .kept .0) (a .apply .kept .1 .0) (c .before .before .before .write-u16 .ensures) l (a .apply .ensures)
-    (c .granted .ensures)))
+    checkpoint-granted (mem (start x)) (l .long) (a .apply .kept .0) (a .apply .kept .1 .0) (c .before .before .before .before .set-mark .ensures) l (a .apply .ensures)))

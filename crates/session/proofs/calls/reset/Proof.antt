@@ -15,7 +15,7 @@ use borrow.Author.Needs.{needs}
 use Rattle.session.proofs.calls.reset.Statement.{statement}
 use Rattle.session.proofs.calls.reset.Tie as tie
 
--- 1 for memory that is too short; else an emptied table and no orders.
+-- 1 for memory that is too short; else an emptied table with its figures, and no orders.
 abbrev mem : tie.Start → List (List ℕ) → Memory
 mem u p = memory (now (u .args .index)) (now (u .args .bodies)) p (now (u .args .journal))
 
@@ -48,16 +48,18 @@ reset-spec =
     (λ c p is.  -- returns
     let v = c .before .before in
     refused-short (plain (reset (start v .args .lent))) (mem (start v) p) (in-store (start v) p is (enough v (c .before .if1 .taken))) (c .refused .ensures))
-    (λ c κs. let l = long (c .before .before .before) (c .before .before .if1 .left) in (l .index, l .bodies, l .places))  -- empty-requires
-    (λ c κs. let e = c .before .before .before .before .before .before .before .before in omega (arith, long (e .before) (e .if1 .left) .journal))  -- write-u16-requires
-    (λ c κs. search needs)
+    (λ c κs. let l = long (c .before .before .before) (c .before .before .if1 .left) in (omega (arith, l .index), l .bodies, l .places))  -- empty-requires
+    (λ c κs.  -- set-mark-requires
+    let e = c .before .before .before .before .before .before .before in
+    let l = long (e .before .before .before .before) (e .before .before .before .if1 .left) in
+    (omega (arith, e .empty .kept .0, l .index), omega (arith, e .empty .kept .1 .0, l .bodies), l .journal))
     (λ c. search needs)
     (λ c. search needs)
     (λ c. search needs)
     (λ c p is.  -- returns-2
-    let e = c .before .before .before .before .before .before .before .before .before in
+    let e = c .before .before .before .before .before .before .before .before .before .before .before .before in
     let n = e .before .before .before in
     let v = n .before in
     let l = long v (n .if1 .left) in
     reset-granted (mem (start v) p) (record { index = l .index; bodies = l .bodies; places = omega (arith, is, l .places); journal = l .journal })
-    (e .empty .kept .0) (e .empty .kept .1 .0) (c .before .before .before .write-u16 .ensures) is (in-store (start v) p is (enough v (n .if1 .left))) (e .empty .ensures) (c .granted .ensures)))
+    (e .empty .kept .0) (e .empty .kept .1 .0) (c .before .before .before .before .set-mark .ensures) is (in-store (start v) p is (enough v (n .if1 .left))) (e .empty .ensures)))

@@ -1,7 +1,7 @@
 use denote.Ref.{now}
 use Rattle.store.specs.Store.{five}
 use Rattle.session.specs.Handing.{HandsOut}
-use Rattle.session.proofs.Handed.{hands-as, handed-as, desktop-asks, desktop-handed, windows-handed, notifications-handed, shares-handed}
+use Rattle.session.proofs.Handed.{hands-as, handed-as, window-with, notification-with, cell-with, desktop-asks, desktop-handed, windows-handed, notifications-handed, shares-handed}
 use borrow.Author.Needs.{needs}
 use Rattle.session.proofs.lookups.hand_out.Statement.{statement}
 use Rattle.session.proofs.lookups.hand_out.Tie as tie
@@ -26,7 +26,7 @@ hand-out-spec =
     (λ c. search needs)
     (λ c κs. hands-as (c .before .before .target3 .given .1) (hands (c .before .before .before .before .before .before .before .before .before .before .before .before .before .before)))  -- cell-requires
     (λ c. search needs)
-    (λ c κs. desktop-asks (hands-as (c .before .enum-told .given .1) (hands (c .before .before .before .before .before .before .before .before .before .before .before .before .before))))  -- record-requires
+    (λ c κs. desktop-asks (hands-as (c .before .enum-told .given .1) (hands (c .before .before .before .before .before .before .before .before .before .before .before .before .before))))  -- desktop-requires
     (λ c. search needs)
     (λ c κs. hands-as (c .before .enum-told2 .given .1) (hands (c .before .before .before .before .before .before .before .before .before .before .before .before .before)) .room)  -- list-requires
     (λ c. search needs)
@@ -36,19 +36,38 @@ hand-out-spec =
     (λ c. search needs)
     (λ c κs. hands-as (c .before .before .before .target4 .given .1) (hands (c .before .before .before .before .before .before .before .before .before .before .before .before .before .before .before)) .room)  -- write-u8-requires
     (λ c. search needs)
-    (λ c. let h = hands (c .before .before .before .before .before .before .before .before .before .before .before .before .before .before .before .before .before) in handed-as (c .before .before .before .before .before .target .given .1) h (c .before .before .window .ensures))  -- returns
+    (λ c.  -- returns
+    let u = c .before .before .before .before .before .before .before .before .before .before .before .before .before .before .before .before .before in
+    let e = c .before .before .before .before .before .target .given .1 in
+    handed-as (u .args .f) e (hands u) (window-with (u .args .f) (hands-as e (hands u)) (c .before .before .window .ensures)))
     (λ c. search needs)
-    (λ c. let h = hands (c .before .before .before .before .before .before .before .before .before .before .before .before .before .before .before .before .before) in handed-as (c .before .before .before .before .before .target2 .given .1) h (c .before .before .notification .ensures))  -- returns-2
+    (λ c.  -- returns-2
+    let u = c .before .before .before .before .before .before .before .before .before .before .before .before .before .before .before .before .before in
+    let e = c .before .before .before .before .before .target2 .given .1 in
+    handed-as (u .args .f) e (hands u) (notification-with (u .args .f) (hands-as e (hands u)) (c .before .before .notification .ensures)))
     (λ c. search needs)
-    (λ c. let h = hands (c .before .before .before .before .before .before .before .before .before .before .before .before .before .before .before .before .before) in handed-as (c .before .before .before .before .before .target3 .given .1) h (c .before .before .cell .ensures))  -- returns-3
+    (λ c.  -- returns-3
+    let u = c .before .before .before .before .before .before .before .before .before .before .before .before .before .before .before .before .before in
+    let e = c .before .before .before .before .before .target3 .given .1 in
+    handed-as (u .args .f) e (hands u) (cell-with (u .args .f) (hands-as e (hands u)) (c .before .before .cell .ensures)))
     (λ c. search needs)
-    (λ c. let h = hands (c .before .before .before .before .before .before .before .before .before .before .before .before .before .before .before .before) in handed-as (c .before .before .before .before .enum-told .given .1) h (desktop-handed (hands-as (c .before .before .before .before .enum-told .given .1) h) (c .before .before .«record» .ensures)))  -- returns-4
+    (λ c.  -- returns-4
+    let u = c .before .before .before .before .before .before .before .before .before .before .before .before .before .before .before .before in
+    let e = c .before .before .before .before .enum-told .given .1 in
+    handed-as (u .args .f) e (hands u) (desktop-handed (u .args .f) (hands-as e (hands u)) (c .before .before .desktop .ensures)))
     (λ c. search needs)
-    (λ c. let h = hands (c .before .before .before .before .before .before .before .before .before .before .before .before .before .before .before .before) in handed-as (c .before .before .before .before .enum-told2 .given .1) h (windows-handed (hands-as (c .before .before .before .before .enum-told2 .given .1) h) (c .before .before .list .ensures)))  -- returns-5
+    (λ c.  -- returns-5
+    let u = c .before .before .before .before .before .before .before .before .before .before .before .before .before .before .before .before in
+    let e = c .before .before .before .before .enum-told2 .given .1 in
+    handed-as (u .args .f) e (hands u) (windows-handed (u .args .f) (hands-as e (hands u)) (c .before .before .list .ensures)))
     (λ c. search needs)
-    (λ c. let h = hands (c .before .before .before .before .before .before .before .before .before .before .before .before .before .before .before .before) in handed-as (c .before .before .before .before .enum-told3 .given .1) h (notifications-handed (hands-as (c .before .before .before .before .enum-told3 .given .1) h) (c .before .before .list2 .ensures)))  -- returns-6
+    (λ c.  -- returns-6
+    let u = c .before .before .before .before .before .before .before .before .before .before .before .before .before .before .before .before in
+    let e = c .before .before .before .before .enum-told3 .given .1 in
+    handed-as (u .args .f) e (hands u) (notifications-handed (u .args .f) (hands-as e (hands u)) (c .before .before .list2 .ensures)))
     (λ c. search needs)
     (λ c.  -- returns-7
-    let h = hands (c .before .before .before .before .before .before .before .before .before .before .before .before .before .before .before .before .before .before) in
+    let u = c .before .before .before .before .before .before .before .before .before .before .before .before .before .before .before .before .before .before in
     let w = c .before .before .before .before .before .before .target4 .given in
-    handed-as (w .1) h (shares-handed (w .0 .0) (w .0 .1 .0) (hands-as (w .1) h) (c .before .before .before .shares .ensures) (c .before .before .write-u8 .ensures))))
+    handed-as (u .args .f) (w .1) (hands u)
+    (shares-handed (u .args .f) (w .0 .0) (w .0 .1 .0) (hands-as (w .1) (hands u)) (c .before .before .before .shares .ensures) (c .before .before .write-u8 .ensures))))

@@ -1,21 +1,26 @@
 use mathlib.Core.Path.{_≡_, refl, sym, ap, _∙_}
 use mathlib.Core.List.{List}
 use Prim.Native.Nat.{ℕ}
+use native.Mathlib.Omega.{arith}
 use lib.ListN.{replicate}
 use denote.Ref.{now}
 use borrow.Author.Tests.{not-true, not-false}
+use Rattle.wire.specs.Numbers.{Bytes}
 use Rattle.index.specs.Families.{indexLength}
 use Rattle.store.specs.Store.{five}
+use Rattle.table.specs.Table.{Table}
 use Rattle.follow.specs.Follow.{roomFor}
+use Rattle.journal.specs.State.{run}
 use Rattle.journal.specs.Journal.{logOf}
 use Rattle.journal.specs.View.{Memory, memory}
 use Rattle.journal.specs.Replay.{Validation}
-use Rattle.journal.proofs.Logged.{logged-low, logged-high}
+use Rattle.journal.proofs.Logged.{markedIn, logged-low, logged-high}
 use Rattle.journal.proofs.Indexed.{Indexed, Followed, validated-as, unmet, indexed, followed}
 use Rattle.session.specs.Outcome.{lookup}
+use Rattle.session.specs.TableFigure.{figureIn}
 use Rattle.session.specs.Targets.{wantOf}
 use Rattle.session.proofs.Outcomes.{refused-unmet}
-use Rattle.session.proofs.Found.{look-absent, look-hands, look-small, look-found}
+use Rattle.session.proofs.Found.{own-goes, figure-goes, followable, look-absent, look-hands, look-small, look-found}
 use borrow.Author.Needs.{needs}
 use Rattle.session.proofs.lookups.look_in.Statement.{statement}
 use Rattle.session.proofs.lookups.look_in.Tie as tie
@@ -49,6 +54,13 @@ held-in : (v : tie.After-validate) → (v .validate .result .end ≡ 0 → ⊥)
     → Followed (wantOf (start v .args .target)) (mem (start v)) (index v) (logOf (now (start v .args .journal))) (held v)
 held-in v some = followed (validation v) some
 
+journal-bytes : (v : tie.After-validate) → Bytes (now (start v .args .journal))
+journal-bytes v = record { small = λ i. omega (arith, v .before .before .before .before .before .before .before .shared-slice-known8 .given i) }
+
+-- the present table
+abbrev table : tie.Start → Table
+table u = run (markedIn (mem u)) (logOf (now (u .args .journal)))
+
 pub look-in-spec : {M : Type 1} → statement M
 look-in-spec =
     tie.close
@@ -79,24 +91,31 @@ look-in-spec =
     let l = c .before .before .before .before in
     let f = l .before .before in
     let x = f .before .before .before .before .before in
-    look-small (index-in x (f .if1 .left)) (start x .args .target) (l .listed .ensures) (now (start x .args .out)) (held-in x (f .if1 .left))
-    (not-false (l .listed .result) (c .before .before .before .if2 .left)) (c .before .before .size-of .ensures) (c .before .if3 .taken) (c .refused3 .ensures))
+    let target = start x .args .target in
+    look-small (index-in x (f .if1 .left)) target (l .listed .ensures) (now (start x .args .out)) (held-in x (f .if1 .left))
+    (not-false (l .listed .result) (c .before .before .before .if2 .left)) (figureIn (table (start x))) (own-goes (table (start x)) target) (c .before .before .size-of .ensures) (c .before .if3 .taken) (c .refused3 .ensures))
+    (λ c. search needs)
+    (λ c κs. let f = c .before .before .before .before .before .before in followable (validation (f .before .before .before .before .before)) (f .if1 .left))  -- figure-for-requires
     (λ c. search needs)
     (λ c κs.  -- hand-out-requires
-    let l = c .before .before .before .before .before .before in
+    let l = c .before .before .before .before .before .before .before .before in
     let f = l .before .before in
     let x = f .before .before .before .before .before in
-    look-hands (index-in x (f .if1 .left)) (start x .args .target) (l .listed .ensures) (now (start x .args .out)) (held-in x (f .if1 .left))
-    (not-false (l .listed .result) (c .before .before .before .before .before .if2 .left)) (c .before .before .before .before .size-of .ensures) (c .before .before .before .if3 .left) (x .validate .kept .1 .1 .1 .1 .1 .1 .0 ∙ start x .pre))
+    let target = start x .args .target in
+    look-hands (index-in x (f .if1 .left)) target (l .listed .ensures) (now (start x .args .out)) (held-in x (f .if1 .left))
+    (not-false (l .listed .result) (c .before .before .before .before .before .before .before .if2 .left)) (figureIn (table (start x))) (own-goes (table (start x)) target) (c .before .before .before .before .before .before .size-of .ensures) (c .before .before .before .before .before .if3 .left) (x .validate .kept .1 .1 .1 .1 .1 .1 .0 ∙ start x .pre))
     (λ c κs.  -- granted-requires
-    let f = c .before .before .before .before .before .before .before .before .before .before .before in
+    let f = c .before .before .before .before .before .before .before .before .before .before .before .before .before in
     let g = index-in (f .before .before .before .before .before) (f .if1 .left) .logged in
     (g .few, logged-low g, logged-high g))
     (λ c. search needs)
     (λ c. search needs)
     (λ c.  -- returns-4
-    let l = c .before .before .before .before .before .before .before .before .before .before in
+    let l = c .before .before .before .before .before .before .before .before .before .before .before .before in
     let f = l .before .before in
     let x = f .before .before .before .before .before in
-    look-found (index-in x (f .if1 .left)) (start x .args .target) (l .listed .ensures) (now (start x .args .out)) (held-in x (f .if1 .left))
-    (not-false (l .listed .result) (c .before .before .before .before .before .before .before .before .before .if2 .left)) (c .before .before .before .before .before .before .before .before .size-of .ensures) (c .before .before .before .before .before .before .before .if3 .left) (c .before .before .before .hand-out .ensures) (c .granted .ensures)))
+    let g = c .before .before .before .before .before .before .before .figure-for in
+    let target = start x .args .target in
+    look-found (index-in x (f .if1 .left)) target (l .listed .ensures) (now (start x .args .out)) (held-in x (f .if1 .left))
+    (not-false (l .listed .result) (c .before .before .before .before .before .before .before .before .before .before .before .if2 .left)) (g .result) (figure-goes (validation x) (f .if1 .left) target (journal-bytes x) (g .ensures .1) (g .ensures .0))
+    (c .before .before .before .before .before .before .before .before .before .before .size-of .ensures) (c .before .before .before .before .before .before .before .before .before .if3 .left) (c .before .before .before .hand-out .ensures) (c .granted .ensures)))

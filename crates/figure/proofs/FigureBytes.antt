@@ -1,18 +1,19 @@
 -- A figure written in three numbers of 4 bytes is its windows in 4 bytes and its pixels in 8. Assumes nothing.
-use mathlib.Core.Path.{_≡_, ap, _∙_}
+use mathlib.Core.Path.{_≡_, refl, sym, ap, _∙_}
 use mathlib.Core.List.{List, _++_}
 use Prim.Native.Nat.{ℕ, _+_, _*_, _/_, _%_, _<_, _≤_}
 use native.Mathlib.Omega.{arith}
-use lib.ListN.{length, length-append}
+use lib.ListN.{length, length-append, take}
+use lib.Seq.{take-at}
 use Rattle.wire.specs.Numbers.{bytesOf}
 use Rattle.wire.specs.Parts.{splice}
 use Rattle.wire.proofs.Numbers.{length-bytes}
 use Rattle.wire.proofs.Parts.{length-splice, splice-after}
 use Rattle.figure.specs.declared.Figure.{Figure}
-use Rattle.visible.specs.Outcome.{figureLength, figureBytes}
+use Rattle.figure.specs.Figure.{figureLength, figureBytes}
 
 -- the numbers of 4 bytes
-abbrev half : ℕ
+abbrev pub half : ℕ
 half = 4294967296
 
 -- a number by its last byte
@@ -37,11 +38,19 @@ halves v =
     let e = without-last (v % half / 256 / 256 / 256) (v / 256 / 256 / 256) (v / half) small three in
     rw (a, b, c, d, e)
 
+-- the lower half has the first four
+pub lower-half : (v : ℕ) → bytesOf 4 (v % half) ≡ bytesOf 4 v
+lower-half v =
+    sym (take-at (bytesOf 4 (v % half)) (bytesOf 4 (v / half)) 4 (length-bytes 4 (v % half))) ∙ ap (take 4) (halves v) ∙ first
+  where
+    first : take 4 (bytesOf 8 v) ≡ bytesOf 4 v
+    first = unfold bytesOf in refl
+
 -- the three numbers, one after the other
-pub figure-put : (out : List ℕ) (f : Figure) {x y z : List ℕ} → figureLength ≤ length out → x ≡ splice out 0 (bytesOf 4 (f .windows))
-    → y ≡ splice x 4 (bytesOf 4 (f .pixels % half)) → z ≡ splice y 8 (bytesOf 4 (f .pixels / half)) → z ≡ splice out 0 (figureBytes f)
+pub figure-put : (out : List ℕ) (at : ℕ) (f : Figure) {x y z : List ℕ} → at + figureLength ≤ length out → x ≡ splice out at (bytesOf 4 (f .windows))
+    → y ≡ splice x (at + 4) (bytesOf 4 (f .pixels % half)) → z ≡ splice y (at + 8) (bytesOf 4 (f .pixels / half)) → z ≡ splice out at (figureBytes f)
 unfolding figureBytes
-figure-put out f h ex ey ez =
+figure-put out at f h ex ey ez =
     let w = bytesOf 4 (f .windows) in
     let l = bytesOf 4 (f .pixels % half) in
     let u = bytesOf 4 (f .pixels / half) in
@@ -50,7 +59,7 @@ figure-put out f h ex ey ez =
     let lu = length-bytes 4 (f .pixels / half) in
     let lower : length (l ++ u) ≡ 8 = omega (arith, length-append l u, ll, lu) in
     ez
-    ∙ ap (λ (s : List ℕ). splice s 8 u) (ey ∙ ap (λ (s : List ℕ). splice s 4 l) ex)
-    ∙ splice-after (splice out 0 w) 4 l u 8 (omega (arith, ll)) (omega (arith, ll, lu, h, length-splice out 0 w (omega (arith, lw, h))))
-    ∙ splice-after out 0 w (l ++ u) 4 (omega (arith, lw)) (omega (arith, lw, lower, h))
-    ∙ ap (λ (s : List ℕ). splice out 0 (w ++ s)) (halves (f .pixels))
+    ∙ ap (λ (s : List ℕ). splice s (at + 8) u) (ey ∙ ap (λ (s : List ℕ). splice s (at + 4) l) ex)
+    ∙ splice-after (splice out at w) (at + 4) l u (at + 8) (omega (arith, ll)) (omega (arith, ll, lu, h, length-splice out at w (omega (arith, lw, h))))
+    ∙ splice-after out at w (l ++ u) (at + 4) (omega (arith, lw)) (omega (arith, lw, lower, h))
+    ∙ ap (λ (s : List ℕ). splice out at (w ++ s)) (halves (f .pixels))

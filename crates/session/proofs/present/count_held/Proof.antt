@@ -1,0 +1,64 @@
+-- Both sums go from slot to slot.
+use mathlib.Core.Path.{_≡_}
+use Prim.Native.Nat.{_*_, _-_, _≤_}
+use native.Mathlib.Omega.{arith}
+use denote.Ref.{now}
+use Rattle.area.specs.Area.{sumBelow}
+use Rattle.area.specs.Cutting.{mostPoints}
+use Rattle.figure.specs.Figure.{pixelsOf}
+use Rattle.figure.proofs.FigureSums.{sum-more, sum-zero}
+use Rattle.session.specs.PresentFigure.{heldAt, shownOne}
+use Rattle.session.proofs.PresentFigure.{all-held}
+use borrow.Author.Needs.{needs}
+use Rattle.session.proofs.present.count_held.Statement.{statement}
+use Rattle.session.proofs.present.count_held.Tie as tie
+
+abbrev Inv-loop : tie.InvT-loop
+Inv-loop x index bodies journal count windows₀ pixels₀ i₀ windows pixels i =
+    (i ≤ 32) × (windows ≤ i) × (pixels ≤ mostPoints * i) × (windows ≡ sumBelow i (heldAt shownOne x index bodies journal count))
+    × (pixels ≡ sumBelow i (heldAt pixelsOf x index bodies journal count))
+
+abbrev μ-loop : tie.MeasureT-loop
+μ-loop x index bodies journal count windows₀ pixels₀ i₀ windows pixels i = 32 - i
+
+loop-holds : tie.Need-loop-holds Inv-loop μ-loop
+loop-holds c =
+    let a = c .before .before .before .before .args in
+    (omega arith, omega arith, omega arith, sum-zero (heldAt shownOne (now (a .x)) (now (a .index)) (now (a .bodies)) (now (a .journal)) (a .count)), sum-zero (heldAt pixelsOf (now (a .x)) (now (a .index)) (now (a .bodies)) (now (a .journal)) (a .count)))
+
+slot-held-requires : tie.Need-slot-held-requires Inv-loop μ-loop
+slot-held-requires c κs = (omega arith, c .before .before .before .before .before .before .pre)
+
+add-windows : tie.Need-add-windows Inv-loop μ-loop
+add-windows c = let s = c .before .slot-held .ensures in omega (arith, c .before .before .before .loop .inv .0, c .before .before .before .loop .inv .1, s .few)
+
+add-pixels : tie.Need-add-pixels Inv-loop μ-loop
+add-pixels c = let s = c .before .before .slot-held .ensures in omega (arith, c .before .before .before .before .loop .inv .0, c .before .before .before .before .loop .inv .2, s .most)
+
+add-i : tie.Need-add-i Inv-loop μ-loop
+add-i c = search needs
+
+loop-less : tie.Need-loop-less Inv-loop μ-loop
+loop-less c = search needs
+
+loop-again : tie.Need-loop-again Inv-loop μ-loop
+loop-again c =
+    let l = c .before .before .before .before .loop in
+    let a = c .before .before .before .before .before .before .before .before .before .args in
+    let s = c .before .before .slot-held .ensures in (
+      omega arith,
+      omega (arith, l .inv .1, s .few),
+      omega (arith, l .inv .2, s .most),
+      sum-more (l .i) (heldAt shownOne (now (a .x)) (now (a .index)) (now (a .bodies)) (now (a .journal)) (a .count)) (l .inv .3) (s .windows),
+      sum-more (l .i) (heldAt pixelsOf (now (a .x)) (now (a .index)) (now (a .bodies)) (now (a .journal)) (a .count)) (l .inv .4) (s .pixels),
+    )
+
+returns : tie.Need-returns Inv-loop μ-loop
+returns c =
+    let l = c .before .loop in
+    let a = c .before .before .before .before .before .before .args in
+    all-held (now (a .x)) (now (a .index)) (now (a .bodies)) (now (a .journal)) (a .count) (omega (arith, c .loop-test .left, l .inv .0)) (l .inv .3) (l .inv .4)
+
+pub count-held-spec : {M : Type 1} → statement M
+count-held-spec =
+    tie.close (tie.spec Inv-loop μ-loop loop-holds slot-held-requires add-windows add-pixels add-i loop-less loop-again returns)

@@ -1,0 +1,108 @@
+// The figure of the present table: each window that its index lists is followed from the mark through the journal's orders.
+ghost use mathlib.Core.Path.{_≡_};
+ghost use Prim.Native.Nat.{_<_};
+ghost use Rattle.wire.specs.Numbers.{Bytes};
+ghost use Rattle.places.specs.declared.Family.the-variants as family;
+ghost use Rattle.index.specs.Families.{capacity};
+ghost use Rattle.figure.specs.Figure.{pixelsOf};
+ghost use Rattle.session.specs.PresentFigure.{Followable, windowHeld, heldAt, shownOne, FigureIs, figureHeld, noFigure, figureFor};
+use crate::LookupTarget;
+use figure::Figure;
+use follow::Want;
+use index::slots;
+use protocol::WindowId;
+
+// What the window of an id shows after the first count orders.
+fn window_held(index: &[u8], bodies: &[u8], journal: &[u8], count: usize, w: WindowId) -> Figure
+    requires { ⌜ Followable (now index) (now bodies) (now journal) ⌝ }
+    ensures { λ r. ⌜ FigureIs r (shownOne (windowHeld (now (index .entry)) (now (bodies .entry)) (now (journal .entry)) count w)) (pixelsOf (windowHeld (now (index .entry)) (now (bodies .entry)) (now (journal .entry)) count w)) ⌝ }
+{
+    let mut d = [0u8; index::LENGTH];
+    let mut m = [0u8; follow::WINDOW];
+    journal::from_mark(
+        index,
+        bodies,
+        journal,
+        count,
+        Want::Window(w),
+        &mut d,
+        &mut m,
+    );
+    let slot = &m[0..body::WINDOW];
+    let shown = figure::shows(slot);
+    let pixels = figure::pixels(slot);
+    Figure {
+        windows: shown as u32,
+        pixels,
+    }
+}
+
+fn none() -> Figure
+    ensures { λ r. ⌜ r ≡ noFigure ⌝ }
+{
+    Figure {
+        windows: 0,
+        pixels: 0,
+    }
+}
+
+// The same for slot i of the index x, nothing where it has no window.
+fn slot_held(
+    x: &[u8],
+    i: usize,
+    index: &[u8],
+    bodies: &[u8],
+    journal: &[u8],
+    count: usize,
+) -> Figure
+    requires { ⌜ (i < capacity family.Windows) × Followable (now index) (now bodies) (now journal) ⌝ }
+    ensures { λ r. ⌜ FigureIs r (heldAt shownOne (now (x .entry)) (now (index .entry)) (now (bodies .entry)) (now (journal .entry)) count i) (heldAt pixelsOf (now (x .entry)) (now (index .entry)) (now (bodies .entry)) (now (journal .entry)) count i) ⌝ }
+{
+    let at = places::LENGTH + slots::SLOT * i;
+    if wire::read_u8(x, at) != 1 {
+        return none();
+    }
+    let id = wire::read_u32(x, at + 1);
+    window_held(index, bodies, journal, count, WindowId { id })
+}
+
+// How many windows of the index x are shown after the first count orders, and their pixels in all.
+fn count_held(x: &[u8], index: &[u8], bodies: &[u8], journal: &[u8], count: usize) -> Figure
+    requires { ⌜ Followable (now index) (now bodies) (now journal) ⌝ }
+    ensures { λ r. ⌜ r ≡ figureHeld (now (x .entry)) (now (index .entry)) (now (bodies .entry)) (now (journal .entry)) count ⌝ }
+{
+    let mut windows = 0;
+    let mut pixels = 0;
+    let mut i = 0;
+    while i < slots::WINDOWS {
+        let f = slot_held(x, i, index, bodies, journal, count);
+        windows += f.windows;
+        pixels += f.pixels;
+        i += 1;
+    }
+    Figure { windows, pixels }
+}
+
+// The figure that is handed out with a target: with the desktop state that of the table whose index x is, else none. (That x holds
+// bytes is what its type says.)
+pub fn figure_for(
+    target: LookupTarget,
+    x: &[u8],
+    index: &[u8],
+    bodies: &[u8],
+    journal: &[u8],
+    count: usize,
+) -> Figure
+    requires { ⌜ Followable (now index) (now bodies) (now journal) ⌝ }
+    ensures { λ r. ⌜ (r ≡ figureFor target (now (x .entry)) (now (index .entry)) (now (bodies .entry)) (now (journal .entry)) count) × Bytes (now (x .entry)) ⌝ }
+{
+    match target {
+        LookupTarget::Window(_) => none(),
+        LookupTarget::Notification(_, _) => none(),
+        LookupTarget::Cell(_, _) => none(),
+        LookupTarget::Desktop => count_held(x, index, bodies, journal, count),
+        LookupTarget::Windows => none(),
+        LookupTarget::Notifications => none(),
+        LookupTarget::Shares(_, _) => none(),
+    }
+}
