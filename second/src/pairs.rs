@@ -208,13 +208,14 @@ impl Folder {
         })
     }
 
-    /// What a program prints for a pair. Its end by a signal shows as a last line.
+    /// What a program prints for a pair. Its end by a signal shows as a last line. What it
+    /// says on standard error of a file that cannot be read is passed over.
     fn run(&self, program: &Path, pair: &Pair) -> io::Result<Vec<u8>> {
         let output = Command::new(program)
             .arg(self.put("state", &pair.state)?)
             .arg(self.put("order", &pair.order)?)
             .stdin(Stdio::null())
-            .stderr(Stdio::inherit())
+            .stderr(Stdio::null())
             .output()?;
         let mut printed = output.stdout;
         if output.status.code().is_none() {

@@ -34,11 +34,13 @@ pub(crate) fn each_seed(
 }
 
 /// The program's standard output, given the script on its standard input. Its
-/// end by a signal shows as a last line.
+/// end by a signal shows as a last line. What it says of an unfit script on standard
+/// error is passed over: many of the generated ones end in a bad item.
 pub(crate) fn run_program(program: &Path, script: &[u8]) -> io::Result<Vec<u8>> {
     let mut child = Command::new(program)
         .stdin(Stdio::piped())
         .stdout(Stdio::piped())
+        .stderr(Stdio::null())
         .spawn()?;
     let mut input = child.stdin.take().expect("a pipe");
     let mut output = child.stdout.take().expect("a pipe");

@@ -5,6 +5,7 @@ use crate::channel::Turn;
 use crate::record;
 use crate::record::Record;
 use crate::show;
+use libc::STDERR_FILENO;
 use libc::STDIN_FILENO;
 use libc::STDOUT_FILENO;
 use pdu::Pdu;
@@ -14,8 +15,13 @@ use pdu::Written;
 // The most output memory that an item can ask for.
 const SIZE_MAX: usize = 17408;
 
+// The input is no script: the line that ends a run, and on standard error how the program is used.
 pub(crate) fn bad_item() -> bool {
     io::write_all(STDOUT_FILENO, b"bad item\n");
+    io::write_all(
+        STDERR_FILENO,
+        b"usage: rail_pdu < SCRIPT, a call script of messages (docs/FORMATS.md); second pdu < SCRIPT tells which item is bad\n",
+    );
     false
 }
 

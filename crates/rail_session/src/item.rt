@@ -3,6 +3,7 @@ use crate::batch;
 use crate::holders;
 ghost use Prim.Native.Nat.{_≤_};
 ghost use lib.ListN.{length};
+use libc::STDERR_FILENO;
 use libc::STDIN_FILENO;
 use libc::STDOUT_FILENO;
 
@@ -16,8 +17,13 @@ pub(crate) struct Item {
     pub len: usize,
 }
 
+// The input is no script: the line that ends a run, and on standard error how the program is used.
 pub(crate) fn tell_bad() {
     io::write_all(STDOUT_FILENO, b"bad item\n");
+    io::write_all(
+        STDERR_FILENO,
+        b"usage: rail_session < SCRIPT, a call script of state calls (docs/FORMATS.md); second session < SCRIPT tells which item is bad\n",
+    );
 }
 
 fn no_item() -> Item
