@@ -11,19 +11,20 @@ use crate::answer::{refused, Refusal};
 /// the order would be refused, the offset of the field at fault, a line each.
 ///
 /// ```
-/// use rail::{Explanation, Refusal, RefusedOrder, Session};
+/// use rail::{Explanation, Refusal, Session};
 ///
 /// // A new window with one rectangle, and the rectangle is not there.
 /// let order = [0x2E, 13, 0, 0, 1, 0, 0x11, 0x58, 0, 1, 0, 1, 0];
 /// let explanation = Session::new().explain(&order);
-/// let refused = RefusedOrder { refusal: Refusal::NotFilled, offset: 13 };
-/// assert_eq!(explanation, Explanation::Refused(refused));
+/// let Explanation::Refused(order) = explanation else { panic!("granted") };
+/// assert_eq!((order.refusal, order.offset), (Refusal::NotFilled, 13));
 /// assert_eq!(
 ///     explanation.to_string(),
 ///     "7\nthe fields don't fill the declared length exactly\n13"
 /// );
 /// ```
 #[derive(Clone, Copy, Debug, PartialEq, Eq, Hash)]
+#[non_exhaustive]
 pub enum Explanation {
     /// The order would be granted.
     Granted,
@@ -33,6 +34,7 @@ pub enum Explanation {
 
 /// A refused order: why, and where in its bytes the field at fault begins.
 #[derive(Clone, Copy, Debug, PartialEq, Eq, Hash)]
+#[non_exhaustive]
 pub struct RefusedOrder {
     /// The first refusal that applies.
     pub refusal: Refusal,

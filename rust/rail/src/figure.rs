@@ -11,6 +11,7 @@
 /// window has of it in [`Window::pixels`](crate::Window::pixels); that of the checkpoint is
 /// asked for by itself.
 #[derive(Clone, Copy, Debug, Default, PartialEq, Eq, Hash)]
+#[non_exhaustive]
 pub struct Figure {
     /// The windows that are shown, minimized ones too.
     pub windows: u32,

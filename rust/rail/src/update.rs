@@ -7,6 +7,7 @@ use crate::order::Changed;
 
 /// What an update came to: see [`Session::update`](crate::Session::update).
 #[derive(Clone, Copy, Debug, Default, PartialEq, Eq)]
+#[non_exhaustive]
 pub struct Report {
     /// The orders that this call granted.
     pub orders: usize,
@@ -49,6 +50,7 @@ impl Report {
 /// What an update came to that was taken whole: see
 /// [`Session::take_update`](crate::Session::take_update).
 #[derive(Clone, Debug, Default, PartialEq, Eq)]
+#[non_exhaustive]
 pub struct Taken {
     /// What each granted order changed.
     pub changed: Vec<Changed>,

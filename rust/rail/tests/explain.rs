@@ -2,8 +2,7 @@
 //! order, and beside deliveries.
 
 use rail::{
-    Explanation, Refusal, RefusedOrder, Session, View, BODIES_SIZE, INDEX_SIZE, JOURNAL_SIZE,
-    PLACE_SIZE,
+    Explanation, Refusal, Session, View, BODIES_SIZE, INDEX_SIZE, JOURNAL_SIZE, PLACE_SIZE,
 };
 use second::generate::explain::pairs;
 use second::memory::{self, Memory};
@@ -23,6 +22,12 @@ fn view(file: &[u8]) -> View<'_> {
     let (index, bodies, journal) = (part(INDEX_SIZE), part(BODIES_SIZE), part(JOURNAL_SIZE));
     let store = [15, 15, 15, 15, 4].map(|places| part(PLACE_SIZE * places));
     View::new(index, bodies, store, journal)
+}
+
+/// That an order is refused so, at that offset.
+fn assert_refused(told: Explanation, refusal: Refusal, offset: usize) {
+    let order = told.refused().expect("refused");
+    assert_eq!((order.refusal, order.offset), (refusal, offset));
 }
 
 fn told(explanation: Explanation) -> String {
@@ -92,21 +97,14 @@ fn the_state_file_of_a_session() {
             (book.places(), book.orders()),
             (places, &[order.to_vec()][..])
         );
-        let again = RefusedOrder {
-            refusal: Refusal::WrongId,
-            offset: 7,
-        };
-        assert_eq!(view(&file).explain(&order), Explanation::Refused(again));
-        assert_eq!(session.deliver_explained(&order), Err(again));
+        let again = view(&file).explain(&order);
+        assert_refused(again, Refusal::WrongId, 7);
+        assert_eq!(session.deliver_explained(&order).err(), again.refused());
     }
 }
 
 #[test]
 fn unfit_memory() {
     let told = View::new(&[], &[], [&[]; 5], &[]).explain(&[]);
-    let unfit = RefusedOrder {
-        refusal: Refusal::UnfitMemory,
-        offset: 0,
-    };
-    assert_eq!(told, Explanation::Refused(unfit));
+    assert_refused(told, Refusal::UnfitMemory, 0);
 }

@@ -24,7 +24,9 @@ fn report(input: &[u8]) -> String {
         }
         mark += 1;
         session.checkpoint();
-        let Figure { windows, pixels } = session.figure();
+        let Figure {
+            windows, pixels, ..
+        } = session.figure();
         writeln!(text, "{mark} {windows} {pixels}").expect("a text takes all");
     }
     text
@@ -47,7 +49,9 @@ fn at_any_moment() {
                 let granted = session.deliver(item.payload).is_ok();
                 assert_eq!(granted, book.deliver(item.payload).is_ok());
             }
-            let Figure { windows, pixels } = session.desktop().figure;
+            let Figure {
+                windows, pixels, ..
+            } = session.desktop().figure;
             let figure = book.figure();
             assert_eq!((windows as usize, pixels), (figure.windows, figure.pixels));
         }

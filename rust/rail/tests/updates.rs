@@ -1,6 +1,6 @@
 //! Whole updates: beside orders taken one by one, and longer than an OrderSize can say.
 
-use rail::{orders, Change, Refusal, Report, Session, Standing};
+use rail::{orders, Change, Refusal, Session, Standing};
 use second::generate::session::script;
 use second::script::parts::Parts;
 use second::script::session::Call;
@@ -48,13 +48,9 @@ fn a_long_rest() {
         orders: 1,
         bytes: 7,
     };
-    let expected = Report {
-        orders: 1,
-        bytes: 7,
-        refusal: Some(Refusal::LengthDiffers),
-        standing,
-    };
-    assert_eq!(report, expected);
+    assert_eq!((report.orders, report.bytes), (1, 7));
+    assert_eq!(report.refusal, Some(Refusal::LengthDiffers));
+    assert_eq!(report.standing, standing);
 }
 
 /// The limit counts granted orders; nothing to deliver is no refusal.

@@ -23,6 +23,7 @@ use crate::record::Rectangle;
 /// # Ok::<(), Refusal>(())
 /// ```
 #[derive(Clone, Copy, Debug, PartialEq, Eq)]
+#[non_exhaustive]
 pub enum Setting<'a> {
     /// `SPI_SETDRAGFULLWINDOWS`: windows are shown whole while they are dragged.
     DragFullWindows(u8),

@@ -395,10 +395,12 @@ impl Session {
     ///     0x2E, 30, 0, 0x10, 2, 0, 0x11, 1, 0, 0, 0, 5, // show state 5
     ///     2, 0, 0, 0, 0, 0, 10, 0, 10, 0, 5, 0, 5, 0, 15, 0, 15, 0,
     /// ])?;
-    /// assert_eq!(session.figure(), Figure { windows: 0, pixels: 0 });
-    /// assert_eq!(session.desktop().figure, Figure { windows: 1, pixels: 175 });
+    /// assert_eq!(session.figure(), Figure::default());
+    /// let present = session.desktop().figure;
+    /// assert_eq!((present.windows, present.pixels), (1, 175));
     /// session.checkpoint();
-    /// assert_eq!(session.figure(), Figure { windows: 1, pixels: 175 });
+    /// let figure = session.figure();
+    /// assert_eq!((figure.windows, figure.pixels), (1, 175));
     /// # Ok::<(), Refusal>(())
     /// ```
     pub fn figure(&self) -> Figure {
