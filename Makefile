@@ -13,7 +13,7 @@ INSTALL = install
 to = $(DESTDIR)$(PREFIX)
 doc = $(to)/share/doc/rail
 parts = $(notdir $(wildcard include/rail/*.h))
-documents = CHANGELOG.md $(wildcard docs/*.md) docs/desktop.svg docs/visible.svg
+documents = CHANGELOG.md $(wildcard docs/*.md docs/changes/*.md) docs/desktop.svg docs/visible.svg
 examples = $(wildcard examples/*)
 sources = crates.txt $(shell find crates -name must-fail -prune -o '(' -name '*.rt' -o -name '*.antt' ')' -print)
 
@@ -34,7 +34,7 @@ check: $(LIB_DIR)/librail.a
 	tests/c/run "$(LIB_DIR)"
 
 install: $(LIB_DIR)/librail.a
-	$(INSTALL) -d "$(to)/include/rail" "$(to)/lib/pkgconfig" "$(doc)/docs" "$(doc)/examples"
+	$(INSTALL) -d "$(to)/include/rail" "$(to)/lib/pkgconfig" "$(doc)/docs/changes" "$(doc)/examples"
 	$(INSTALL) -m 644 include/rail.h "$(to)/include/rail.h"
 	for part in $(parts); do $(INSTALL) -m 644 "include/rail/$$part" "$(to)/include/rail/$$part" || exit 1; done
 	$(INSTALL) -m 644 "$(LIB_DIR)/librail.a" "$(to)/lib/librail.a"
@@ -46,4 +46,4 @@ uninstall:
 	rm -f "$(to)/include/rail.h" "$(to)/lib/librail.a" "$(to)/lib/pkgconfig/rail.pc"
 	for part in $(parts); do rm -f "$(to)/include/rail/$$part"; done
 	for file in $(documents) $(examples); do rm -f "$(doc)/$$file"; done
-	-rmdir "$(to)/include/rail" "$(doc)/docs" "$(doc)/examples" "$(doc)" 2>/dev/null
+	-rmdir "$(to)/include/rail" "$(doc)/docs/changes" "$(doc)/docs" "$(doc)/examples" "$(doc)" 2>/dev/null
