@@ -2,8 +2,8 @@
 use denote.Ref.{now}
 use borrow.Author.Needs.{needs}
 use Rattle.pdu_words.proofs.FromWords.{value-16, system-menu-made}
-use Rattle.pdu_words.proofs.system_menu_from.Statement.{statement}
-use Rattle.pdu_words.proofs.system_menu_from.Tie as tie
+use Rattle.pdu_words.proofs.records.system_menu_from.Statement.{statement}
+use Rattle.pdu_words.proofs.records.system_menu_from.Tie as tie
 
 pub system-menu-from-spec : {M : Type 1} → statement M
 system-menu-from-spec =

@@ -2,8 +2,8 @@
 use native.Mathlib.Omega.{arith}
 use borrow.Author.Needs.{needs}
 use Rattle.pdu_words.proofs.FromWords.{word-16, window-move-laid}
-use Rattle.pdu_words.proofs.window_move_words.Statement.{statement}
-use Rattle.pdu_words.proofs.window_move_words.Tie as tie
+use Rattle.pdu_words.proofs.words.window_move_words.Statement.{statement}
+use Rattle.pdu_words.proofs.words.window_move_words.Tie as tie
 
 pub window-move-words-spec : {M : Type 1} → statement M
 window-move-words-spec =

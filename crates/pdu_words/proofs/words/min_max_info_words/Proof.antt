@@ -2,8 +2,8 @@
 use native.Mathlib.Omega.{arith}
 use borrow.Author.Needs.{needs}
 use Rattle.pdu_words.proofs.FromWords.{word-16, min-max-info-laid}
-use Rattle.pdu_words.proofs.min_max_info_words.Statement.{statement}
-use Rattle.pdu_words.proofs.min_max_info_words.Tie as tie
+use Rattle.pdu_words.proofs.words.min_max_info_words.Statement.{statement}
+use Rattle.pdu_words.proofs.words.min_max_info_words.Tie as tie
 
 pub min-max-info-words-spec : {M : Type 1} → statement M
 min-max-info-words-spec =

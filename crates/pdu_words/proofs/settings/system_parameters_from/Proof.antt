@@ -3,8 +3,8 @@ use mathlib.Core.Path.{ap}
 use borrow.Author.Needs.{needs}
 use Rattle.pdu.specs.declared.SystemParameters.{SystemParameters}
 use Rattle.pdu.specs.declared.Setting.{Setting}
-use Rattle.pdu_words.proofs.system_parameters_from.Statement.{statement}
-use Rattle.pdu_words.proofs.system_parameters_from.Tie as tie
+use Rattle.pdu_words.proofs.settings.system_parameters_from.Statement.{statement}
+use Rattle.pdu_words.proofs.settings.system_parameters_from.Tie as tie
 
 pub system-parameters-from-spec : {M : Type 1} → statement M
 system-parameters-from-spec =

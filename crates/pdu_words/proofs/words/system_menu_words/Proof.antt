@@ -2,8 +2,8 @@
 use native.Mathlib.Omega.{arith}
 use borrow.Author.Needs.{needs}
 use Rattle.pdu_words.proofs.FromWords.{word-16, system-menu-laid}
-use Rattle.pdu_words.proofs.system_menu_words.Statement.{statement}
-use Rattle.pdu_words.proofs.system_menu_words.Tie as tie
+use Rattle.pdu_words.proofs.words.system_menu_words.Statement.{statement}
+use Rattle.pdu_words.proofs.words.system_menu_words.Tie as tie
 
 pub system-menu-words-spec : {M : Type 1} → statement M
 system-menu-words-spec =

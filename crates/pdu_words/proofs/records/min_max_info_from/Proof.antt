@@ -2,8 +2,8 @@
 use denote.Ref.{now}
 use borrow.Author.Needs.{needs}
 use Rattle.pdu_words.proofs.FromWords.{value-16, min-max-info-made}
-use Rattle.pdu_words.proofs.min_max_info_from.Statement.{statement}
-use Rattle.pdu_words.proofs.min_max_info_from.Tie as tie
+use Rattle.pdu_words.proofs.records.min_max_info_from.Statement.{statement}
+use Rattle.pdu_words.proofs.records.min_max_info_from.Tie as tie
 
 pub min-max-info-from-spec : {M : Type 1} → statement M
 min-max-info-from-spec =

@@ -2,8 +2,8 @@
 use denote.Ref.{now}
 use borrow.Author.Needs.{needs}
 use Rattle.pdu_words.proofs.FromWords.{value-16, window-move-made}
-use Rattle.pdu_words.proofs.window_move_from.Statement.{statement}
-use Rattle.pdu_words.proofs.window_move_from.Tie as tie
+use Rattle.pdu_words.proofs.records.window_move_from.Statement.{statement}
+use Rattle.pdu_words.proofs.records.window_move_from.Tie as tie
 
 pub window-move-from-spec : {M : Type 1} → statement M
 window-move-from-spec =

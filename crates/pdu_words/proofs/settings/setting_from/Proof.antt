@@ -8,8 +8,8 @@ use Rattle.pdu.specs.declared.Rectangle.{Rectangle}
 use Rattle.pdu.specs.declared.Setting.the-variants.{HighContrast}
 use Rattle.pdu.specs.Settings.{byte, area, settingWith}
 use Rattle.pdu_words.proofs.FromWords.{inside-byte, inside-area, from-byte, from-area, from-scheme}
-use Rattle.pdu_words.proofs.setting_from.Statement.{statement}
-use Rattle.pdu_words.proofs.setting_from.Tie as tie
+use Rattle.pdu_words.proofs.settings.setting_from.Statement.{statement}
+use Rattle.pdu_words.proofs.settings.setting_from.Tie as tie
 
 pub setting-from-spec : {M : Type 1} → statement M
 unfolding settingWith

@@ -2,8 +2,8 @@
 use native.Mathlib.Omega.{arith}
 use borrow.Author.Needs.{needs}
 use Rattle.pdu_words.proofs.FromWords.{word-16, move-size-laid}
-use Rattle.pdu_words.proofs.move_size_words.Statement.{statement}
-use Rattle.pdu_words.proofs.move_size_words.Tie as tie
+use Rattle.pdu_words.proofs.words.move_size_words.Statement.{statement}
+use Rattle.pdu_words.proofs.words.move_size_words.Tie as tie
 
 pub move-size-words-spec : {M : Type 1} → statement M
 move-size-words-spec =

@@ -2,8 +2,8 @@
 use denote.Ref.{now}
 use borrow.Author.Needs.{needs}
 use Rattle.pdu_words.proofs.FromWords.{value-16, move-size-made}
-use Rattle.pdu_words.proofs.move_size_from.Statement.{statement}
-use Rattle.pdu_words.proofs.move_size_from.Tie as tie
+use Rattle.pdu_words.proofs.records.move_size_from.Statement.{statement}
+use Rattle.pdu_words.proofs.records.move_size_from.Tie as tie
 
 pub move-size-from-spec : {M : Type 1} → statement M
 move-size-from-spec =
