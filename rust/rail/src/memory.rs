@@ -12,7 +12,8 @@ use crate::view::View;
 /// The bytes needed of the index: which ids are listed, at which place of the store each
 /// cell, window and notification icon has its picture, and what of the windows is visible.
 pub const INDEX_SIZE: usize = 729;
-/// The bytes needed of the bodies: the records and the desktop state.
+/// The bytes needed of the bodies: the records, the desktop state and the numbers of the
+/// pictures.
 pub const BODIES_SIZE: usize = 61_012;
 /// The bytes of a place of the store, for one picture.
 pub const PLACE_SIZE: usize = 4_224;

@@ -70,7 +70,7 @@ impl Session {
     /// icon cache, a window (for its small, its big or its overlay icon) or a notification icon has the
     /// picture in it; where none is free for an icon that comes, its order meets
     /// [`Refusal::NoPlace`]. The cells alone need up to 12 places, all that can have a
-    /// picture 92.
+    /// picture 124.
     ///
     /// ```
     /// let session = rail::Session::with_places(20);
