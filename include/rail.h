@@ -206,7 +206,8 @@ uint32_t rail_checkpoint(RAIL_WRITE(index), RAIL_WRITE(bodies), RAIL_WRITE_STORE
 uint32_t rail_undo(RAIL_READ_TABLE, RAIL_WRITE(journal), uint64_t steps);
 
 /* Lookups: the whole record as the present table has it, in the first RAIL_.._SIZE bytes of `out`; no other byte is written. A window
- * and a notification icon come with the pictures that they show. Refuse with 1, with 9 where there is no such record (an absent id,
+ * and a notification icon come with the pictures that they show, a window also with how many of its pixels are visible, the desktop
+ * with how many windows are shown and their pixels (rail/figure.h). Refuse with 1, with 9 where there is no such record (an absent id,
  * an empty cell or one outside the caches; never for the desktop), and then with 14 where `out` is smaller than the record. */
 uint32_t rail_window(RAIL_READ_STATE, uint32_t window_id, RAIL_WRITE(out));
 uint32_t rail_notification(RAIL_READ_STATE, uint32_t window_id, uint32_t notify_icon_id, RAIL_WRITE(out));
