@@ -67,11 +67,28 @@ static size_t used(uint8_t *stack, int which) {
     return STACK - untouched;
 }
 
-/* A window, a notification icon and an icon after the mark; the order is the icon's. */
+/* A window that is shown, with 15 visibility rectangles one below the other and one over them all: each is cut around the one before it,
+ * so that every call counts its pixels as deep as it can. */
+static void put_deep_window(void) {
+    uint32_t i;
+    begin_window(WINDOW_ORDER_STATE_NEW | WINDOW_ORDER_FIELD_SHOW | WINDOW_ORDER_FIELD_VISIBILITY, 7);
+    put8(RAIL_SHOW_NORMAL);
+    put16(RAIL_RECTANGLES_MAX);
+    for (i = 0; i < RAIL_RECTANGLES_MAX; i++) {
+        const int last = i + 1 == RAIL_RECTANGLES_MAX;
+        put16(0);
+        put16(last ? 0 : 10 * i + 5);
+        put16(1000);
+        put16(last ? 1000 : 10 * i + 10);
+    }
+    grant();
+}
+
+/* Such a window at the mark; a notification icon and an icon after it. The order is the icon's. */
 static void prepare_state(void) {
     empty_state();
-    begin_window(WINDOW_ORDER_STATE_NEW, 7);
-    grant();
+    put_deep_window();
+    CHECK(rail_checkpoint(NOW) == RAIL_DONE);
     begin_notification(WINDOW_ORDER_STATE_NEW, 7, 9);
     grant();
     begin_window(WINDOW_ORDER_ICON, 7);
