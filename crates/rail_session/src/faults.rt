@@ -2,22 +2,12 @@
 use crate::lending;
 use crate::lending::Lending;
 
-// The most bytes of a part that an item can keep back; 0 where there is no such part.
-fn most_missing(part: u8) -> usize {
-    match part {
-        0 => session::INDEX,
-        1 => session::BODIES,
-        2 => session::JOURNAL,
-        3..=7 => lending::PART,
-        _ => 0,
-    }
-}
-
-// T: the part that the next call lacks bytes of. No bytes where the item is bad.
+// T: the part that the next call lacks bytes of; one that has fewer is lent empty. No bytes where there is no such part, so that
+// the item is bad.
 pub(crate) fn shortened(s: &[u8], l: Lending) -> Lending {
     let part = wire::read_u8(s, 0);
     let missing = wire::read_u16(s, 1) as usize;
-    if most_missing(part) < missing {
+    if lending::LAST_PART < part {
         return lending::whole(l);
     }
     let lengths = l.lengths;

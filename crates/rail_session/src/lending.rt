@@ -10,6 +10,9 @@ pub(crate) const STORE: usize = 5 * PART;
 // The number of the first part of the store, after those of the state memory.
 pub(crate) const FIRST_OF_STORE: u8 = 3;
 
+// The number of the last one.
+pub(crate) const LAST_PART: u8 = 7;
+
 // At first four parts have room for 15 places and one for 4.
 const MANY: usize = 15 * store::PLACE;
 

@@ -94,10 +94,9 @@ impl Parts {
         (part < STORE_PARTS).then_some(part)
     }
 
-    /// Whether a part can be lent that many bytes shorter.
-    pub(super) fn can_lack(&self, part: u8, missing: u16) -> bool {
-        let length = self.0.get(usize::from(part));
-        missing > 0 && length.is_some_and(|&length| u32::from(missing) <= length)
+    /// Whether there is a part of that number.
+    pub(super) fn has_part(&self, part: u8) -> bool {
+        usize::from(part) < self.0.len()
     }
 
     /// Whether a part has a byte at that offset.

@@ -102,7 +102,7 @@ pub fn call<'a>(item: Item<'a>, parts: &Parts) -> Option<Call<'a>> {
             let missing = u16::from_le_bytes([low, high]);
             match parts.of_store(part) {
                 Some(part) if missing > 0 => Call::ShortenStore(part, missing),
-                None if parts.can_lack(part, missing) => Call::Shorten,
+                None if missing > 0 && parts.has_part(part) => Call::Shorten,
                 _ => return None,
             }
         }

@@ -117,7 +117,9 @@ fn parts_and_missing_bytes() {
         let part = part as u8;
         items.push((lack(part, 1), true));
         items.push((lack(part, length), true));
-        items.push((lack(part, length + 1), false));
+        // more missing than there is: lent empty
+        items.push((lack(part, length + 1), true));
+        items.push((lack(part, 65_535), true));
         items.push((fault(part, length), false));
     }
     for (item, good) in items {
@@ -154,7 +156,7 @@ fn parts_can_be_given() {
         String::from_utf8(output).expect("a text")
     };
     assert_eq!(print("T 00 0A00\nM"), "M 1\n");
-    assert_eq!(print("T 00 0B00\nM"), "bad item\n");
+    assert_eq!(print("T 00 0B00\nM"), "M 1\n");
     assert_eq!(print("T 01 FFFF\nM"), "M 1\n");
     assert_eq!(print("T 02 0100\nM"), "M 1\n");
     assert_eq!(print("T 07 0100\nM"), "bad item\n");

@@ -384,6 +384,7 @@ impl Writer<'_> {
         let missing = match self.random.below(4) {
             0 => length,
             1 => 1 + self.random.below(length),
+            2 => u16::MAX.into(),
             _ => 1,
         };
         let [low, high] = (missing as u16).to_le_bytes();
