@@ -52,3 +52,11 @@ pub record Turned (k off flags : ℕ) (s : List ℕ) (at : ℕ) (slot : List ℕ
   pub on : at ≤ q
   pub within : q ≤ length s
   pub well : EndsWell (rowsFrom (k + 1) 22) flags s q
+
+-- rows k to m are put, row k's place at index off and row m's at to, and row m begins at index q
+pub record Placed (k off m to flags : ℕ) (s : List ℕ) (at : ℕ) (before : List ℕ) (q : ℕ) (slot : List ℕ) : Type 0 where
+  pub stored : storeOf (rowsFrom k 22) off flags s at before ≡ storeOf (rowsFrom m 22) to flags s q slot
+  pub low : 1 ≤ q
+  pub within : q ≤ length s
+  pub well : EndsWell (rowsFrom m 22) flags s q
+  pub same : length slot ≡ length before

@@ -18,9 +18,15 @@ pub fn in_closed(flags: u32) -> bool
         | ((flags & protocol::DESKTOP != 0) & (flags & protocol::DESKTOP_FLAGS == flags))
 }
 
+// Deleted, big or overlay icon, desktop: without one of these, an icon or a cached icon no flags clash.
+const CLASHING: u32 = 0x2410_2000;
+
 pub fn clashes(flags: u32) -> bool
     ensures { λ r. ⌜ r ≡ clash flags ⌝ }
 {
+    if (flags & CLASHING == 0) & (flags & protocol::ANY_ICON == 0) {
+        return false;
+    }
     ((flags & protocol::DELETED != 0) & (flags & 0xD8FF_FFFF != 0))
         | ((flags & protocol::ICON != 0) & (flags & protocol::CACHED_ICON != 0))
         | ((flags & protocol::WINDOW != 0)
