@@ -5,3 +5,4 @@ pub mod Wellformed
 pub mod Lossless
 pub mod Records
 pub mod Zeros
+pub mod Tables

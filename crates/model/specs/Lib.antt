@@ -4,3 +4,4 @@ pub mod Claim
 pub mod Wellformed
 pub mod Lossless
 pub mod Records
+pub mod Tables
