@@ -57,8 +57,14 @@ fn parts_are_an_option() {
     let script = second(&["hex-session"], b"T 09 0500\nM\n").stdout;
     let run = |arguments: &[&str]| second(arguments, &script).stdout;
     assert_eq!(run(&["session"]), b"bad item\n");
-    assert_eq!(run(&["session", "--parts", "1,1,1,1,1,1,1,1,1,5"]), b"M 1\n");
-    assert_eq!(run(&["session", "--parts", "1,1,1,1,1,1,1,1,1,4"]), b"M 1\n");
+    assert_eq!(
+        run(&["session", "--parts", "1,1,1,1,1,1,1,1,1,5"]),
+        b"M 1\n"
+    );
+    assert_eq!(
+        run(&["session", "--parts", "1,1,1,1,1,1,1,1,1,4"]),
+        b"M 1\n"
+    );
     // four parts and the five of the store: there is none of the number 9
     assert_eq!(run(&["session", "--parts", "1,1,1,1"]), b"bad item\n");
 }
