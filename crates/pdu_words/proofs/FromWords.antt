@@ -77,6 +77,11 @@ module _ (w m : List ℕ) (h : within w m ≡ true) where
         at11 = below 10 (omega arith);
       }
 
+-- within so far: the first i words
+abbrev pub upTo : List ℕ → List ℕ → ℕ → Bool
+upTo w m zero = true
+upTo w m (suc i) = both (upTo w m i) (leb (getD w i 0) (getD m i 0))
+
 -- ---- the type
 
 -- a number is none of a list
