@@ -24,4 +24,4 @@ copy-run-spec =
     let k = c .before .before in
     let r = k .before .before .before .before .before in
     let a = r .before .before .before .before .args in
-    k .copy-bytes2 .ensures ∙ ap (splice (now (a .dst)) (a .at)) (run-back (replicate 16 0) (now (a .src)) (r .copy-bytes .ensures) (search needs))))
+    k .copy-bytes2 .ensures ∙ ap (splice (now (a .dst)) (a .at)) (run-back (replicate 8 0) (now (a .src)) (r .copy-bytes .ensures) (search needs))))
