@@ -1,5 +1,8 @@
 // Why an order would be refused: the number that delivery would give, and the byte offset of the field at fault.
 ghost use mathlib.Core.Path.{_≡_};
+ghost use Prim.Native.Nat.{_-_, _≤_};
+ghost use lib.ListN.{length};
+ghost use Rattle.wire.specs.Parts.{slice};
 ghost use Rattle.journal.specs.View.{memory, InEachStore};
 ghost use Rattle.explain.specs.Explain.{explain};
 ghost use Rattle.explain.specs.Steps.{Judgeable, onTable, onState};
@@ -67,6 +70,14 @@ pub fn explain(index: &[u8], bodies: &[u8], lent: usize, journal: &[u8], s: &[u8
     on_state(&d, s, w)
 }
 
+// Explains an order on a state whose bodies begin at index i, its journal at j and its places at k.
+fn explain_at(state: &[u8], i: usize, j: usize, k: usize, lent: usize, s: &[u8]) -> Explanation
+    requires { ⌜ (i ≤ j) × (j ≤ k) × (k ≤ length (now state)) ⌝ }
+    ensures { λ r. ⌜ InEachStore lent (λ store. r ≡ explain (now (s .entry)) (memory (slice (now (state .entry)) 0 i) (slice (now (state .entry)) i (j - i)) store (slice (now (state .entry)) j (k - j)))) ⌝ }
+{
+    explain(&state[0..i], &state[i..j], lent, &state[j..k], s)
+}
+
 // The parts of the state one after the other, then its places: where the bodies, the journal and the places begin.
 const BODIES_AT: usize = session::INDEX;
 
@@ -82,11 +93,5 @@ pub fn in_one(state: &[u8], s: &[u8]) -> Explanation
         return Explanation { number: 1, at: 0 };
     }
     let lent = (state.len() - PLACES_AT) / store::PLACE;
-    explain(
-        &state[0..BODIES_AT],
-        &state[BODIES_AT..JOURNAL_AT],
-        lent,
-        &state[JOURNAL_AT..PLACES_AT],
-        s,
-    )
+    explain_at(state, BODIES_AT, JOURNAL_AT, PLACES_AT, lent, s)
 }

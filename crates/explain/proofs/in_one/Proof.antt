@@ -1,7 +1,6 @@
 use mathlib.Core.List.{[], _∷_}
 use lib.ListN.{drop}
 use denote.Ref.{now}
-use Rattle.wire.specs.Parts.{slice}
 use Rattle.explain.specs.OneFile.{placesAt, memoryIn}
 use Rattle.explain.proofs.Answers.{explained-unmet}
 use Rattle.explain.proofs.OneFile.{file-short, file-lends}
@@ -11,22 +10,12 @@ use Rattle.explain.proofs.in_one.Tie as tie
 
 -- 1 where the parts are not whole; else the explanation on them, whatever store lends as many places.
 pub in-one-spec : {M : Type 1} → statement M
-unfolding slice
 in-one-spec =
     tie.close
     (tie.spec
     (λ c. let a = c .before .before .before .args in explained-unmet (now (a .s)) (memoryIn (now (a .state))) (file-short (now (a .state)) (c .if1 .taken)))  -- returns
     (λ c. search needs)
-    (λ c. search needs)
-    (λ c. search needs)
-    (λ c. search needs)
-    (λ c. search needs)
-    (λ c. search needs)
-    (λ c. search needs)
-    (λ c. search needs)
-    (λ c. search needs)
-    (λ c. search needs)
     (λ c κs. search needs)
     (λ c.  -- returns-2
-    let f = now (c .before .before .before .before .before .before .before .args .state) in
-    c .explain .ensures (drop placesAt f ∷ []) (file-lends f)))
+    let f = now (c .before .before .before .before .args .state) in
+    c .explain-at .ensures (drop placesAt f ∷ []) (file-lends f)))
