@@ -8,8 +8,8 @@ use native.Mathlib.Omega.{arith}
 use lib.Dec.{eqb, ltb}
 use lib.ListN.{length, take, drop, replicate, length-append, length-drop, length-replicate, drop-of-length-le}
 use lib.Seq.{length-take-le, take-all, drop-at}
-use borrow.Author.Tests.{ne-eqb, lt-ltb, le-ltb}
-use Rattle.wire.specs.Tests.{pick}
+use borrow.Author.Tests.{eqb-true, eqb-false, ltb-true, ltb-false, ne-eqb, lt-ltb, le-ltb}
+use Rattle.wire.specs.Tests.{pick, either}
 use Rattle.wire.specs.Parts.{splice}
 use Rattle.wire.specs.Numbers.{numAt, bytesOf}
 use Rattle.wire.proofs.Parts.{splice-start, splice-after}
@@ -25,15 +25,16 @@ use Rattle.session.specs.declared.LookupTarget.{LookupTarget}
 use Rattle.session.specs.declared.LookupTarget.the-variants.{Window, Notification, Cell, Desktop, Windows, Notifications, Shares}
 use Rattle.session.specs.Calls.{Call, reset, deliver, checkpoint, undo, look, writeRecord}
 use Rattle.session.specs.Holders.{holderFrom}
-use Rattle.session.specs.Outcome.{pixelsStart, pixelsSize, Response, replied, handed, neededFor, CallOutcome}
+use Rattle.session.specs.Outcome.{pixelsStart, pixelsSize, Response, plain, replied, handed, neededFor, CallOutcome}
 use Rattle.session.specs.Packed.{packedOf}
 use Rattle.update.specs.declared.Report.{Report}
 use Rattle.update.specs.Outcome.{UpdateOutcome}
 use Rattle.update.specs.Packed.{standingHalf, grantedHalf}
+use Rattle.update.proofs.Cuts.{either-false}
 use Rattle.model.specs.Updates.{Step, update, responds, reports}
 use Rattle.model.specs.Claim.{none, more, moreAtOnce}
-use Rattle.run.specs.Script.{holderAt, holderSize, targetOf, changeOf, recordKind, callOf, requestOf, oneCall, limitSize, stepOf, blockLength}
-use Rattle.run.specs.Steps.{Takes, TakesOne, Done}
+use Rattle.run.specs.Script.{holderAt, holderSize, targetOf, changeOf, recordKind, callOf, oneCall, limitSize, stepOf, blockLength}
+use Rattle.run.specs.Steps.{Takes, TakesOne, Done, Journaled, Handed}
 
 -- ---- numbers of 8 bytes
 
@@ -107,9 +108,6 @@ module _ (lent kind : ℕ) (arg : List ℕ) where
   unfolding callOf
   is-look l n = rw (le-ltb kind 4 l, ne-eqb kind recordKind n)
 
-  pub looks : 4 ≤ kind → (kind ≡ recordKind → ⊥) → {target : LookupTarget} → target ≡ targetOf kind arg → callOf lent kind arg ≡ look target
-  looks l n e = is-look l n ∙ ap look (sym e)
-
   -- a call that changes the state hands nothing out
   pub hands-nothing : neededFor (changeOf lent kind arg) ≡ 0
   unfolding changeOf
@@ -121,8 +119,8 @@ module _ (lent kind : ℕ) (arg : List ℕ) where
       go false false true = refl
       go false false false = refl
 
-pub outcome-as : {c c' : Call} {m e : Memory} {r : Response} → c' ≡ c → CallOutcome (requestOf c) m r e → CallOutcome (requestOf c') m r e
-outcome-as {m = m} {e = e} {r = r} p o = subst (λ (x : Call). CallOutcome (requestOf x) m r e) (sym p) o
+pub outcome-as : {c c' : Call} {m e : Memory} {r : Response} → c' ≡ c → CallOutcome (plain c) m r e → CallOutcome (plain c') m r e
+outcome-as {m = m} {e = e} {r = r} p o = subst (λ (x : Call). CallOutcome (plain x) m r e) (sym p) o
 
 pub done-as : {x x' : Step} {m e : Memory} {out' : List ℕ} → x' ≡ x → Done x m e out' → Done x' m e out'
 done-as {m = m} {e = e} {out' = out'} p d = subst (λ (x : Step). Done x m e out') (sym p) d
@@ -137,6 +135,38 @@ module _ (lent kind : ℕ) (arg : List ℕ) where
   pub is-single : (kind ≡ 8 → ⊥) → stepOf lent kind arg ≡ oneCall (callOf lent kind arg)
   unfolding stepOf
   is-single h = rw (ne-eqb kind 8 h)
+
+  pub steps-reset : kind ≡ 0 → stepOf lent kind arg ≡ oneCall (reset lent)
+  steps-reset e = is-single (λ x. omega (arith, e, x)) ∙ ap oneCall (is-change lent kind arg (omega (arith, e)) ∙ is-reset lent kind arg e)
+
+  pub steps-checkpoint : kind ≡ 2 → stepOf lent kind arg ≡ oneCall checkpoint
+  steps-checkpoint e = is-single (λ x. omega (arith, e, x)) ∙ ap oneCall (is-change lent kind arg (omega (arith, e)) ∙ is-checkpoint lent kind arg e)
+
+  pub steps-change : Journaled kind → (kind ≡ 8 → ⊥) → stepOf lent kind arg ≡ oneCall (changeOf lent kind arg)
+  steps-change j n = is-single n ∙ ap oneCall (is-change lent kind arg (j .early n))
+
+  pub change-length : Journaled kind → (kind ≡ 8 → ⊥) → blockLength (stepOf lent kind arg) ≡ 4
+  change-length j n = ap blockLength (steps-change j n) ∙ ap (λ (k : ℕ). 4 + k) (hands-nothing lent kind arg)
+
+  pub steps-record : Handed kind → kind ≡ recordKind → stepOf lent kind arg ≡ oneCall writeRecord
+  steps-record h e = is-single (h .noUpdate) ∙ ap oneCall (is-record lent kind arg e)
+
+  pub steps-look : Handed kind → (kind ≡ recordKind → ⊥) → {target : LookupTarget} → target ≡ targetOf kind arg → stepOf lent kind arg ≡ oneCall (look target)
+  steps-look h n e = is-single (h .noUpdate) ∙ ap oneCall (is-look lent kind arg (h .late) n ∙ ap look (sym e))
+
+-- which kinds the test of journal_call tells apart
+module _ (kind : ℕ) where
+  pub journaled : (kind ≡ 0 → ⊥) → (kind ≡ 2 → ⊥) → either (ltb kind 4) (eqb kind 8) ≡ true → Journaled kind
+  journaled a b e = record { noReset = a; noCheckpoint = b; early = λ n. go n (ltb kind 4) refl e }
+    where
+      go : (kind ≡ 8 → ⊥) → (x : Bool) → ltb kind 4 ≡ x → either x (eqb kind 8) ≡ true → kind < 4
+      go n true l e = ltb-true kind 4 l
+      go n false l e = absurd (n (eqb-true kind 8 e))
+
+  pub hands : either (ltb kind 4) (eqb kind 8) ≡ false → Handed kind
+  hands e =
+      let x = either-false (ltb kind 4) (eqb kind 8) e in
+      record { late = ltb-false kind 4 (x .0); noUpdate = eqb-false kind 8 (x .1) }
 
 -- ---- the bytes of a block go by the kind
 
@@ -192,20 +222,17 @@ module _ (kind : ℕ) where
 
 -- ---- the block of a call that hands nothing out
 
-pub change-block : {c : Call} {m e : Memory} {r : Reply} {v : ℕ} (out : List ℕ) {out' : List ℕ} → neededFor c ≡ 0 → CallOutcome (requestOf c) m (replied r) e
-    → length out ≡ blockLength (oneCall c)
-    → v ≡ packedOf r
-    → out' ≡ splice out 0 (bytesOf 4 v)
+pub reply-block : (c : Call) {m e : Memory} {r : Reply} (out : List ℕ) {out' : List ℕ} → neededFor c ≡ 0 → CallOutcome (plain c) m (replied r) e → length out ≡ 4
+    → out' ≡ splice out 0 (bytesOf 4 (packedOf r))
     → Done (oneCall c) m e out'
-change-block {r = r} {v = v} out z o l p w =
-    let h : length (bytesOf 4 v) ≡ 4 = length-bytes 4 v in
-    let n : length out ≤ length (bytesOf 4 v) = omega (arith, l, z, h) in
+reply-block c {m} {e} {r} out z o l w =
+    let head : List ℕ = bytesOf 4 (packedOf r) in
+    let h : length head ≡ 4 = length-bytes 4 (packedOf r) in
+    let n : length out ≤ length head = omega (arith, l, h) in
     record {
       said = responds (replied r);
-      outcome = more o none;
-      block =
-          w ∙ splice-start out (bytesOf 4 v) ∙ ap (λ (x : List ℕ). bytesOf 4 v ++ x) (drop-of-length-le out n)
-          ∙ ap (λ (x : ℕ). bytesOf 4 x ++ []) p;
+      outcome = more (subst (λ (k : ℕ). CallOutcome (record { call = c; out = replicate k 0 }) m (replied r) e) (sym z) o) none;
+      block = w ∙ splice-start out head ∙ ap (λ (x : List ℕ). head ++ x) (drop-of-length-le out n);
     }
 
 -- ---- calls that hand something out
@@ -245,20 +272,17 @@ module _ (out clear : List ℕ) (n : ℕ) (l : length out ≡ 4 + n) (cl : clear
       ∙ ap (λ (y : List ℕ). part ++ y) nothing-after ∙ append-nil part in
       w ∙ splice-start x head ∙ ap (λ (y : List ℕ). head ++ y) d
 
-pub handed-block : (c : Call) {m : Memory} {r : Reply} {v : ℕ} (out clear part : List ℕ) {out' : List ℕ} → length out ≡ blockLength (oneCall c)
+pub handed-block : (c : Call) {m : Memory} {r : Reply} (out clear part : List ℕ) {out' : List ℕ} → length out ≡ blockLength (oneCall c)
     → clear ≡ splice out 0 (replicate (length out) 0)
     → CallOutcome (record { call = c; out = take (length out - 4) (drop 4 clear) }) m (handed r part) m
-    → v ≡ packedOf r
-    → out' ≡ splice (take 4 clear ++ (part ++ drop (length out - 4) (drop 4 clear))) 0 (bytesOf 4 v)
+    → out' ≡ splice (take 4 clear ++ (part ++ drop (length out - 4) (drop 4 clear))) 0 (bytesOf 4 (packedOf r))
     → Done (oneCall c) m m out'
-handed-block c {m} {r} {v} out clear part {out'} l cl o p w =
+handed-block c {m} {r} out clear part {out'} l cl o w =
     let n : ℕ = neededFor c in
     record {
       said = responds (handed r part);
       outcome = more (subst (λ (x : List ℕ). CallOutcome (record { call = c; out = x }) m (handed r part) m) (lent-zeros out clear n l cl) o) none;
-      block =
-          headed out clear n l cl part (bytesOf 4 v) out' (length-bytes 4 v) w
-          ∙ ap (λ (x : ℕ). bytesOf 4 x ++ part) p;
+      block = headed out clear n l cl part (bytesOf 4 (packedOf r)) out' (length-bytes 4 (packedOf r)) w;
     }
 
 -- ---- a whole update
@@ -273,23 +297,28 @@ after-short arg h =
 rest-is : (arg : List ℕ) (start : ℕ) → drop start arg ≡ drop limitSize arg → take (length arg - start) (drop start arg) ≡ drop limitSize arg
 rest-is arg start e = take-all (length arg - start) (drop start arg) (omega (arith, length-drop start arg)) ∙ e
 
-pub update-block : {m e : Memory} {r : Report} {limit low high : ℕ} (arg out : List ℕ) (start : ℕ) {out' : List ℕ} → limit ≡ numAt 4 arg 0 → drop start arg ≡ drop limitSize arg
-    → UpdateOutcome limit (take (length arg - start) (drop start arg)) m r e → length out ≡ 8 → low ≡ standingHalf r → high ≡ grantedHalf r
+pub report-bytes : (r : Report) {low high : ℕ} (out : List ℕ) {out' : List ℕ} → length out ≡ 8 → low ≡ standingHalf r → high ≡ grantedHalf r
     → out' ≡ splice (splice out 0 (bytesOf 4 low)) 4 (bytesOf 4 high)
-    → Done (update (numAt 4 arg 0) (drop limitSize arg)) m e out'
-update-block {m} {e} {r} {limit} {low} {high} arg out start n d o l a b w =
+    → out' ≡ bytesOf 4 (standingHalf r) ++ bytesOf 4 (grantedHalf r)
+report-bytes r {low} {high} out l a b w =
     let x : length (bytesOf 4 low) ≡ 4 = length-bytes 4 low in
     let y : length (bytesOf 4 high) ≡ 4 = length-bytes 4 high in
     let both : List ℕ = bytesOf 4 low ++ bytesOf 4 high in
     let wide : length out ≤ length both = omega (arith, l, x, y, length-append (bytesOf 4 low) (bytesOf 4 high)) in
+    w ∙ splice-after out 0 (bytesOf 4 low) (bytesOf 4 high) 4 (omega (arith, x)) (omega (arith, l, x, y))
+    ∙ splice-start out both ∙ ap (λ (z : List ℕ). both ++ z) (drop-of-length-le out wide) ∙ append-nil both
+    ∙ ap (λ (k : ℕ). bytesOf 4 k ++ bytesOf 4 high) a ∙ ap (λ (k : ℕ). bytesOf 4 (standingHalf r) ++ bytesOf 4 k) b
+
+pub update-block : {m e : Memory} {r : Report} {limit : ℕ} (arg : List ℕ) (start : ℕ) {out' : List ℕ} → limit ≡ numAt 4 arg 0 → drop start arg ≡ drop limitSize arg
+    → UpdateOutcome limit (take (length arg - start) (drop start arg)) m r e
+    → out' ≡ bytesOf 4 (standingHalf r) ++ bytesOf 4 (grantedHalf r)
+    → Done (update (numAt 4 arg 0) (drop limitSize arg)) m e out'
+update-block {m} {e} {r} arg start n d o w =
     record {
       said = reports r;
       outcome =
           moreAtOnce
           (subst (λ (s : List ℕ). UpdateOutcome (numAt 4 arg 0) s m r e) (rest-is arg start d) (subst (λ (k : ℕ). UpdateOutcome k (take (length arg - start) (drop start arg)) m r e) n o))
           none;
-      block =
-          w ∙ splice-after out 0 (bytesOf 4 low) (bytesOf 4 high) 4 (omega (arith, x)) (omega (arith, l, x, y))
-          ∙ splice-start out both ∙ ap (λ (z : List ℕ). both ++ z) (drop-of-length-le out wide) ∙ append-nil both
-          ∙ ap (λ (k : ℕ). bytesOf 4 k ++ bytesOf 4 high) a ∙ ap (λ (k : ℕ). bytesOf 4 (standingHalf r) ++ bytesOf 4 k) b;
+      block = w;
     }

@@ -1,5 +1,5 @@
 -- What the steps of a run state. Assumes nothing.
-use Prim.Native.Nat.{ℕ, _+_}
+use Prim.Native.Nat.{ℕ, _+_, _≤_, _<_}
 use mathlib.Core.Path.{_≡_}
 use mathlib.Core.List.{List, [], _∷_}
 use mathlib.Core.Option.{Option, none, some}
@@ -30,3 +30,14 @@ pub record Done (x : Step) (m e : Memory) (out' : List ℕ) : Type 0 where
   pub said : Said
   pub outcome : Calls m (x ∷ []) (said ∷ []) e
   pub block : out' ≡ blockOf said
+
+-- the kinds that change the journal alone: 1, 3 and 8
+pub record Journaled (kind : ℕ) : Type 0 where
+  pub noReset : kind ≡ 0 → ⊥
+  pub noCheckpoint : kind ≡ 2 → ⊥
+  pub early : (kind ≡ 8 → ⊥) → kind < 4
+
+-- those that hand something out
+pub record Handed (kind : ℕ) : Type 0 where
+  pub late : 4 ≤ kind
+  pub noUpdate : kind ≡ 8 → ⊥

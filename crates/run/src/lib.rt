@@ -1,22 +1,27 @@
 // Runs a list of calls on lent state memory: demand 3 as the contract of running code.
 ghost use mathlib.Core.Path.{_≡_};
+ghost use mathlib.Core.List.{_++_};
 ghost use Prim.Native.Nat.{_≤_};
 ghost use lib.ListN.{length, drop};
-ghost use Rattle.wire.specs.Numbers.{numAt};
+ghost use Rattle.wire.specs.Parts.{splice};
+ghost use Rattle.wire.specs.Numbers.{numAt, bytesOf};
 ghost use Rattle.store.specs.Store.{placesIn, five};
 ghost use Rattle.table.specs.Memory.{fixedBy};
-ghost use Rattle.journal.specs.View.{memory, formed, viewOf};
-ghost use Rattle.session.specs.Calls.{look, writeRecord};
-ghost use Rattle.session.specs.Outcome.{replied, CallOutcome};
+ghost use Rattle.journal.specs.View.{memory, formed, viewOf, InEachStore};
+ghost use Rattle.session.specs.Calls.{reset, checkpoint, look, writeRecord};
+ghost use Rattle.session.specs.Outcome.{plain, replied, CallOutcome};
+ghost use Rattle.session.specs.Packed.{packedOf};
+ghost use Rattle.update.specs.Packed.{standingHalf, grantedHalf};
 ghost use Rattle.model.specs.Updates.{update};
 ghost use Rattle.model.specs.Wellformed.{emptiedState};
-ghost use Rattle.run.specs.Script.{holderAt, targetOf, changeOf, callOf, requestOf, oneCall, limitSize, stepOf, blockLength, endsWith, courseOf, RunAs, Runs};
-ghost use Rattle.run.specs.Steps.{Takes, TakesOne, EndsAt, Done};
+ghost use Rattle.run.specs.Script.{holderAt, targetOf, changeOf, oneCall, limitSize, stepOf, blockLength, endsWith, courseOf, RunAs, Runs};
+ghost use Rattle.run.specs.Steps.{Takes, TakesOne, EndsAt, Done, Journaled, Handed};
 use protocol::NotifyIconId;
 use protocol::WindowId;
 use session::LookupTarget;
 use session::PictureHolder;
 use session::Reply;
+use update::Report;
 
 // A whole update: its limit, LIMIT bytes, before its own.
 const UPDATE: u8 = 8;
@@ -39,37 +44,6 @@ fn read_u64(s: &[u8]) -> u64
     let low = wire::read_u32(s, 0) as u64;
     let high = wire::read_u32(s, 4) as u64;
     low + 4294967296 * high
-}
-
-// Kinds 0 to 3.
-fn change(
-    index: &mut [u8],
-    bodies: &mut [u8],
-    a: &mut [u8],
-    b: &mut [u8],
-    c: &mut [u8],
-    d: &mut [u8],
-    e: &mut [u8],
-    journal: &mut [u8],
-    kind: u8,
-    arg: &[u8],
-) -> Reply
-    ensures { λ r. ⌜ CallOutcome (requestOf (changeOf (placesIn (five (now (a .entry)) (now (b .entry)) (now (c .entry)) (now (d .entry)) (now (e .entry)))) kind (now (arg .entry)))) (memory (now (index .entry)) (now (bodies .entry)) (five (now (a .entry)) (now (b .entry)) (now (c .entry)) (now (d .entry)) (now (e .entry))) (now (journal .entry))) (replied r) (memory (now (index .exit)) (now (bodies .exit)) (five (now (a .exit)) (now (b .exit)) (now (c .exit)) (now (d .exit)) (now (e .exit))) (now (journal .exit))) ⌝ }
-{
-    if kind == 0 {
-        let lent = store::places(a, b, c, d, e);
-        return session::calls::reset(index, bodies, lent, journal);
-    }
-    if kind == 1 {
-        let lent = store::places(a, b, c, d, e);
-        return session::calls::deliver(index, bodies, lent, journal, arg);
-    }
-    if kind == 2 {
-        return session::calls::checkpoint(index, bodies, a, b, c, d, e, journal);
-    }
-    let k = read_u64(arg);
-    let lent = store::places(a, b, c, d, e);
-    session::calls::undo(index, bodies, lent, journal, k)
 }
 
 // The holder at index at: its kind 1, and two numbers of 4.
@@ -155,6 +129,103 @@ fn block_length(kind: u8) -> usize
     single_length(kind)
 }
 
+// Writes a reply at the start of a block.
+fn put_reply(out: &mut [u8], r: Reply)
+    requires { ⌜ 4 ≤ length (now out) ⌝ }
+    ensures { λ _. ⌜ now (out .exit) ≡ splice (now (out .entry)) 0 (bytesOf 4 (packedOf r)) ⌝ }
+{
+    let head = session::packed::packed(r);
+    wire::write_u32(out, 0, head);
+}
+
+// Kind 0 and its block.
+fn reset_block(index: &mut [u8], bodies: &mut [u8], lent: usize, journal: &mut [u8], out: &mut [u8])
+    requires { ⌜ length (now out) ≡ 4 ⌝ }
+    ensures { λ _. ⌜ InEachStore lent (λ store. Done (oneCall (reset lent)) (memory (now (index .entry)) (now (bodies .entry)) store (now (journal .entry))) (memory (now (index .exit)) (now (bodies .exit)) store (now (journal .exit))) (now (out .exit))) ⌝ }
+{
+    let r = session::calls::reset(index, bodies, lent, journal);
+    put_reply(out, r);
+}
+
+// Kinds 1 and 3, which change the journal alone.
+fn journal_change(
+    index: &[u8],
+    bodies: &[u8],
+    lent: usize,
+    journal: &mut [u8],
+    kind: u8,
+    arg: &[u8],
+) -> Reply
+    requires { ⌜ Journaled kind ⌝ }
+    ensures { λ r. ⌜ InEachStore lent (λ store. CallOutcome (plain (changeOf lent kind (now (arg .entry)))) (memory (now (index .entry)) (now (bodies .entry)) store (now (journal .entry))) (replied r) (memory (now (index .entry)) (now (bodies .entry)) store (now (journal .exit)))) ⌝ }
+{
+    if kind == 1 {
+        return session::calls::deliver(index, bodies, lent, journal, arg);
+    }
+    let k = read_u64(arg);
+    session::calls::undo(index, bodies, lent, journal, k)
+}
+
+// Where the bytes of an update begin in what its item carries: after the limit.
+fn after_limit(arg: &[u8]) -> usize
+    ensures { λ r. ⌜ (r ≤ length (now (arg .entry))) × (drop r (now (arg .entry)) ≡ drop limitSize (now (arg .entry))) ⌝ }
+{
+    if arg.len() < LIMIT {
+        return arg.len();
+    }
+    LIMIT
+}
+
+// Writes a report to its block: what stands after the update, and what it granted.
+fn put_report(out: &mut [u8], r: Report)
+    requires { ⌜ length (now out) ≡ 8 ⌝ }
+    ensures { λ _. ⌜ now (out .exit) ≡ bytesOf 4 (standingHalf r) ++ bytesOf 4 (grantedHalf r) ⌝ }
+{
+    let low = update::standing(r);
+    let high = update::granted(r);
+    wire::write_u32(out, 0, low);
+    wire::write_u32(out, 4, high);
+}
+
+// A whole update and its block.
+fn update_all(
+    index: &[u8],
+    bodies: &[u8],
+    lent: usize,
+    journal: &mut [u8],
+    arg: &[u8],
+    out: &mut [u8],
+)
+    requires { ⌜ length (now out) ≡ 8 ⌝ }
+    ensures { λ _. ⌜ InEachStore lent (λ store. Done (update (numAt 4 (now (arg .entry)) 0) (drop limitSize (now (arg .entry)))) (memory (now (index .entry)) (now (bodies .entry)) store (now (journal .entry))) (memory (now (index .entry)) (now (bodies .entry)) store (now (journal .exit))) (now (out .exit))) ⌝ }
+{
+    let limit = wire::read_u32(arg, 0);
+    let start = after_limit(arg);
+    let end = arg.len();
+    let r = update::update(index, bodies, lent, journal, limit, &arg[start..end]);
+    put_report(out, r);
+}
+
+// Kinds 1, 3 and 8, which change the journal alone, and the block.
+fn journal_block(
+    index: &[u8],
+    bodies: &[u8],
+    lent: usize,
+    journal: &mut [u8],
+    kind: u8,
+    arg: &[u8],
+    out: &mut [u8],
+)
+    requires { ⌜ Journaled kind × (length (now out) ≡ blockLength (stepOf lent kind (now arg))) ⌝ }
+    ensures { λ _. ⌜ InEachStore lent (λ store. Done (stepOf lent kind (now (arg .entry))) (memory (now (index .entry)) (now (bodies .entry)) store (now (journal .entry))) (memory (now (index .entry)) (now (bodies .entry)) store (now (journal .exit))) (now (out .exit))) ⌝ }
+{
+    if kind == UPDATE {
+        return update_all(index, bodies, lent, journal, arg, out);
+    }
+    let r = journal_change(index, bodies, lent, journal, kind, arg);
+    put_reply(out, r);
+}
+
 // A lookup and its block: the reply is put before what it hands out in a field of zeros.
 fn look_up(
     index: &[u8],
@@ -185,34 +256,21 @@ fn look_up(
         target,
         &mut out[4..end],
     );
-    let head = session::packed::packed(r);
-    wire::write_u32(out, 0, head);
+    put_reply(out, r);
 }
 
 // The session record and its block, in a field of zeros.
-fn put_record(
-    index: &[u8],
-    bodies: &[u8],
-    a: &[u8],
-    b: &[u8],
-    c: &[u8],
-    d: &[u8],
-    e: &[u8],
-    journal: &[u8],
-    out: &mut [u8],
-)
+fn put_record(index: &[u8], bodies: &[u8], lent: usize, journal: &[u8], out: &mut [u8])
     requires { ⌜ length (now out) ≡ blockLength (oneCall writeRecord) ⌝ }
-    ensures { λ _. ⌜ Done (oneCall writeRecord) (memory (now (index .entry)) (now (bodies .entry)) (five (now (a .entry)) (now (b .entry)) (now (c .entry)) (now (d .entry)) (now (e .entry))) (now (journal .entry))) (memory (now (index .entry)) (now (bodies .entry)) (five (now (a .entry)) (now (b .entry)) (now (c .entry)) (now (d .entry)) (now (e .entry))) (now (journal .entry))) (now (out .exit)) ⌝ }
+    ensures { λ _. ⌜ InEachStore lent (λ store. Done (oneCall writeRecord) (memory (now (index .entry)) (now (bodies .entry)) store (now (journal .entry))) (memory (now (index .entry)) (now (bodies .entry)) store (now (journal .entry))) (now (out .exit))) ⌝ }
 {
     let end = out.len();
     wire::clear(out, 0, end);
-    let lent = store::places(a, b, c, d, e);
     let r = session::records::write(index, bodies, lent, journal, &mut out[4..end]);
-    let head = session::packed::packed(r);
-    wire::write_u32(out, 0, head);
+    put_reply(out, r);
 }
 
-// A single call from kind 4 on, which hands something out, and its block.
+// A call from kind 4 on but 8, which hands something out, and its block.
 fn hand_out(
     index: &[u8],
     bodies: &[u8],
@@ -221,23 +279,73 @@ fn hand_out(
     c: &[u8],
     d: &[u8],
     e: &[u8],
+    lent: usize,
     journal: &[u8],
     kind: u8,
     arg: &[u8],
     out: &mut [u8],
 )
-    requires { ⌜ (4 ≤ kind) × (length (now out) ≡ blockLength (oneCall (callOf (placesIn (five (now a) (now b) (now c) (now d) (now e))) kind (now arg)))) ⌝ }
-    ensures { λ _. ⌜ Done (oneCall (callOf (placesIn (five (now (a .entry)) (now (b .entry)) (now (c .entry)) (now (d .entry)) (now (e .entry)))) kind (now (arg .entry)))) (memory (now (index .entry)) (now (bodies .entry)) (five (now (a .entry)) (now (b .entry)) (now (c .entry)) (now (d .entry)) (now (e .entry))) (now (journal .entry))) (memory (now (index .entry)) (now (bodies .entry)) (five (now (a .entry)) (now (b .entry)) (now (c .entry)) (now (d .entry)) (now (e .entry))) (now (journal .entry))) (now (out .exit)) ⌝ }
+    requires { ⌜ Handed kind × (lent ≡ placesIn (five (now a) (now b) (now c) (now d) (now e))) × (length (now out) ≡ blockLength (stepOf lent kind (now arg))) ⌝ }
+    ensures { λ _. ⌜ Done (stepOf lent kind (now (arg .entry))) (memory (now (index .entry)) (now (bodies .entry)) (five (now (a .entry)) (now (b .entry)) (now (c .entry)) (now (d .entry)) (now (e .entry))) (now (journal .entry))) (memory (now (index .entry)) (now (bodies .entry)) (five (now (a .entry)) (now (b .entry)) (now (c .entry)) (now (d .entry)) (now (e .entry))) (now (journal .entry))) (now (out .exit)) ⌝ }
 {
     if kind == RECORD {
-        return put_record(index, bodies, a, b, c, d, e, journal, out);
+        return put_record(index, bodies, lent, journal, out);
     }
     let target = target_of(kind, arg);
     look_up(index, bodies, a, b, c, d, e, journal, target, out)
 }
 
-// A single call and its block.
-fn single(
+// A call of any kind but 0 and 2, which changes the journal at most, and its block.
+fn journal_call(
+    index: &[u8],
+    bodies: &[u8],
+    a: &[u8],
+    b: &[u8],
+    c: &[u8],
+    d: &[u8],
+    e: &[u8],
+    lent: usize,
+    journal: &mut [u8],
+    kind: u8,
+    arg: &[u8],
+    out: &mut [u8],
+)
+    requires { ⌜ (kind ≡ 0 → ⊥) × (kind ≡ 2 → ⊥) × (lent ≡ placesIn (five (now a) (now b) (now c) (now d) (now e))) × (length (now out) ≡ blockLength (stepOf lent kind (now arg))) ⌝ }
+    ensures { λ _. ⌜ Done (stepOf lent kind (now (arg .entry))) (memory (now (index .entry)) (now (bodies .entry)) (five (now (a .entry)) (now (b .entry)) (now (c .entry)) (now (d .entry)) (now (e .entry))) (now (journal .entry))) (memory (now (index .entry)) (now (bodies .entry)) (five (now (a .entry)) (now (b .entry)) (now (c .entry)) (now (d .entry)) (now (e .entry))) (now (journal .exit))) (now (out .exit)) ⌝ }
+{
+    if (kind < 4) | (kind == UPDATE) {
+        return journal_block(index, bodies, lent, journal, kind, arg, out);
+    }
+    hand_out(index, bodies, a, b, c, d, e, lent, journal, kind, arg, out)
+}
+
+// A call of any kind but 2, which leaves the store, and its block.
+fn table_call(
+    index: &mut [u8],
+    bodies: &mut [u8],
+    a: &[u8],
+    b: &[u8],
+    c: &[u8],
+    d: &[u8],
+    e: &[u8],
+    journal: &mut [u8],
+    kind: u8,
+    arg: &[u8],
+    out: &mut [u8],
+)
+    requires { ⌜ (kind ≡ 2 → ⊥) × (length (now out) ≡ blockLength (stepOf (placesIn (five (now a) (now b) (now c) (now d) (now e))) kind (now arg))) ⌝ }
+    ensures { λ _. ⌜ Done (stepOf (placesIn (five (now (a .entry)) (now (b .entry)) (now (c .entry)) (now (d .entry)) (now (e .entry)))) kind (now (arg .entry))) (memory (now (index .entry)) (now (bodies .entry)) (five (now (a .entry)) (now (b .entry)) (now (c .entry)) (now (d .entry)) (now (e .entry))) (now (journal .entry))) (memory (now (index .exit)) (now (bodies .exit)) (five (now (a .entry)) (now (b .entry)) (now (c .entry)) (now (d .entry)) (now (e .entry))) (now (journal .exit))) (now (out .exit)) ⌝ }
+{
+    let lent = store::places(a, b, c, d, e);
+    if kind == 0 {
+        reset_block(index, bodies, lent, journal, out);
+    } else {
+        journal_call(index, bodies, a, b, c, d, e, lent, journal, kind, arg, out);
+    }
+}
+
+// Kind 2 and its block.
+fn checkpoint_block(
     index: &mut [u8],
     bodies: &mut [u8],
     a: &mut [u8],
@@ -246,57 +354,13 @@ fn single(
     d: &mut [u8],
     e: &mut [u8],
     journal: &mut [u8],
-    kind: u8,
-    arg: &[u8],
     out: &mut [u8],
 )
-    requires { ⌜ length (now out) ≡ blockLength (oneCall (callOf (placesIn (five (now a) (now b) (now c) (now d) (now e))) kind (now arg))) ⌝ }
-    ensures { λ _. ⌜ Done (oneCall (callOf (placesIn (five (now (a .entry)) (now (b .entry)) (now (c .entry)) (now (d .entry)) (now (e .entry)))) kind (now (arg .entry)))) (memory (now (index .entry)) (now (bodies .entry)) (five (now (a .entry)) (now (b .entry)) (now (c .entry)) (now (d .entry)) (now (e .entry))) (now (journal .entry))) (memory (now (index .exit)) (now (bodies .exit)) (five (now (a .exit)) (now (b .exit)) (now (c .exit)) (now (d .exit)) (now (e .exit))) (now (journal .exit))) (now (out .exit)) ⌝ }
+    requires { ⌜ length (now out) ≡ 4 ⌝ }
+    ensures { λ _. ⌜ Done (oneCall checkpoint) (memory (now (index .entry)) (now (bodies .entry)) (five (now (a .entry)) (now (b .entry)) (now (c .entry)) (now (d .entry)) (now (e .entry))) (now (journal .entry))) (memory (now (index .exit)) (now (bodies .exit)) (five (now (a .exit)) (now (b .exit)) (now (c .exit)) (now (d .exit)) (now (e .exit))) (now (journal .exit))) (now (out .exit)) ⌝ }
 {
-    if kind < 4 {
-        let r = change(index, bodies, a, b, c, d, e, journal, kind, arg);
-        let head = session::packed::packed(r);
-        wire::write_u32(out, 0, head);
-    } else {
-        hand_out(index, bodies, a, b, c, d, e, journal, kind, arg, out);
-    }
-}
-
-// Where the bytes of an update begin in what its item carries: after the limit.
-fn after_limit(arg: &[u8]) -> usize
-    ensures { λ r. ⌜ (r ≤ length (now (arg .entry))) × (drop r (now (arg .entry)) ≡ drop limitSize (now (arg .entry))) ⌝ }
-{
-    if arg.len() < LIMIT {
-        return arg.len();
-    }
-    LIMIT
-}
-
-// A whole update and its block: what stands after it, and what it granted.
-fn update_all(
-    index: &[u8],
-    bodies: &[u8],
-    a: &[u8],
-    b: &[u8],
-    c: &[u8],
-    d: &[u8],
-    e: &[u8],
-    journal: &mut [u8],
-    arg: &[u8],
-    out: &mut [u8],
-)
-    requires { ⌜ length (now out) ≡ 8 ⌝ }
-    ensures { λ _. ⌜ Done (update (numAt 4 (now (arg .entry)) 0) (drop limitSize (now (arg .entry)))) (memory (now (index .entry)) (now (bodies .entry)) (five (now (a .entry)) (now (b .entry)) (now (c .entry)) (now (d .entry)) (now (e .entry))) (now (journal .entry))) (memory (now (index .entry)) (now (bodies .entry)) (five (now (a .entry)) (now (b .entry)) (now (c .entry)) (now (d .entry)) (now (e .entry))) (now (journal .exit))) (now (out .exit)) ⌝ }
-{
-    let limit = wire::read_u32(arg, 0);
-    let start = after_limit(arg);
-    let end = arg.len();
-    let lent = store::places(a, b, c, d, e);
-    let r = update::update(index, bodies, lent, journal, limit, &arg[start..end]);
-    let low = update::standing(r);
-    let high = update::granted(r);
-    wire::write_u32(out, 0, low);
-    wire::write_u32(out, 4, high);
+    let r = session::calls::checkpoint(index, bodies, a, b, c, d, e, journal);
+    put_reply(out, r);
 }
 
 // A call and its block.
@@ -316,10 +380,10 @@ fn call(
     requires { ⌜ length (now out) ≡ blockLength (stepOf (placesIn (five (now a) (now b) (now c) (now d) (now e))) kind (now arg)) ⌝ }
     ensures { λ _. ⌜ Done (stepOf (placesIn (five (now (a .entry)) (now (b .entry)) (now (c .entry)) (now (d .entry)) (now (e .entry)))) kind (now (arg .entry))) (memory (now (index .entry)) (now (bodies .entry)) (five (now (a .entry)) (now (b .entry)) (now (c .entry)) (now (d .entry)) (now (e .entry))) (now (journal .entry))) (memory (now (index .exit)) (now (bodies .exit)) (five (now (a .exit)) (now (b .exit)) (now (c .exit)) (now (d .exit)) (now (e .exit))) (now (journal .exit))) (now (out .exit)) ⌝ }
 {
-    if kind == UPDATE {
-        update_all(index, bodies, a, b, c, d, e, journal, arg, out);
+    if kind == 2 {
+        checkpoint_block(index, bodies, a, b, c, d, e, journal, out);
     } else {
-        single(index, bodies, a, b, c, d, e, journal, kind, arg, out);
+        table_call(index, bodies, a, b, c, d, e, journal, kind, arg, out);
     }
 }
 

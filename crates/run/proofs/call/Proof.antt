@@ -1,43 +1,47 @@
--- An update by itself, any other kind as a single call.
-use mathlib.Core.Path.{ap, _∙_}
+-- Kind 2 by itself; any other leaves the store.
+use mathlib.Core.Path.{refl, ap, _∙_}
+use mathlib.Core.List.{List}
+use Prim.Native.Nat.{ℕ}
 use denote.Ref.{now}
+use Rattle.store.specs.Store.{placesIn, five}
 use Rattle.run.specs.Script.{blockLength}
-use Rattle.run.proofs.Calls.{is-update, is-single, done-as}
-use borrow.Author.Needs.{needs}
+use Rattle.run.proofs.Calls.{done-as, steps-checkpoint}
 use Rattle.run.proofs.call.Statement.{statement}
 use Rattle.run.proofs.call.Tie as tie
+
+abbrev store : tie.Start → List (List ℕ)
+store u = five (now (u .args .a)) (now (u .args .b)) (now (u .args .c)) (now (u .args .d)) (now (u .args .e))
+
+abbrev lent : tie.Start → ℕ
+lent u = placesIn (store u)
 
 pub call-spec : {M : Type 1} → statement M
 call-spec =
     tie.close
     (tie.spec
-    (λ c κs.  -- update-all-requires
-    let start = c .before .before .before .before .before .before .before .before .before .before .before .before .before .before .before .before .before .before .before .before in
-    start .pre ∙ ap blockLength (is-update _ (start .args .kind) (now (start .args .arg)) (c .before .before .before .before .before .before .before .before .before .if1 .taken)))
-    (λ c κs.  -- single-requires
-    let start = c .before .before .before .before .before .before .before .before .before .before .before .before .before .before .before .before .before .before .before .before in
-    start .pre ∙ ap blockLength (is-single _ (start .args .kind) (now (start .args .arg)) (c .before .before .before .before .before .before .before .before .before .if1 .left)))
-    (λ c. search needs)
-    (λ c. search needs)
-    (λ c. search needs)
-    (λ c. search needs)
-    (λ c. search needs)
-    (λ c. search needs)
-    (λ c. search needs)
-    (λ c. search needs)
-    (λ c. search needs)
+    (λ c κs.  -- checkpoint-block-requires
+    let u = c .before .before .before .before .before .before .before .before .before .before .before .before .before .before .before .before .before .before .before .before in
+    u .pre ∙ ap blockLength (steps-checkpoint (lent u) (u .args .kind) (now (u .args .arg)) (c .before .before .before .before .before .before .before .before .before .if1 .taken)))
+    (λ c κs. (c .before .before .before .before .before .before .before .before .before .if1 .left, c .before .before .before .before .before .before .before .before .before .before .before .before .before .before .before .before .before .before .before .before .pre))  -- table-call-requires
+    (λ c. c .before .before .before .before .before .before .before .before .before .before .before .before .before .before .before .before .before .before .checkpoint-block .kept .0)  -- same-length
+    (λ c. c .before .before .before .before .before .before .before .before .before .before .before .before .before .before .before .before .before .before .checkpoint-block .kept .1 .0)  -- same-length-2
+    (λ c. c .before .before .before .before .before .before .before .before .before .before .before .before .before .before .before .before .before .before .checkpoint-block .kept .1 .1 .0)  -- same-length-3
+    (λ c. c .before .before .before .before .before .before .before .before .before .before .before .before .before .before .before .before .before .before .checkpoint-block .kept .1 .1 .1 .0)  -- same-length-4
+    (λ c. c .before .before .before .before .before .before .before .before .before .before .before .before .before .before .before .before .before .before .checkpoint-block .kept .1 .1 .1 .1 .0)  -- same-length-5
+    (λ c. c .before .before .before .before .before .before .before .before .before .before .before .before .before .before .before .before .before .before .checkpoint-block .kept .1 .1 .1 .1 .1 .0)  -- same-length-6
+    (λ c. c .before .before .before .before .before .before .before .before .before .before .before .before .before .before .before .before .before .before .checkpoint-block .kept .1 .1 .1 .1 .1 .1 .0)  -- same-length-7
+    (λ c. c .before .before .before .before .before .before .before .before .before .before .before .before .before .before .before .before .before .before .checkpoint-block .kept .1 .1 .1 .1 .1 .1 .1 .0)  -- same-length-8
+    (λ c. c .before .before .before .before .before .before .before .before .before .before .before .before .before .before .before .before .before .before .checkpoint-block .kept .1 .1 .1 .1 .1 .1 .1 .1 .0)  -- same-length-9
     (λ c.  -- returns
-    let start = c .before .before .before .before .before .before .before .before .before .before .before .before .before .before .before .before .before .before .before .before .before .before .before .before .before in
-    done-as (is-update _ (start .args .kind) (now (start .args .arg)) (c .before .before .before .before .before .before .before .before .before .before .before .before .before .before .if1 .taken)) (c .before .before .before .before .update-all .ensures))
-    (λ c. search needs)
-    (λ c. search needs)
-    (λ c. search needs)
-    (λ c. search needs)
-    (λ c. search needs)
-    (λ c. search needs)
-    (λ c. search needs)
-    (λ c. search needs)
-    (λ c. search needs)
-    (λ c.  -- returns-2
-    let start = c .before .before .before .before .before .before .before .before .before .before .before .before .before .before .before .before .before .before .before .before .before .before .before .before .before .before .before .before .before .before .before .before .before .before .before .before .before .before .before in
-    done-as (is-single _ (start .args .kind) (now (start .args .arg)) (c .before .before .before .before .before .before .before .before .before .before .before .before .before .before .before .before .before .before .before .before .before .before .before .before .before .before .before .before .if1 .left)) (c .before .before .before .before .before .before .before .before .before .before .before .before .before .before .before .before .before .before .single .ensures)))
+    let u = c .before .before .before .before .before .before .before .before .before .before .before .before .before .before .before .before .before .before .before .before .before .before .before .before .before .before .before .before .before .before .before .before .before .before .before .before .before .before .before in
+    done-as (steps-checkpoint (lent u) (u .args .kind) (now (u .args .arg)) (c .before .before .before .before .before .before .before .before .before .before .before .before .before .before .before .before .before .before .before .before .before .before .before .before .before .before .before .before .if1 .taken)) (c .before .before .before .before .before .before .before .before .before .before .before .before .before .before .before .before .before .before .checkpoint-block .ensures))
+    (λ c. c .before .before .before .before .before .before .before .before .table-call .kept .0)  -- same-length-10
+    (λ c. c .before .before .before .before .before .before .before .before .table-call .kept .1 .0)  -- same-length-11
+    (λ c. refl)  -- same-length-12
+    (λ c. refl)  -- same-length-13
+    (λ c. refl)  -- same-length-14
+    (λ c. refl)  -- same-length-15
+    (λ c. refl)  -- same-length-16
+    (λ c. c .before .before .before .before .before .before .before .before .table-call .kept .1 .1 .1 .1 .1 .1 .1 .0)  -- same-length-17
+    (λ c. c .before .before .before .before .before .before .before .before .table-call .kept .1 .1 .1 .1 .1 .1 .1 .1 .1 .1 .0)  -- same-length-18
+    (λ c. c .before .before .before .before .before .before .before .before .table-call .ensures))  -- returns-2

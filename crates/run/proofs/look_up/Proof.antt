@@ -16,8 +16,7 @@ look-up-spec =
     (λ c. search needs)
     (λ c κs. search needs)
     (λ c κs. search needs)
-    (λ c κs. search needs)
     (λ c. search needs)
     (λ c.  -- returns
-    let start = c .before .before .before .before .before .before .before .before .before .before .before .before .before .before .before .before .before .before .before .before .before .before in
-    handed-block (look (start .args .target)) (now (start .args .out)) _ _ (start .pre) (c .before .before .before .before .before .before .before .before .before .before .before .clear .ensures) (c .before .before .before .before .before .before .before .look .ensures) (c .before .before .before .before .packed .ensures) (c .before .before .write-u32 .ensures)))
+    let u = c .before .before .before .before .before .before .before .before .before .before .before .before .before .before .before .before .before .before .before .before .before in
+    handed-block (look (u .args .target)) (now (u .args .out)) _ _ (u .pre) (c .before .before .before .before .before .before .before .before .before .before .clear .ensures) (c .before .before .before .before .before .before .look .ensures) (c .before .before .put-reply .ensures)))

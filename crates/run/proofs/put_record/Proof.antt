@@ -1,5 +1,4 @@
 -- As a lookup: the output is cleared, the record is written behind the first four bytes, and its reply is put there.
-use mathlib.Core.Path.{sym}
 use denote.Ref.{now}
 use Rattle.session.specs.Calls.{writeRecord}
 use Rattle.run.proofs.Calls.{handed-block}
@@ -12,14 +11,12 @@ put-record-spec =
     tie.close
     (tie.spec
     (λ c κs. search needs)
-    (λ c κs. search needs)
     (λ c. search needs)
     (λ c. search needs)
     (λ c. search needs)
     (λ c κs. search needs)
     (λ c κs. search needs)
-    (λ c κs. search needs)
     (λ c. search needs)
-    (λ c.  -- returns
-    let start = c .before .before .before .before .before .before .before .before .before .before .before .before .before .before .before .before .before .before .before .before .before .before .before in
-    handed-block writeRecord (now (start .args .out)) _ _ (start .pre) (c .before .before .before .before .before .before .before .before .before .before .before .before .clear .ensures) (c .before .before .before .before .before .before .before .write .ensures _ (sym (c .before .before .before .before .before .before .before .before .before .places .ensures))) (c .before .before .before .before .packed .ensures) (c .before .before .write-u32 .ensures)))
+    (λ c p is.  -- returns
+    let u = c .before .before .before .before .before .before .before .before .before .before .before .before .before .before .before .before in
+    handed-block writeRecord (now (u .args .out)) _ _ (u .pre) (c .before .before .before .before .before .before .before .before .before .before .clear .ensures) (c .before .before .before .before .before .before .write .ensures p is) (c .before .before .put-reply .ensures)))
