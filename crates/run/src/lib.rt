@@ -344,25 +344,6 @@ fn table_call(
     }
 }
 
-// Kind 2 and its block.
-fn checkpoint_block(
-    index: &mut [u8],
-    bodies: &mut [u8],
-    a: &mut [u8],
-    b: &mut [u8],
-    c: &mut [u8],
-    d: &mut [u8],
-    e: &mut [u8],
-    journal: &mut [u8],
-    out: &mut [u8],
-)
-    requires { ⌜ length (now out) ≡ 4 ⌝ }
-    ensures { λ _. ⌜ Done (oneCall checkpoint) (memory (now (index .entry)) (now (bodies .entry)) (five (now (a .entry)) (now (b .entry)) (now (c .entry)) (now (d .entry)) (now (e .entry))) (now (journal .entry))) (memory (now (index .exit)) (now (bodies .exit)) (five (now (a .exit)) (now (b .exit)) (now (c .exit)) (now (d .exit)) (now (e .exit))) (now (journal .exit))) (now (out .exit)) ⌝ }
-{
-    let r = session::calls::checkpoint(index, bodies, a, b, c, d, e, journal);
-    put_reply(out, r);
-}
-
 // A call and its block.
 fn call(
     index: &mut [u8],
@@ -381,7 +362,8 @@ fn call(
     ensures { λ _. ⌜ Done (stepOf (placesIn (five (now (a .entry)) (now (b .entry)) (now (c .entry)) (now (d .entry)) (now (e .entry)))) kind (now (arg .entry))) (memory (now (index .entry)) (now (bodies .entry)) (five (now (a .entry)) (now (b .entry)) (now (c .entry)) (now (d .entry)) (now (e .entry))) (now (journal .entry))) (memory (now (index .exit)) (now (bodies .exit)) (five (now (a .exit)) (now (b .exit)) (now (c .exit)) (now (d .exit)) (now (e .exit))) (now (journal .exit))) (now (out .exit)) ⌝ }
 {
     if kind == 2 {
-        checkpoint_block(index, bodies, a, b, c, d, e, journal, out);
+        let r = session::calls::checkpoint(index, bodies, a, b, c, d, e, journal);
+        put_reply(out, r);
     } else {
         table_call(index, bodies, a, b, c, d, e, journal, kind, arg, out);
     }
