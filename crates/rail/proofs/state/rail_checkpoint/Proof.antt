@@ -10,12 +10,12 @@ rail-checkpoint-spec =
     (tie.spec
     (λ c κs. search needs)
     (λ c κs. search needs)
-    (λ c. search needs)
-    (λ c. search needs)
-    (λ c. search needs)
-    (λ c. search needs)
-    (λ c. search needs)
-    (λ c. search needs)
-    (λ c. search needs)
-    (λ c. search needs)
+    (λ c. c .before .before .before .before .before .before .before .before .before .before .before .before .before .before .before .before .before .checkpoint .kept .0)  -- same-length
+    (λ c. c .before .before .before .before .before .before .before .before .before .before .before .before .before .before .before .before .before .checkpoint .kept .1 .0)  -- same-length-2
+    (λ c. c .before .before .before .before .before .before .before .before .before .before .before .before .before .before .before .before .before .checkpoint .kept .1 .1 .0)  -- same-length-3
+    (λ c. c .before .before .before .before .before .before .before .before .before .before .before .before .before .before .before .before .before .checkpoint .kept .1 .1 .1 .0)  -- same-length-4
+    (λ c. c .before .before .before .before .before .before .before .before .before .before .before .before .before .before .before .before .before .checkpoint .kept .1 .1 .1 .1 .0)  -- same-length-5
+    (λ c. c .before .before .before .before .before .before .before .before .before .before .before .before .before .before .before .before .before .checkpoint .kept .1 .1 .1 .1 .1 .0)  -- same-length-6
+    (λ c. c .before .before .before .before .before .before .before .before .before .before .before .before .before .before .before .before .before .checkpoint .kept .1 .1 .1 .1 .1 .1 .0)  -- same-length-7
+    (λ c. c .before .before .before .before .before .before .before .before .before .before .before .before .before .before .before .before .before .checkpoint .kept .1 .1 .1 .1 .1 .1 .1 .0)  -- same-length-8
     (λ c. exported (c .before .before .before .before .before .before .before .before .before .before .before .before .before .before .before .before .before .checkpoint .ensures) (c .packed .ensures)))  -- returns
