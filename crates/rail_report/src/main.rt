@@ -4,9 +4,9 @@ mod marks;
 mod turn;
 
 // The parts of the store: room for 64 places in all.
-const MANY: usize = 15 * store::PLACE;
+pub(crate) const MANY: usize = 15 * store::PLACE;
 
-const FEW: usize = 4 * store::PLACE;
+pub(crate) const FEW: usize = 4 * store::PLACE;
 
 // A proved loop has to end, and nothing says that the input does: the items are counted down from a number that no run uses up.
 fn run(
@@ -20,8 +20,7 @@ fn run(
     journal: &mut [u8; session::JOURNAL],
     payload: &mut [u8; item::PAYLOAD],
 ) {
-    session::calls::reset(index, bodies, store::places(a, b, c, d, e), journal);
-    if !marks::head() {
+    if !turn::begin(index, bodies, a, b, c, d, e, journal) {
         return;
     }
     let mut marks = 0;

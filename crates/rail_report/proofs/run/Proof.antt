@@ -1,7 +1,7 @@
 -- The loop ends: its count of items falls, and there are never more marks than items that were read.
 use native.Mathlib.Omega.{arith}
-use borrow.Author.Needs.{needs}
 use Prim.Native.Nat.{_+_, _≤_}
+use borrow.Author.Needs.{needs}
 use Rattle.rail_report.proofs.run.Statement.{statement}
 use Rattle.rail_report.proofs.run.Tie as tie
 
@@ -18,8 +18,6 @@ run-spec =
     (tie.spec
     Inv-loop
     μ-loop
-    (λ c κs. search needs)
-    (λ c κs. search needs)
     (λ c κs. search needs)
     (λ c. search needs)
     (λ c. omega arith)  -- loop-holds
