@@ -3,11 +3,11 @@ use mathlib.Core.Path.{_≡_, refl, sym, ap, _∙_}
 use mathlib.Core.Bool.{Bool, true, false, not}
 use mathlib.Core.List.{List}
 use mathlib.Core.Option.{none, some}
-use Prim.Native.Nat.{ℕ, _+_, _-_, _≤_, _<_}
+use Prim.Native.Nat.{ℕ, _+_, _-_, _≤_}
 use native.Mathlib.Omega.{arith}
-use lib.Dec.{eqb, leb}
+use lib.Dec.{eqb, ltb, leb}
 use lib.ListN.{length}
-use borrow.Author.Tests.{lt-ltb, le-ltb, eq-eqb}
+use borrow.Author.Tests.{ltb-false, eq-eqb}
 use Rattle.wire.specs.Tests.{pick, both}
 use Rattle.wire.specs.Numbers.{numAt, Bytes}
 use Rattle.wire.specs.Parts.{splice}
@@ -48,7 +48,7 @@ use Rattle.session.specs.Outcome.{lookup, handed, layoutSize, replyOf, a
 use Rattle.session.specs.TableFigure.{figureIn}
 use Rattle.session.specs.PresentFigure.{Followable, figureHeld, noFigure, figureFor, PresentHasFigure}
 use Rattle.session.specs.Targets.{wantOf, listedIn, payloadHeld}
-use Rattle.session.specs.Handing.{picturesFor, bytesHeld, validHeld, ReadyFor, HandsOut}
+use Rattle.session.specs.Handing.{refusalOf, picturesFor, bytesHeld, validHeld, ReadyFor, HandsOut}
 use Rattle.session.proofs.Targets.{shares-by}
 use Rattle.session.proofs.PresentFigure.{present-has-figure}
 use Rattle.session.proofs.Handed.{cell-some}
@@ -141,7 +141,7 @@ payload-found log (Shares g k) x m f pictures e = refl
 -- ---- on a memory that meets the rule
 
 -- the table's own figure goes with any target
-pub own-goes : (t : Table) (target : LookupTarget) → FigureGoes target (figureIn t) t
+own-goes : (t : Table) (target : LookupTarget) → FigureGoes target (figureIn t) t
 unfolding FigureGoes
 own-goes t (Window w) = tt
 own-goes t (Notification w n) = tt
@@ -213,61 +213,94 @@ module _ {m : Memory} {w : JournalExtent} {x : List ℕ} {os : List (List ℕ)} 
   ready-for Notifications n f = tt
   ready-for (Shares g k) n f = tt
 
-module _ {m : Memory} {w : JournalExtent} {x : List ℕ} {os : List (List ℕ)} (i : Indexed m w x os) (target : LookupTarget) {b : Bool}
-    (says : b ≡ listedIn target (indexOf x)) (out : List ℕ) {held : List ℕ} (holds : Followed (wantOf target) m x os held) where
+module _ {m : Memory} {w : JournalExtent} {x : List ℕ} {os : List (List ℕ)} (i : Indexed m w x os) (target : LookupTarget) (out : List ℕ) {held : List ℕ}
+    (holds : Followed (wantOf target) m x os held) where
   abbrev table : Table
   table = run (markedIn m) os
 
-  listed-is : listedIn target (table .index) ≡ b
-  listed-is = ap (listedIn target) (sym (i .index)) ∙ sym says
+  listed-is : {b : Bool} → listedIn target (indexOf x) ≡ b → listedIn target (table .index) ≡ b
+  listed-is e = ap (listedIn target) (sym (i .index)) ∙ e
 
   -- 9
-  pub look-absent : {r : Reply} → b ≡ false → r ≡ replyOf (refuse 9) → CallOutcome (lookup target out) m (handed r out) m
+  look-absent : {r : Reply} → listedIn target (indexOf x) ≡ false → r ≡ replyOf (refuse 9) → CallOutcome (lookup target out) m (handed r out) m
   unfolding answer next
   look-absent e f =
       refused-in (i .logged) (lookup target out) 9 (λ z. omega (arith, z))
-      (rw (absent table x held noFigure (markedPictures m) (sincePictures m) (headIsOk m) (i .index) target (listed-is ∙ e) (holds .holds))) refl f
+      (rw (absent table x held noFigure (markedPictures m) (sincePictures m) (headIsOk m) (i .index) target (listed-is e) (holds .holds))) refl f
 
-  module _ (there : b ≡ true) (f : Figure) (figured : FigureGoes target f table) where
+  module _ (there : listedIn target (indexOf x) ≡ true) (f : Figure) (figured : FigureGoes target f table) where
     abbrev pictures : ℕ → List ℕ
     pictures = picturesFor target (m .bodies) (m .store) (m .journal) held
 
     has : Held table x held f (markedPictures m) (sincePictures m) (headIsOk m) (i .index) target
-    has = held-in table x held f (markedPictures m) (sincePictures m) (headIsOk m) (i .index) target (listed-is ∙ there) figured (holds .holds)
+    has = held-in table x held f (markedPictures m) (sincePictures m) (headIsOk m) (i .index) target (listed-is there) figured (holds .holds)
 
     found-is : answerView (look target) (viewOf m) ≡ grant os (payloadHeld target x held f pictures)
     unfolding answer
-    found-is = answer-in (i .logged) (look target) ∙ rw (has .payload) (payload-found os target x held f pictures (sym says ∙ there))
+    found-is = answer-in (i .logged) (look target) ∙ rw (has .payload) (payload-found os target x held f pictures there)
 
     same-view : nextView (look target) (viewOf m) ≡ viewOf m
     unfolding next
     same-view = next-in (i .logged) (look target) ∙ sym (logged-view (i .logged))
 
-    module _ {size : ℕ} (is : size ≡ layoutSize target) where
-      -- 14
-      pub look-small : {r : Reply} → length out < size → r ≡ replyOf (refuse 14) → CallOutcome (lookup target out) m (handed r out) m
-      unfolding responseOf answerWithin outAfter
-      look-small h e =
-          let l = lt-ltb (length out) (layoutSize target) (omega (arith, is)) in
-          stays (lookup target out) m found-is same-view (rw (e, l))
+    -- 14
+    look-small : {r : Reply} → ltb (length out) (layoutSize target) ≡ true → r ≡ replyOf (refuse 14) → CallOutcome (lookup target out) m (handed r out) m
+    unfolding responseOf answerWithin outAfter
+    look-small l e = stays (lookup target out) m found-is same-view (rw (e, l))
 
-      module _ (fits : size ≤ length out) where
-        pub look-found : {r : Reply} {out' : List ℕ} → out' ≡ splice out 0 (bytesHeld target x (m .bodies) (m .store) (m .journal) held f)
-            → r ≡ record { number = 0; count = w .count; bytes = w .end - logStart } → CallOutcome (lookup target out) m (handed r out') m
-        unfolding responseOf answerWithin outAfter bytesHeld
-        look-found put e =
-            let l = le-ltb (length out) (layoutSize target) (omega (arith, is)) in
-            let g = e ∙ reply-in (i .logged) (payloadHeld target x held f pictures) in
-            stays (lookup target out) m found-is same-view (rw (g, put, l))
+    look-large : ltb (length out) (layoutSize target) ≡ false → {r : Reply} {out' : List ℕ}
+        → out' ≡ splice out 0 (bytesHeld target x (m .bodies) (m .store) (m .journal) held f)
+        → r ≡ record { number = 0; count = w .count; bytes = w .end - logStart } → CallOutcome (lookup target out) m (handed r out') m
+    unfolding responseOf answerWithin outAfter bytesHeld
+    look-large l put e =
+        let g = e ∙ reply-in (i .logged) (payloadHeld target x held f pictures) in
+        stays (lookup target out) m found-is same-view (rw (g, put, l))
 
-        -- what handing out asks
-        pub look-hands : length held ≡ roomFor (wantOf target) → HandsOut target x (m .bodies) (m .store) (m .journal) held out
-        look-hands room =
-            record {
-              room = omega (arith, is);
-              long = sound-long x (i .sound);
-              size = room;
-              listed = sym says ∙ there;
-              valid = has .valid;
-              ready = ready-for i target room holds;
-            }
+  module _ {n : ℕ} (is : n ≡ refusalOf target (indexOf x) (length out)) where
+    -- 9, 14
+    pub look-refused : {r : Reply} → (n ≡ 0 → ⊥) → r ≡ replyOf (refuse n) → CallOutcome (lookup target out) m (handed r out) m
+    unfolding refusalOf
+    look-refused {r = r} refuses e = go (listedIn target (indexOf x)) (ltb (length out) (layoutSize target)) refl refl
+      where
+        go : (a b : Bool) → listedIn target (indexOf x) ≡ a → ltb (length out) (layoutSize target) ≡ b → CallOutcome (lookup target out) m (handed r out) m
+        go false b l s =
+            let k : refusalOf target (indexOf x) (length out) ≡ 9 = rw l in
+            look-absent l (e ∙ ap (λ (n : ℕ). replyOf (refuse n)) (is ∙ k))
+        go true true l s =
+            let k : refusalOf target (indexOf x) (length out) ≡ 14 = rw (l, s) in
+            look-small l (figureIn table) (own-goes table target) s (e ∙ ap (λ (n : ℕ). replyOf (refuse n)) (is ∙ k))
+        go true false l s =
+            let k : refusalOf target (indexOf x) (length out) ≡ 0 = rw (l, s) in
+            absurd (refuses (is ∙ k))
+
+    module _ (grants : n ≡ 0) where
+      fits : (listedIn target (indexOf x) ≡ true) × (ltb (length out) (layoutSize target) ≡ false)
+      unfolding refusalOf
+      fits = go (listedIn target (indexOf x)) (ltb (length out) (layoutSize target)) refl refl
+        where
+          go : (a b : Bool) → listedIn target (indexOf x) ≡ a → ltb (length out) (layoutSize target) ≡ b
+              → (listedIn target (indexOf x) ≡ true) × (ltb (length out) (layoutSize target) ≡ false)
+          go false b l s =
+              let k : refusalOf target (indexOf x) (length out) ≡ 9 = rw l in
+              absurd (omega (arith, is, grants, k))
+          go true true l s =
+              let k : refusalOf target (indexOf x) (length out) ≡ 14 = rw (l, s) in
+              absurd (omega (arith, is, grants, k))
+          go true false l s = (l, s)
+
+      pub look-found : (f : Figure) → FigureGoes target f table → {r : Reply} {out' : List ℕ}
+          → out' ≡ splice out 0 (bytesHeld target x (m .bodies) (m .store) (m .journal) held f)
+          → r ≡ record { number = 0; count = w .count; bytes = w .end - logStart } → CallOutcome (lookup target out) m (handed r out') m
+      look-found f figured put e = look-large (fits .0) f figured (fits .1) put e
+
+      -- what handing out asks
+      pub look-hands : length held ≡ roomFor (wantOf target) → HandsOut target x (m .bodies) (m .store) (m .journal) held out
+      look-hands room =
+          record {
+            room = ltb-false (length out) (layoutSize target) (fits .1);
+            long = sound-long x (i .sound);
+            size = room;
+            listed = fits .0;
+            valid = has (fits .0) (figureIn table) (own-goes table target) .valid;
+            ready = ready-for i target room holds;
+          }

@@ -46,7 +46,7 @@ use Rattle.session.specs.Calls.{aPicture, cellNumber, holderOf}
 use Rattle.session.specs.Outcome.{windowBytes, listedBytes, payloadBytes}
 use Rattle.session.specs.PresentFigure.{noFigure}
 use Rattle.session.specs.Targets.{wantOf, listedIn, payloadHeld}
-use Rattle.session.specs.Handing.{recordsHeld, bytesHeld, validHeld, ReadyFor, HandsOut}
+use Rattle.session.specs.Handing.{markedPicture, recordsHeld, bytesHeld, validHeld, ReadyFor, HandsOut}
 use Rattle.session.proofs.Targets.{slot-below, shares-by, no-pointer}
 
 no : {A : Type 0} → _≡_ {A = Bool} false true → A
@@ -65,36 +65,50 @@ unfolding bytesOf
 mark-is none e = rw e
 mark-is (some p) e = rw e
 
-marked : (out : List ℕ) (x y s t : ℕ) (zs : List ℕ) → splice (splice (splice out 0 (x ∷ y ∷ zs)) 0 (s ∷ [])) 1 (t ∷ []) ≡ splice out 0 (s ∷ t ∷ zs)
-unfolding splice
-marked out x y s t zs = refl
+-- a picture and its mark, as the code writes them
+pub picture-marked : (out : List ℕ) (at mark : ℕ) (p : Option (List ℕ)) {y z : List ℕ} {b : Bool} → b ≡ shows p → y ≡ splice out at (shownBytes p)
+    → z ≡ splice y mark (bytesOf 1 (boolByte b)) → z ≡ markedPicture out at mark p
+picture-marked out at mark p {y = y} e f g = g ∙ ap (splice y mark) (mark-is p e) ∙ ap (λ (w : List ℕ). splice w mark (isThere p ∷ [])) f
 
-module _ (out : List ℕ) (rows : List Row) (b : Body) {n : ℕ} (size : 2 + roomAll rows ≡ n) {x : List ℕ} (fields : x ≡ splice out 0 (recordBytes rows b)) where
-  abbrev bytes : List ℕ
-  bytes = recordBytes rows b
+-- the marks of a record at the start, written again
+module _ (out : List ℕ) (rows : List Row) (b : Body) (rest : List ℕ) (s : ℕ) where
+  first-mark : splice (splice out 0 (recordBytes rows b ++ rest)) 0 (s ∷ []) ≡ splice out 0 (recordBytes rows (record { first = s; second = b .second; fields = b .fields }) ++ rest)
+  unfolding splice recordBytes
+  first-mark = refl
 
-  -- its marks written again, with what stands behind it
-  marks-put : (rest : List ℕ) (s t : ℕ) {y z w : List ℕ} → y ≡ splice out 0 (bytes ++ rest) → z ≡ splice y 0 (s ∷ []) → w ≡ splice z 1 (t ∷ [])
-      → w ≡ splice out 0 (recordBytes rows (record { first = s; second = t; fields = b .fields }) ++ rest)
-  unfolding recordBytes
-  marks-put rest s t e f g = rw (g, f, e) (marked out (b .first) (b .second) s t (fieldsBytes rows (b .fields) ++ rest))
+  second-mark : splice (splice out 0 (recordBytes rows b ++ rest)) 1 (s ∷ []) ≡ splice out 0 (recordBytes rows (record { first = b .first; second = s; fields = b .fields }) ++ rest)
+  unfolding splice recordBytes
+  second-mark = refl
 
-  one-put : (p : Option (List ℕ)) → n + pictureSize ≤ length out → {y : List ℕ} → y ≡ splice x n (shownBytes p) → y ≡ splice out 0 (bytes ++ shownBytes p)
-  one-put p room e =
-      let k = length-record rows b in
+-- a picture behind what stands at the start
+picture-put : (out front : List ℕ) (n : ℕ) (p : Option (List ℕ)) → length front ≡ n → n + pictureSize ≤ length out
+    → splice (splice out 0 front) n (shownBytes p) ≡ splice out 0 (front ++ shownBytes p)
+picture-put out front n p size room =
+    let l = length-shown p in
+    splice-after out 0 front (shownBytes p) n (omega (arith, size)) (omega (arith, size, l, room))
+
+module _ (out : List ℕ) (rows : List Row) (b : Body) {n : ℕ} (size : 2 + roomAll rows ≡ n) {x : List ℕ} (fields : x ≡ splice out 0 (recordBytes rows b)) (p : Option (List ℕ)) where
+  abbrev once : Body
+  once = record { first = isThere p; second = b .second; fields = b .fields }
+
+  -- a record with a picture
+  one-put : n + pictureSize ≤ length out → {y : List ℕ} → y ≡ markedPicture x n 0 p → y ≡ splice out 0 (recordBytes rows once ++ shownBytes p)
+  one-put room e =
+      let k : length (recordBytes rows b) ≡ n = length-record rows b ∙ size in
+      e ∙ ap (λ (z : List ℕ). markedPicture z n 0 p) fields ∙ ap (λ (z : List ℕ). splice z 0 (isThere p ∷ [])) (picture-put out (recordBytes rows b) n p k room)
+      ∙ first-mark out rows b (shownBytes p) (isThere p)
+
+  -- and with a second
+  two-put : (q : Option (List ℕ)) → n + (pictureSize + pictureSize) ≤ length out → {y z : List ℕ} → y ≡ markedPicture x n 0 p → z ≡ markedPicture y (n + pictureSize) 1 q
+      → z ≡ splice out 0 (recordBytes rows (record { first = isThere p; second = isThere q; fields = b .fields }) ++ (shownBytes p ++ shownBytes q))
+  two-put q room e f =
+      let k = length-record rows once in
       let l = length-shown p in
-      e ∙ ap (λ (z : List ℕ). splice z n (shownBytes p)) fields ∙ splice-after out 0 bytes (shownBytes p) n (omega (arith, k, size)) (omega (arith, k, size, l, room))
-
-  two-put : (p q : Option (List ℕ)) → n + (pictureSize + pictureSize) ≤ length out → {y z : List ℕ} → y ≡ splice x n (shownBytes p)
-      → z ≡ splice y (n + pictureSize) (shownBytes q) → z ≡ splice out 0 (bytes ++ (shownBytes p ++ shownBytes q))
-  two-put p q room e f =
-      let k = length-record rows b in
-      let l = length-shown p in
-      let m = length-shown q in
-      let j : length (bytes ++ shownBytes p) ≡ n + pictureSize = length-append bytes (shownBytes p) ∙ omega (arith, k, size, l) in
-      f ∙ ap (λ (w : List ℕ). splice w (n + pictureSize) (shownBytes q)) (one-put p (omega arith) e)
-      ∙ splice-after out 0 (bytes ++ shownBytes p) (shownBytes q) (n + pictureSize) (omega (arith, j)) (omega (arith, j, m, room))
-      ∙ ap (splice out 0) (append-assoc bytes (shownBytes p) (shownBytes q))
+      let j : length (recordBytes rows once ++ shownBytes p) ≡ n + pictureSize = length-append (recordBytes rows once) (shownBytes p) ∙ omega (arith, k, size, l) in
+      f ∙ ap (λ (w : List ℕ). markedPicture w (n + pictureSize) 1 q) (one-put (omega arith) e)
+      ∙ ap (λ (w : List ℕ). splice w 1 (isThere q ∷ []))
+      (picture-put out (recordBytes rows once ++ shownBytes p) (n + pictureSize) q j (omega arith) ∙ ap (splice out 0) (append-assoc (recordBytes rows once) (shownBytes p) (shownBytes q)))
+      ∙ second-mark out rows once (shownBytes p ++ shownBytes q) (isThere q)
 
 -- a byte written over
 over-front : (out : List ℕ) (n a : ℕ) (zs : List ℕ) → n + length (a ∷ zs) ≤ length out → take n (splice out n (a ∷ zs)) ≡ take n out
@@ -117,10 +131,7 @@ third-put out front n a o zs size room =
     ∙ splice-after out 0 front (o ∷ zs) n (omega (arith, size)) (omega (arith, size, room))
 
 -- a window's two records, two pictures between them and one behind
-module _ (out : List ℕ) (b c : Body) (p q o : Option (List ℕ)) (room : newerStart + (newerSize + pictureSize) ≤ length out) where
-  abbrev older : List ℕ
-  older = recordBytes olderFields b
-
+module _ (out : List ℕ) (c : Body) (p q o : Option (List ℕ)) (room : newerStart + (newerSize + pictureSize) ≤ length out) where
   abbrev newer : List ℕ
   newer = recordBytes newerFields c
 
@@ -140,19 +151,19 @@ module _ (out : List ℕ) (b c : Body) (p q o : Option (List ℕ)) (room : newer
   behind-long : (d : Body) → length (recordBytes newerFields d ++ shownBytes o) ≡ newerSize + pictureSize
   behind-long d = length-append (recordBytes newerFields d) (shownBytes o) ∙ omega (arith, newer-long d, length-shown o)
 
-  all-put : {x y z u v : List ℕ} → x ≡ splice out 0 older → y ≡ splice x windowSize (shownBytes p) → z ≡ splice y (windowSize + pictureSize) (shownBytes q)
-      → u ≡ splice z newerStart newer → v ≡ splice u (newerStart + newerSize) (shownBytes o) → v ≡ splice out 0 (older ++ (two ++ (newer ++ shownBytes o)))
-  unfolding roomAll
-  all-put e f g h i =
-      let k = front-long b in
+  -- the newer fields and the last picture, behind the older fields and two pictures
+  behind-put : (d : Body) {y z v : List ℕ} → y ≡ splice out 0 (recordBytes olderFields d ++ two) → z ≡ splice y newerStart newer → v ≡ splice z (newerStart + newerSize) (shownBytes o)
+      → v ≡ splice out 0 (recordBytes olderFields d ++ (two ++ (newer ++ shownBytes o)))
+  behind-put d e f g =
+      let front = recordBytes olderFields d ++ two in
+      let k = front-long d in
       let l = newer-long c in
-      let j : length ((older ++ two) ++ newer) ≡ newerStart + newerSize = length-append (older ++ two) newer ∙ omega (arith, k, l) in
-      i
+      let j : length (front ++ newer) ≡ newerStart + newerSize = length-append front newer ∙ omega (arith, k, l) in
+      g
       ∙ ap (λ (w : List ℕ). splice w (newerStart + newerSize) (shownBytes o))
-      (h ∙ ap (λ (w : List ℕ). splice w newerStart newer) (two-put out olderFields b refl e p q (omega (arith, room)) f g)
-      ∙ splice-after out 0 (older ++ two) newer newerStart (omega (arith, k)) (omega (arith, k, l, room)))
-      ∙ splice-after out 0 ((older ++ two) ++ newer) (shownBytes o) (newerStart + newerSize) (omega (arith, j)) (omega (arith, j, length-shown o, room))
-      ∙ ap (splice out 0) (append-assoc (older ++ two) newer (shownBytes o) ∙ append-assoc older two (newer ++ shownBytes o))
+      (f ∙ ap (λ (w : List ℕ). splice w newerStart newer) e ∙ splice-after out 0 front newer newerStart (omega (arith, k)) (omega (arith, k, l, room)))
+      ∙ picture-put out (front ++ newer) (newerStart + newerSize) o j (omega (arith, room))
+      ∙ ap (splice out 0) (append-assoc front newer (shownBytes o) ∙ append-assoc (recordBytes olderFields d) two (newer ++ shownBytes o))
 
   -- the mark of the newer fields
   third-mark : (d : Body) (t : ℕ) {y z : List ℕ} → y ≡ splice out 0 (recordBytes olderFields d ++ (two ++ (newer ++ shownBytes o))) → z ≡ splice y newerStart (t ∷ [])
@@ -172,36 +183,33 @@ module _ (out : List ℕ) (b c : Body) (p q o : Option (List ℕ)) (room : newer
           unfold recordBytes in
           third-put out (recordBytes olderFields d ++ two) newerStart (c .first) t (c .second ∷ (fieldsBytes newerFields (c .fields) ++ shownBytes o)) (front-long d) (omega (arith, l, room))
 
-module _ (out slot : List ℕ) {x y v z : List ℕ} {r : Bool} where
+module _ (out slot : List ℕ) {x y v : List ℕ} where
   -- the records of a window
-  pub window-laid : (p q o : Option (List ℕ)) → newerStart + (newerSize + pictureSize) ≤ length out
-      → x ≡ splice out 0 (recordBytes olderFields (olderPart (bodyOf windowFields slot)))
-      → r ≡ shows p → y ≡ splice x windowSize (shownBytes p) → {t k : Bool} {a b c d : List ℕ} → t ≡ shows q → v ≡ splice y (windowSize + pictureSize) (shownBytes q)
-      → z ≡ splice v newerStart (recordBytes newerFields (newerPart (bodyOf windowFields slot))) → k ≡ shows o → a ≡ splice z (newerStart + newerSize) (shownBytes o)
-      → b ≡ splice a 0 (bytesOf 1 (boolByte r)) → c ≡ splice b 1 (bytesOf 1 (boolByte t)) → d ≡ splice c newerStart (bytesOf 1 (boolByte k))
-      → d ≡ splice out 0 (windowBytes (fieldsOf windowFields 2 slot) (p ∷ q ∷ o ∷ []))
+  pub window-laid : {z : List ℕ} (p q o : Option (List ℕ)) → newerStart + (newerSize + pictureSize) ≤ length out
+      → x ≡ splice out 0 (recordBytes olderFields (olderPart (bodyOf windowFields slot))) → y ≡ markedPicture x windowSize 0 p → v ≡ markedPicture y (windowSize + pictureSize) 1 q
+      → z ≡ splice v newerStart (recordBytes newerFields (newerPart (bodyOf windowFields slot))) → {a : List ℕ} → a ≡ markedPicture z (newerStart + newerSize) newerStart o
+      → a ≡ splice out 0 (windowBytes (fieldsOf windowFields 2 slot) (p ∷ q ∷ o ∷ []))
   unfolding bodyOf roomAll flatten
-  window-laid p q o room e rs f {a = a} {b = b} {c = c} ts g h ks i j k l =
+  window-laid p q o room e f g h i =
       let m = olderPart (bodyOf windowFields slot) in
       let n = newerPart (bodyOf windowFields slot) in
-      let two = shownBytes p ++ shownBytes q in
-      let older = recordBytes olderFields (record { first = isThere p; second = isThere q; fields = m .fields }) in
+      let marked : Body = record { first = isThere p; second = isThere q; fields = m .fields } in
+      let older = recordBytes olderFields marked in
       let newer = recordBytes newerFields (record { first = isThere o; second = 0; fields = n .fields }) in
-      third-mark out m n p q o room (record { first = isThere p; second = isThere q; fields = m .fields }) (isThere o)
-      (marks-put out olderFields m refl e (two ++ (recordBytes newerFields n ++ shownBytes o)) (isThere p) (isThere q) (all-put out m n p q o room e f g h i)
-      (j ∙ ap (splice a 0) (mark-is p rs)) (k ∙ ap (splice b 1) (mark-is q ts)))
-      (l ∙ ap (splice c newerStart) (mark-is o ks))
+      third-mark out n p q o room marked (isThere o) (behind-put out n p q o room marked (two-put out olderFields m refl e p q (omega (arith, room)) f g) h refl) i
       ∙ ap (λ (u : List ℕ). splice out 0 (older ++ ((shownBytes p ++ u) ++ (newer ++ shownBytes o)))) (sym (append-nil (shownBytes q)))
       ∙ ap (λ (u : List ℕ). splice out 0 (older ++ ((shownBytes p ++ (shownBytes q ++ [])) ++ (newer ++ u)))) (sym (append-nil (shownBytes o)))
 
   -- a notification icon
   pub notification-laid : (p : Option (List ℕ)) → notificationSize + pictureSize ≤ length out
-      → x ≡ splice out 0 (recordBytes notificationFields (bodyOf notificationFields slot)) → r ≡ shows p → y ≡ splice x notificationSize (shownBytes p)
-      → v ≡ splice y 0 (bytesOf 1 (boolByte r)) → z ≡ splice v 1 (bytesOf 1 0) → z ≡ splice out 0 (listedBytes family.Notifications (fieldsOf notificationFields 2 slot) (p ∷ []))
+      → x ≡ splice out 0 (recordBytes notificationFields (bodyOf notificationFields slot)) → y ≡ markedPicture x notificationSize 0 p
+      → v ≡ splice y 1 (bytesOf 1 0) → v ≡ splice out 0 (listedBytes family.Notifications (fieldsOf notificationFields 2 slot) (p ∷ []))
   unfolding listedBytes bodyOf roomAll bytesOf flatten
-  notification-laid p room e rs f h i =
+  notification-laid p room e f h =
       let b = bodyOf notificationFields slot in
-      marks-put out notificationFields b refl e (shownBytes p) (isThere p) 0 (one-put out notificationFields b refl e p room f) (h ∙ ap (splice y 0) (mark-is p rs)) i
+      h
+      ∙ ap (λ (w : List ℕ). splice w 1 (0 ∷ [])) (one-put out notificationFields b refl e p room f)
+      ∙ second-mark out notificationFields (record { first = isThere p; second = b .second; fields = b .fields }) (shownBytes p) 0
       ∙ ap (λ (k : List ℕ). splice out 0 (recordBytes notificationFields (record { first = isThere p; second = 0; fields = fieldsOf notificationFields 2 slot }) ++ k))
       (sym (append-nil (shownBytes p)))
 
@@ -306,24 +314,20 @@ module _ {x bodies : List ℕ} {store : List (List ℕ)} {journal m out : List �
     window-overlay e = icon-third x family.Windows (w .id) 0 (h .listed) e
 
     pub records-handed : {n k l : ℕ} → n ≡ numberOf (slotOf x) (icon family.Windows (w .id) 0 0) → k ≡ numberOf (slotOf x) (icon family.Windows (w .id) 0 1)
-        → l ≡ numberOf (slotOf x) (icon family.Windows (w .id) 0 2) → {p q r s t u v z : List ℕ} {small big overlay : Bool}
+        → l ≡ numberOf (slotOf x) (icon family.Windows (w .id) 0 2) → {p q r s t : List ℕ}
         → p ≡ splice out 0 (recordBytes olderFields (olderPart (bodyOf windowFields (heldSlot family.Windows m))))
-        → small ≡ shows (shown x (heldPictures bodies store journal (slice m 1392 128)) n)
-        → q ≡ splice p windowSize (shownBytes (shown x (heldPictures bodies store journal (slice m 1392 128)) n))
-        → big ≡ shows (shown x (heldPictures bodies store journal (slice m 1392 128)) k)
-        → r ≡ splice q (windowSize + pictureSize) (shownBytes (shown x (heldPictures bodies store journal (slice m 1392 128)) k))
+        → q ≡ markedPicture p windowSize 0 (shown x (heldPictures bodies store journal (slice m 1392 128)) n)
+        → r ≡ markedPicture q (windowSize + pictureSize) 1 (shown x (heldPictures bodies store journal (slice m 1392 128)) k)
         → s ≡ splice r newerStart (recordBytes newerFields (newerPart (bodyOf windowFields (heldSlot family.Windows m))))
-        → overlay ≡ shows (shown x (heldPictures bodies store journal (slice m 1392 128)) l)
-        → t ≡ splice s (newerStart + newerSize) (shownBytes (shown x (heldPictures bodies store journal (slice m 1392 128)) l))
-        → u ≡ splice t 0 (bytesOf 1 (boolByte small)) → v ≡ splice u 1 (bytesOf 1 (boolByte big)) → z ≡ splice v newerStart (bytesOf 1 (boolByte overlay))
-        → z ≡ splice out 0 (recordsHeld w x bodies store journal m)
+        → t ≡ markedPicture s (newerStart + newerSize) newerStart (shown x (heldPictures bodies store journal (slice m 1392 128)) l)
+        → t ≡ splice out 0 (recordsHeld w x bodies store journal m)
     unfolding recordsHeld wantOf
-    records-handed {n = n} {k = k} {l = l} e f g a b c d i j o p q y z =
+    records-handed {n = n} {k = k} {l = l} e f g a b c d i =
         let pictures = heldPictures bodies store journal (slice m 1392 128) in
         let fields = fieldsOf windowFields 2 (heldSlot family.Windows m) in
         let small = shownIn x pictures (icon family.Windows (w .id) 0 0) in
         let big = shownIn x pictures (icon family.Windows (w .id) 0 1) in
-        window-laid out (heldSlot family.Windows m) (shown x pictures n) (shown x pictures k) (shown x pictures l) (omega (arith, h .room)) a b c d i j o p q y z
+        window-laid out (heldSlot family.Windows m) (shown x pictures n) (shown x pictures k) (shown x pictures l) (omega (arith, h .room)) a b c d i
         ∙ ap (λ (v : ℕ). splice out 0 (windowBytes fields (shown x pictures v ∷ shown x pictures k ∷ shown x pictures l ∷ []))) e
         ∙ ap (λ (v : ℕ). splice out 0 (windowBytes fields (small ∷ shown x pictures v ∷ shown x pictures l ∷ []))) f
         ∙ ap (λ (v : ℕ). splice out 0 (windowBytes fields (small ∷ big ∷ shown x pictures v ∷ []))) g
@@ -349,15 +353,14 @@ module _ {x bodies : List ℕ} {store : List (List ℕ)} {journal m out : List �
     unfolding ReadyFor
     notification-ready = h .ready
 
-    pub notification-handed : {n : ℕ} → n ≡ numberOf (slotOf x) (icon family.Notifications (w .id) (i .id) 0) → {p q r s : List ℕ} {own : Bool}
+    pub notification-handed : {n : ℕ} → n ≡ numberOf (slotOf x) (icon family.Notifications (w .id) (i .id) 0) → {p q r : List ℕ}
         → p ≡ splice out 0 (recordBytes notificationFields (bodyOf notificationFields (heldSlot family.Notifications m)))
-        → own ≡ shows (shown x (heldPictures bodies store journal (slice m 916 128)) n)
-        → q ≡ splice p notificationSize (shownBytes (shown x (heldPictures bodies store journal (slice m 916 128)) n))
-        → r ≡ splice q 0 (bytesOf 1 (boolByte own)) → s ≡ splice r 1 (bytesOf 1 0) → s ≡ splice out 0 (bytesHeld (Notification w i) x bodies store journal m noFigure)
+        → q ≡ markedPicture p notificationSize 0 (shown x (heldPictures bodies store journal (slice m 916 128)) n)
+        → r ≡ splice q 1 (bytesOf 1 0) → r ≡ splice out 0 (bytesHeld (Notification w i) x bodies store journal m noFigure)
     unfolding bytesHeld payloadHeld payloadBytes wantOf
-    notification-handed {n = n} e a b c d g =
+    notification-handed {n = n} e a b c =
         let pictures = heldPictures bodies store journal (slice m 916 128) in
-        notification-laid out (heldSlot family.Notifications m) (shown x pictures n) (h .room) a b c d g
+        notification-laid out (heldSlot family.Notifications m) (shown x pictures n) (h .room) a b c
         ∙ ap (λ (z : ℕ). splice out 0 (listedBytes family.Notifications (fieldsOf notificationFields 2 (heldSlot family.Notifications m)) (shown x pictures z ∷ []))) e
 
   -- a cell

@@ -1,6 +1,7 @@
 pub mod Outcomes
 pub mod Unpacks
 pub mod Lent
+pub mod Standing
 pub mod Deliveries
 pub mod Changes
 pub mod Recorded

@@ -26,13 +26,16 @@ use Rattle.index.specs.Memory.{indexOf}
 use Rattle.index.proofs.Ways.{found-is}
 use Rattle.index.proofs.Soundness.{found-within}
 use Rattle.follow.specs.declared.Want.{Want}
+use Rattle.follow.specs.declared.Want.the-variants as want
 use Rattle.follow.specs.Follow.{roomFor}
 use Rattle.session.specs.declared.PictureHolder.{PictureHolder}
 use Rattle.session.specs.declared.PictureHolder.the-variants as holder
 use Rattle.session.specs.declared.LookupTarget.{LookupTarget}
 use Rattle.session.specs.declared.LookupTarget.the-variants.{Window, Notification, Cell, Desktop, Windows, Notifications, Shares}
 use Rattle.session.specs.Calls.{inCaches, cellNumber, holderOf}
+use Rattle.session.specs.Outcome.{layoutSize}
 use Rattle.session.specs.Targets.{wantOf, listedIn}
+use Rattle.session.specs.Handing.{refusalOf}
 
 -- ---- the cell
 
@@ -46,9 +49,6 @@ cell-inside cache entry e = rw e
 
 pub wanted-as : {target v : LookupTarget} {x : Want} → target ≡ v → x ≡ wantOf v → x ≡ wantOf target
 wanted-as e f = f ∙ ap wantOf (sym e)
-
-pub room-as : {target v : LookupTarget} {n : ℕ} → target ≡ v → n ≡ roomFor (wantOf v) → n ≡ roomFor (wantOf target)
-room-as e f = f ∙ ap (λ (t : LookupTarget). roomFor (wantOf t)) (sym e)
 
 -- ---- holders by their numbers
 
@@ -166,3 +166,34 @@ module _ (d : List ℕ) where
       → both r t ≡ listedIn (Shares g k) (indexOf d)
   unfolding listedIn
   shares-listed g k e f = rw (e, f)
+
+-- ---- whether a lookup is refused
+
+module _ (d : List ℕ) (target : LookupTarget) (room : ℕ) {b : Bool} (says : b ≡ listedIn target (indexOf d)) where
+  pub refuses-absent : b ≡ false → 9 ≡ refusalOf target (indexOf d) room
+  unfolding refusalOf
+  refuses-absent e = let l : listedIn target (indexOf d) ≡ false = sym says ∙ e in rw l
+
+  module _ (there : b ≡ true) {size : ℕ} (is : size ≡ layoutSize target) where
+    pub refuses-small : room < size → 14 ≡ refusalOf target (indexOf d) room
+    unfolding refusalOf
+    refuses-small h =
+        let l : listedIn target (indexOf d) ≡ true = sym says ∙ there in
+        let s = lt-ltb room (layoutSize target) (omega (arith, is)) in
+        rw (l, s)
+
+    pub refuses-none : size ≤ room → 0 ≡ refusalOf target (indexOf d) room
+    unfolding refusalOf
+    refuses-none h =
+        let l : listedIn target (indexOf d) ≡ true = sym says ∙ there in
+        let s = le-ltb room (layoutSize target) (omega (arith, is)) in
+        rw (l, s)
+
+-- ---- the memory of what is followed
+
+pub room-most : (w : Want) → roomFor w ≤ 1520
+room-most want.Nothing = omega arith
+room-most (want.Window w) = omega arith
+room-most (want.Notification w n) = omega arith
+room-most want.Pictures = omega arith
+room-most want.Desktop = omega arith

@@ -2,22 +2,31 @@
 use Prim.Native.Nat.{ℕ, _≤_}
 use mathlib.Core.Path.{_≡_}
 use mathlib.Core.Bool.{Bool, true}
-use mathlib.Core.List.{List}
+use mathlib.Core.List.{List, [], _∷_}
+use mathlib.Core.Option.{Option}
+use lib.Dec.{ltb}
 use lib.ListN.{length}
+use Rattle.wire.specs.Tests.{pick}
+use Rattle.wire.specs.Parts.{splice}
 use Rattle.protocol.specs.declared.WindowId.{WindowId}
 use Rattle.places.specs.declared.Family.the-variants as family
 use Rattle.index.specs.Families.{indexLength}
+use Rattle.index.specs.Index.{Index}
 use Rattle.index.specs.Memory.{indexOf}
 use Rattle.body.specs.Bodies.{desktopFields, fieldsOf, fieldsOk}
 use Rattle.table.specs.Table.{fieldRows}
 use Rattle.follow.specs.declared.Want.the-variants as want
 use Rattle.follow.specs.Follow.{roomFor, heldSlot, heldOrigins}
-use Rattle.shown.specs.Shown.{heldPictures, Ready}
+use Rattle.shown.specs.Shown.{isThere, shownBytes, heldPictures, Ready}
 use Rattle.figure.specs.declared.Figure.{Figure}
 use Rattle.session.specs.declared.LookupTarget.{LookupTarget}
 use Rattle.session.specs.declared.LookupTarget.the-variants.{Window, Notification, Cell, Desktop, Windows, Notifications, Shares}
 use Rattle.session.specs.Outcome.{layoutSize, windowBytes, payloadBytes}
 use Rattle.session.specs.Targets.{wantOf, listedIn, iconsHeld, payloadHeld}
+
+-- 9 where an index does not list the target, 14 where so many bytes do not hold it, else 0
+unfoldable pub refusalOf : LookupTarget → Index → ℕ → ℕ
+refusalOf target d room = pick (listedIn target d) (pick (ltb room (layoutSize target)) 14 0) 9
 
 -- the pictures at the places, by the memory m of the target
 abbrev pub picturesFor : LookupTarget → List ℕ → List (List ℕ) → List ℕ → List ℕ → ℕ → List ℕ
@@ -25,6 +34,10 @@ picturesFor target bodies store journal m = heldPictures bodies store journal (h
 
 unfoldable pub bytesHeld : LookupTarget → List ℕ → List ℕ → List (List ℕ) → List ℕ → List ℕ → Figure → List ℕ
 bytesHeld target x bodies store journal m f = payloadBytes target (payloadHeld target x m f (picturesFor target bodies store journal m))
+
+-- a picture at index at, and at index mark whether it is there
+abbrev pub markedPicture : List ℕ → ℕ → ℕ → Option (List ℕ) → List ℕ
+markedPicture out at mark p = splice (splice out at (shownBytes p)) mark (isThere p ∷ [])
 
 -- of a window its records, without its pixels
 unfoldable pub recordsHeld : WindowId → List ℕ → List ℕ → List (List ℕ) → List ℕ → List ℕ → List ℕ

@@ -3,6 +3,7 @@ pub mod Calls
 pub mod Holders
 pub mod Outcome
 pub mod Mark
+pub mod Standing
 pub mod Delivery
 pub mod PresentFigure
 pub mod Targets

@@ -13,8 +13,11 @@ ghost use Rattle.session.specs.Calls.{reset, deliver, checkpoint, undo};
 ghost use Rattle.session.specs.Outcome.{plain, replied, CallOutcome};
 ghost use Rattle.session.specs.Mark.{MarkSet};
 ghost use Rattle.session.specs.Delivery.{Ready, DeliveredOn};
+ghost use Rattle.session.specs.Standing.{Stands};
 use crate::Delivery;
 use crate::Reply;
+use crate::extents::extent;
+use crate::extents::extent_in;
 use crate::replies::granted;
 use crate::replies::refused;
 use journal::JournalExtent;
@@ -98,6 +101,25 @@ pub fn deliver(index: &[u8], bodies: &[u8], lent: usize, journal: &mut [u8], s: 
     granted(r.extent)
 }
 
+// The checkpoint of a memory that is well formed and whose journal has the extent w: its orders are applied to the table at the mark.
+fn advance(
+    index: &mut [u8],
+    bodies: &mut [u8],
+    a: &mut [u8],
+    b: &mut [u8],
+    c: &mut [u8],
+    d: &mut [u8],
+    e: &mut [u8],
+    journal: &mut [u8],
+    w: JournalExtent,
+) -> Reply
+    requires { ⌜ Stands (memory (now index) (now bodies) (five (now a) (now b) (now c) (now d) (now e)) (now journal)) w ⌝ }
+    ensures { λ r. ⌜ CallOutcome (plain checkpoint) (memory (now (index .entry)) (now (bodies .entry)) (five (now (a .entry)) (now (b .entry)) (now (c .entry)) (now (d .entry)) (now (e .entry))) (now (journal .entry))) (replied r) (memory (now (index .exit)) (now (bodies .exit)) (five (now (a .exit)) (now (b .exit)) (now (c .exit)) (now (d .exit)) (now (e .exit))) (now (journal .exit))) ⌝ }
+{
+    journal::apply(index, bodies, a, b, c, d, e, journal, w.count);
+    set_mark(index, bodies, journal)
+}
+
 pub fn checkpoint(
     index: &mut [u8],
     bodies: &mut [u8],
@@ -110,21 +132,17 @@ pub fn checkpoint(
 ) -> Reply
     ensures { λ r. ⌜ CallOutcome (plain checkpoint) (memory (now (index .entry)) (now (bodies .entry)) (five (now (a .entry)) (now (b .entry)) (now (c .entry)) (now (d .entry)) (now (e .entry))) (now (journal .entry))) (replied r) (memory (now (index .exit)) (now (bodies .exit)) (five (now (a .exit)) (now (b .exit)) (now (c .exit)) (now (d .exit)) (now (e .exit))) (now (journal .exit))) ⌝ }
 {
-    let lent = store::places(a, b, c, d, e);
-    let mut x = [0u8; index::LENGTH];
-    let w = journal::extent(index, bodies, lent, journal, &mut x);
+    let w = extent_in(index, bodies, a, b, c, d, e, journal);
     if w.end == 0 {
         return refused(1);
     }
-    journal::apply(index, bodies, a, b, c, d, e, journal, w.count);
-    set_mark(index, bodies, journal)
+    advance(index, bodies, a, b, c, d, e, journal, w)
 }
 
 pub fn undo(index: &[u8], bodies: &[u8], lent: usize, journal: &mut [u8], k: u64) -> Reply
     ensures { λ r. ⌜ InEachStore lent (λ store. CallOutcome (plain (undo k)) (memory (now (index .entry)) (now (bodies .entry)) store (now (journal .entry))) (replied r) (memory (now (index .entry)) (now (bodies .entry)) store (now (journal .exit)))) ⌝ }
 {
-    let mut d = [0u8; index::LENGTH];
-    let w = journal::extent(index, bodies, lent, journal, &mut d);
+    let w = extent(index, bodies, lent, journal);
     if w.end == 0 {
         return refused(1);
     }

@@ -6,6 +6,7 @@ use protocol::NotifyIconId;
 use protocol::WindowId;
 
 pub mod calls;
+mod extents;
 pub mod holders;
 pub mod lookups;
 pub mod packed;

@@ -5,23 +5,25 @@ ghost use mathlib.Core.Bool.{true};
 ghost use mathlib.Core.List.{_++_};
 ghost use lib.ListN.{length};
 ghost use Rattle.wire.specs.Parts.{splice};
-ghost use Rattle.places.specs.Memory.{pointerAt};
+ghost use Rattle.places.specs.Sizes.{holderCount};
+ghost use Rattle.places.specs.Memory.{pointerAt, shown};
 ghost use Rattle.places.specs.Holder.{icon, numberOf};
 ghost use Rattle.index.specs.Families.{indexLength};
 ghost use Rattle.index.specs.Slots.{slotOf};
 ghost use Rattle.index.specs.Memory.{indexOf};
 ghost use Rattle.body.specs.Bodies.{desktopFields, fieldsOk, bodyOf};
-ghost use Rattle.layout.specs.Layouts.{desktopSize, recordBytes};
+ghost use Rattle.layout.specs.Layouts.{pictureSize, desktopSize, recordBytes};
 ghost use Rattle.figure.specs.Figure.{figureLength, figureBytes};
 ghost use Rattle.store.specs.Store.{five};
 ghost use Rattle.follow.specs.Follow.{roomFor};
+ghost use Rattle.shown.specs.Shown.{heldPictures, Ready};
 ghost use Rattle.journal.specs.View.{memory};
 ghost use Rattle.session.specs.declared.LookupTarget.the-variants as target;
 ghost use Rattle.session.specs.Calls.{cellNumber, holderOf};
 ghost use Rattle.session.specs.Outcome.{lookup, handed, layoutSize, CallOutcome};
 ghost use Rattle.session.specs.Targets.{wantOf, listedIn};
 ghost use Rattle.session.specs.PresentFigure.{noFigure};
-ghost use Rattle.session.specs.Handing.{recordsHeld, bytesHeld, HandsOut};
+ghost use Rattle.session.specs.Handing.{refusalOf, markedPicture, recordsHeld, bytesHeld, HandsOut};
 use crate::LookupTarget;
 use crate::PictureHolder;
 use crate::Reply;
@@ -122,6 +124,7 @@ fn shares(d: &[u8], g: PictureHolder, k: PictureHolder) -> bool
     (p != 0) & (p == q)
 }
 
+// What is followed for a target.
 fn want_of(target: LookupTarget) -> Want
     ensures { λ r. ⌜ r ≡ wantOf target ⌝ }
 {
@@ -133,6 +136,19 @@ fn want_of(target: LookupTarget) -> Want
         LookupTarget::Windows => Want::Nothing,
         LookupTarget::Notifications => Want::Nothing,
         LookupTarget::Shares(_, _) => Want::Nothing,
+    }
+}
+
+// The bytes of the memory in which it is followed.
+fn room_of(want: Want) -> usize
+    ensures { λ r. ⌜ r ≡ roomFor want ⌝ }
+{
+    match want {
+        Want::Nothing => 0,
+        Want::Window(_) => follow::WINDOW,
+        Want::Notification(_, _) => follow::NOTIFICATION,
+        Want::Pictures => follow::ORIGINS,
+        Want::Desktop => body::OTHER,
     }
 }
 
@@ -182,6 +198,44 @@ fn size_of(target: LookupTarget) -> usize
     }
 }
 
+// 9 where the index x does not list the target, 14 where so many bytes do not hold it, else 0.
+fn refusal(x: &[u8], target: LookupTarget, room: usize) -> u8
+    requires { ⌜ indexLength ≤ length (now x) ⌝ }
+    ensures { λ r. ⌜ r ≡ refusalOf target (indexOf (now (x .entry))) room ⌝ }
+{
+    if !listed(x, target) {
+        return 9;
+    }
+    if room < size_of(target) {
+        return 14;
+    }
+    0
+}
+
+// Hands out the picture of holder h at index at; the byte at index mark says whether it is there.
+fn picture(
+    out: &mut [u8],
+    at: usize,
+    mark: usize,
+    x: &[u8],
+    h: usize,
+    bodies: &[u8],
+    a: &[u8],
+    b: &[u8],
+    c: &[u8],
+    d: &[u8],
+    e: &[u8],
+    journal: &[u8],
+    origins: &[u8],
+)
+    requires { ⌜ (at + pictureSize ≤ length (now out)) × (mark < length (now out)) × (h < holderCount) ⌝ }
+    requires { ⌜ Ready (now x) (now bodies) (five (now a) (now b) (now c) (now d) (now e)) (now journal) (now origins) ⌝ }
+    ensures { λ _. ⌜ now (out .exit) ≡ markedPicture (now (out .entry)) at mark (shown (now (x .entry)) (heldPictures (now (bodies .entry)) (five (now (a .entry)) (now (b .entry)) (now (c .entry)) (now (d .entry)) (now (e .entry))) (now (journal .entry)) (now (origins .entry))) h) ⌝ }
+{
+    let s = shown::holder(out, at, x, h, bodies, a, b, c, d, e, journal, origins);
+    wire::write_u8(out, mark, s as u8);
+}
+
 // Hands out the records of a window: its older fields, the pictures of its small and its big icon, its newer fields, and the picture
 // of its overlay icon; a mark says of each picture whether it is there.
 fn window_records(
@@ -207,9 +261,10 @@ fn window_records(
     let origins = &m[body::WINDOW..follow::WINDOW];
     let slot = &m[0..body::WINDOW];
     layout::window(out, slot);
-    let s = shown::holder(
+    picture(
         out,
         SMALL_PICTURE,
+        0,
         x,
         small,
         bodies,
@@ -221,9 +276,10 @@ fn window_records(
         journal,
         origins,
     );
-    let t = shown::holder(
+    picture(
         out,
         BIG_PICTURE,
+        1,
         x,
         big,
         bodies,
@@ -236,9 +292,10 @@ fn window_records(
         origins,
     );
     layout::newer(out, NEWER, slot);
-    let u = shown::holder(
+    picture(
         out,
         OVERLAY_PICTURE,
+        NEWER,
         x,
         overlay,
         bodies,
@@ -250,9 +307,6 @@ fn window_records(
         journal,
         origins,
     );
-    wire::write_u8(out, 0, s as u8);
-    wire::write_u8(out, 1, t as u8);
-    wire::write_u8(out, NEWER, u as u8);
 }
 
 // Hands out a window: its records, then its pixels.
@@ -299,8 +353,7 @@ fn notification(
     let origins = &m[body::OTHER..follow::NOTIFICATION];
     layout::record(out, &m[0..body::OTHER], 23, 29);
     let at = layout::NOTIFICATION;
-    let s = shown::holder(out, at, x, own, bodies, a, b, c, d, e, journal, origins);
-    wire::write_u8(out, 0, s as u8);
+    picture(out, at, 0, x, own, bodies, a, b, c, d, e, journal, origins);
     wire::write_u8(out, 1, 0);
 }
 
@@ -380,26 +433,23 @@ fn look_in(
     d: &[u8],
     e: &[u8],
     journal: &[u8],
+    want: Want,
     target: LookupTarget,
     m: &mut [u8],
     out: &mut [u8],
 ) -> Reply
-    requires { ⌜ length (now m) ≡ roomFor (wantOf target) ⌝ }
+    requires { ⌜ (want ≡ wantOf target) × (length (now m) ≡ roomFor want) ⌝ }
     ensures { λ r. ⌜ CallOutcome (lookup target (now (out .entry))) (memory (now (index .entry)) (now (bodies .entry)) (five (now (a .entry)) (now (b .entry)) (now (c .entry)) (now (d .entry)) (now (e .entry))) (now (journal .entry))) (handed r (now (out .exit))) (memory (now (index .entry)) (now (bodies .entry)) (five (now (a .entry)) (now (b .entry)) (now (c .entry)) (now (d .entry)) (now (e .entry))) (now (journal .entry))) ⌝ }
 {
     let lent = store::places(a, b, c, d, e);
     let mut x = [0u8; index::LENGTH];
-    let want = want_of(target);
     let w = journal::validate(index, bodies, lent, journal, want, &mut x, m);
     if w.end == 0 {
         return refused(1);
     }
-    if !listed(&x, target) {
-        return refused(9);
-    }
-    let size = size_of(target);
-    if out.len() < size {
-        return refused(14);
+    let number = refusal(&x, target, out.len());
+    if number != 0 {
+        return refused(number);
     }
     let f = figure_for(target, &x, index, bodies, journal, w.count);
     hand_out(out, &x, bodies, a, b, c, d, e, journal, m, f, target);
@@ -420,34 +470,21 @@ pub fn look(
 ) -> Reply
     ensures { λ r. ⌜ CallOutcome (lookup target (now (out .entry))) (memory (now (index .entry)) (now (bodies .entry)) (five (now (a .entry)) (now (b .entry)) (now (c .entry)) (now (d .entry)) (now (e .entry))) (now (journal .entry))) (handed r (now (out .exit))) (memory (now (index .entry)) (now (bodies .entry)) (five (now (a .entry)) (now (b .entry)) (now (c .entry)) (now (d .entry)) (now (e .entry))) (now (journal .entry))) ⌝ }
 {
-    match target {
-        LookupTarget::Window(_) => {
-            let mut m = [0u8; follow::WINDOW];
-            look_in(index, bodies, a, b, c, d, e, journal, target, &mut m, out)
-        }
-        LookupTarget::Notification(_, _) => {
-            let mut m = [0u8; follow::NOTIFICATION];
-            look_in(index, bodies, a, b, c, d, e, journal, target, &mut m, out)
-        }
-        LookupTarget::Cell(_, _) => {
-            let mut m = [0u8; follow::ORIGINS];
-            look_in(index, bodies, a, b, c, d, e, journal, target, &mut m, out)
-        }
-        LookupTarget::Desktop => {
-            let mut m = [0u8; body::OTHER];
-            look_in(index, bodies, a, b, c, d, e, journal, target, &mut m, out)
-        }
-        LookupTarget::Windows => {
-            let mut m = [0u8; 0];
-            look_in(index, bodies, a, b, c, d, e, journal, target, &mut m, out)
-        }
-        LookupTarget::Notifications => {
-            let mut m = [0u8; 0];
-            look_in(index, bodies, a, b, c, d, e, journal, target, &mut m, out)
-        }
-        LookupTarget::Shares(_, _) => {
-            let mut m = [0u8; 0];
-            look_in(index, bodies, a, b, c, d, e, journal, target, &mut m, out)
-        }
-    }
+    let mut m = [0u8; follow::WINDOW];
+    let want = want_of(target);
+    let room = room_of(want);
+    look_in(
+        index,
+        bodies,
+        a,
+        b,
+        c,
+        d,
+        e,
+        journal,
+        want,
+        target,
+        &mut m[0..room],
+        out,
+    )
 }

@@ -97,12 +97,7 @@ pub fn figure_for(
     ensures { λ r. ⌜ (r ≡ figureFor target (now (x .entry)) (now (index .entry)) (now (bodies .entry)) (now (journal .entry)) count) × Bytes (now (x .entry)) ⌝ }
 {
     match target {
-        LookupTarget::Window(_) => none(),
-        LookupTarget::Notification(_, _) => none(),
-        LookupTarget::Cell(_, _) => none(),
         LookupTarget::Desktop => count_held(x, index, bodies, journal, count),
-        LookupTarget::Windows => none(),
-        LookupTarget::Notifications => none(),
-        LookupTarget::Shares(_, _) => none(),
+        _ => none(),
     }
 }

@@ -2,6 +2,7 @@
 ghost use Rattle.journal.specs.View.{memory, InEachStore};
 ghost use Rattle.session.specs.Outcome.{recordTo, handed, CallOutcome};
 use crate::Reply;
+use crate::extents::extent;
 use crate::replies::granted;
 use crate::replies::refused;
 
@@ -9,8 +10,7 @@ use crate::replies::refused;
 pub fn write(index: &[u8], bodies: &[u8], lent: usize, journal: &[u8], out: &mut [u8]) -> Reply
     ensures { λ r. ⌜ InEachStore lent (λ store. CallOutcome (recordTo (now (out .entry))) (memory (now (index .entry)) (now (bodies .entry)) store (now (journal .entry))) (handed r (now (out .exit))) (memory (now (index .entry)) (now (bodies .entry)) store (now (journal .entry)))) ⌝ }
 {
-    let mut d = [0u8; index::LENGTH];
-    let w = journal::extent(index, bodies, lent, journal, &mut d);
+    let w = extent(index, bodies, lent, journal);
     if w.end == 0 {
         return refused(1);
     }

@@ -4,28 +4,24 @@ use Prim.Native.Nat.{ℕ}
 use native.Mathlib.Omega.{arith}
 use lib.ListN.{replicate}
 use denote.Ref.{now}
-use borrow.Author.Tests.{not-true, not-false}
 use Rattle.wire.specs.Numbers.{Bytes}
 use Rattle.index.specs.Families.{indexLength}
 use Rattle.store.specs.Store.{five}
-use Rattle.table.specs.Table.{Table}
 use Rattle.follow.specs.Follow.{roomFor}
-use Rattle.journal.specs.State.{run}
 use Rattle.journal.specs.Journal.{logOf}
 use Rattle.journal.specs.View.{Memory, memory}
 use Rattle.journal.specs.Replay.{Validation}
-use Rattle.journal.proofs.Logged.{markedIn, logged-low, logged-high}
+use Rattle.journal.proofs.Logged.{logged-low, logged-high}
 use Rattle.journal.proofs.Indexed.{Indexed, Followed, validated-as, unmet, indexed, followed}
 use Rattle.session.specs.Outcome.{lookup}
-use Rattle.session.specs.TableFigure.{figureIn}
 use Rattle.session.specs.Targets.{wantOf}
 use Rattle.session.proofs.Outcomes.{refused-unmet}
-use Rattle.session.proofs.Found.{own-goes, figure-goes, followable, look-absent, look-hands, look-small, look-found}
+use Rattle.session.proofs.Found.{figure-goes, followable, look-refused, look-hands, look-found}
 use borrow.Author.Needs.{needs}
 use Rattle.session.proofs.lookups.look_in.Statement.{statement}
 use Rattle.session.proofs.lookups.look_in.Tie as tie
 
--- 1 where the rule is not met, 9 where the index does not list the target, 14 where the output is too small; else what m holds.
+-- 1 where the rule is not met, 9 or 14 where the index and the output say so; else what m holds.
 abbrev parts : tie.Start → List (List ℕ)
 parts u = five (now (u .args .a)) (now (u .args .b)) (now (u .args .c)) (now (u .args .d)) (now (u .args .e))
 
@@ -33,7 +29,7 @@ abbrev mem : tie.Start → Memory
 mem u = memory (now (u .args .index)) (now (u .args .bodies)) (parts u) (now (u .args .journal))
 
 abbrev start : tie.After-validate → tie.Start
-start v = v .before .before .before .before .before .before .before .before .before .before .before .before .before .before .before
+start v = v .before .before .before .before .before .before .before .before .before .before .before .before .before .before
 
 -- the index of the present table, and what is held of the target
 abbrev index : tie.After-validate → List ℕ
@@ -44,7 +40,7 @@ held v = v .validate .last .1 .1 .1 .1 .1 .1 .0
 
 validation : (v : tie.After-validate)
     → Validation (wantOf (start v .args .target)) (mem (start v)) (replicate indexLength 0) (now (start v .args .m)) (v .validate .result) (index v) (held v)
-validation v = validated-as (v .before .before .before .want-of .ensures) (v .validate .ensures (parts (start v)) (sym (v .before .before .before .before .places .ensures)))
+validation v = validated-as (start v .pre .0) (v .validate .ensures (parts (start v)) (sym (v .before .before .before .places .ensures)))
 
 index-in : (v : tie.After-validate) → (v .validate .result .end ≡ 0 → ⊥)
     → Indexed (mem (start v)) (v .validate .result) (index v) (logOf (now (start v .args .journal)))
@@ -55,67 +51,44 @@ held-in : (v : tie.After-validate) → (v .validate .result .end ≡ 0 → ⊥)
 held-in v some = followed (validation v) some
 
 journal-bytes : (v : tie.After-validate) → Bytes (now (start v .args .journal))
-journal-bytes v = record { small = λ i. omega (arith, v .before .before .before .before .before .before .before .shared-slice-known8 .given i) }
-
--- the present table
-abbrev table : tie.Start → Table
-table u = run (markedIn (mem u)) (logOf (now (u .args .journal)))
+journal-bytes v = record { small = λ i. omega (arith, v .before .before .before .before .before .before .shared-slice-known8 .given i) }
 
 pub look-in-spec : {M : Type 1} → statement M
 look-in-spec =
     tie.close
     (tie.spec
     (λ c κs. search needs)
-    (λ c κs. search needs)
     (λ c. search needs)
-    (λ c κs. (refl, c .before .before .before .before .before .before .before .before .before .before .before .before .before .before .pre ∙ ap roomFor (sym (c .before .before .want-of .ensures))))  -- validate-requires
+    (λ c κs. (refl, c .before .before .before .before .before .before .before .before .before .before .before .before .before .pre .1))  -- validate-requires
     (λ c κs. search needs)
     (λ c. search needs)
     (λ c.  -- returns
-    let x = c .before .before .before .before .before .before in
-    refused-unmet (lookup (start x .args .target) (now (start x .args .out))) (mem (start x)) refl (unmet (validation x) (c .before .if1 .taken)) (c .refused .ensures))
+    let v = c .before .before .before .before .before .before in
+    refused-unmet (lookup (start v .args .target) (now (start v .args .out))) (mem (start v)) refl (unmet (validation v) (c .before .if1 .taken)) (c .refused .ensures))
     (λ c. search needs)
     (λ c κs. search needs)
     (λ c κs. search needs)
     (λ c. search needs)
     (λ c.  -- returns-2
-    let l = c .before .before in
-    let f = l .before .before in
-    let x = f .before .before .before .before .before in
-    look-absent (index-in x (f .if1 .left)) (start x .args .target) (l .listed .ensures) (now (start x .args .out)) (held-in x (f .if1 .left))
-    (not-true (l .listed .result) (c .before .if2 .taken)) (c .refused2 .ensures))
-    (λ c κs. search needs)
-    (λ c κs. search needs)
+    let f = c .before .before .before .before in
+    let v = f .before .before .before .before .before in
+    look-refused (index-in v (f .if1 .left)) (start v .args .target) (now (start v .args .out)) (held-in v (f .if1 .left)) (c .before .before .refusal .ensures) (c .before .if2 .taken) (c .refused2 .ensures))
     (λ c. search needs)
-    (λ c.  -- returns-3
-    let l = c .before .before .before .before in
-    let f = l .before .before in
-    let x = f .before .before .before .before .before in
-    let target = start x .args .target in
-    look-small (index-in x (f .if1 .left)) target (l .listed .ensures) (now (start x .args .out)) (held-in x (f .if1 .left))
-    (not-false (l .listed .result) (c .before .before .before .if2 .left)) (figureIn (table (start x))) (own-goes (table (start x)) target) (c .before .before .size-of .ensures) (c .before .if3 .taken) (c .refused3 .ensures))
-    (λ c. search needs)
-    (λ c κs. let f = c .before .before .before .before .before .before in followable (validation (f .before .before .before .before .before)) (f .if1 .left))  -- figure-for-requires
+    (λ c κs. let f = c .before .before .before .before in followable (validation (f .before .before .before .before .before)) (f .if1 .left))  -- figure-for-requires
     (λ c. search needs)
     (λ c κs.  -- hand-out-requires
-    let l = c .before .before .before .before .before .before .before .before in
-    let f = l .before .before in
-    let x = f .before .before .before .before .before in
-    let target = start x .args .target in
-    look-hands (index-in x (f .if1 .left)) target (l .listed .ensures) (now (start x .args .out)) (held-in x (f .if1 .left))
-    (not-false (l .listed .result) (c .before .before .before .before .before .before .before .if2 .left)) (figureIn (table (start x))) (own-goes (table (start x)) target) (c .before .before .before .before .before .before .size-of .ensures) (c .before .before .before .before .before .if3 .left) (x .validate .kept .1 .1 .1 .1 .1 .1 .0 ∙ start x .pre))
+    let f = c .before .before .before .before .before .before .before .before in
+    let v = f .before .before .before .before .before in
+    look-hands (index-in v (f .if1 .left)) (start v .args .target) (now (start v .args .out)) (held-in v (f .if1 .left)) (c .before .before .before .before .before .before .refusal .ensures) (c .before .before .before .before .before .if2 .left) (v .validate .kept .1 .1 .1 .1 .1 .1 .0 ∙ start v .pre .1 ∙ ap roomFor (start v .pre .0)))
     (λ c κs.  -- granted-requires
-    let f = c .before .before .before .before .before .before .before .before .before .before .before .before .before in
+    let f = c .before .before .before .before .before .before .before .before .before .before .before in
     let g = index-in (f .before .before .before .before .before) (f .if1 .left) .logged in
     (g .few, logged-low g, logged-high g))
     (λ c. search needs)
     (λ c. search needs)
-    (λ c.  -- returns-4
-    let l = c .before .before .before .before .before .before .before .before .before .before .before .before in
-    let f = l .before .before in
-    let x = f .before .before .before .before .before in
+    (λ c.  -- returns-3
+    let f = c .before .before .before .before .before .before .before .before .before .before .before .before in
+    let v = f .before .before .before .before .before in
     let g = c .before .before .before .before .before .before .before .figure-for in
-    let target = start x .args .target in
-    look-found (index-in x (f .if1 .left)) target (l .listed .ensures) (now (start x .args .out)) (held-in x (f .if1 .left))
-    (not-false (l .listed .result) (c .before .before .before .before .before .before .before .before .before .before .before .if2 .left)) (g .result) (figure-goes (validation x) (f .if1 .left) target (journal-bytes x) (g .ensures .1) (g .ensures .0))
-    (c .before .before .before .before .before .before .before .before .before .before .size-of .ensures) (c .before .before .before .before .before .before .before .before .before .if3 .left) (c .before .before .before .hand-out .ensures) (c .granted .ensures)))
+    look-found (index-in v (f .if1 .left)) (start v .args .target) (now (start v .args .out)) (held-in v (f .if1 .left)) (c .before .before .before .before .before .before .before .before .before .before .refusal .ensures) (c .before .before .before .before .before .before .before .before .before .if2 .left) (g .result)
+    (figure-goes (validation v) (f .if1 .left) (start v .args .target) (journal-bytes v) (g .ensures .1) (g .ensures .0)) (c .before .before .before .hand-out .ensures) (c .granted .ensures)))

@@ -9,7 +9,7 @@ use borrow.Author.Needs.{needs}
 use Rattle.session.proofs.lookups.notification.Statement.{statement}
 use Rattle.session.proofs.lookups.notification.Tie as tie
 
--- The record at the start, its picture behind it, then its marks.
+-- The record at the start, its picture behind it, then its second mark.
 abbrev Hands : tie.Start → Type 0
 Hands u =
     HandsOut (Notification (u .args .w) (u .args .n)) (now (u .args .x)) (now (u .args .bodies))
@@ -31,13 +31,10 @@ notification-spec =
     (λ c. omega (arith, notification-size (hands (c .before .before .before .before .before .before .before .before .before .before .before .before .before))))
     (λ c. omega (arith, notification-size (hands (c .before .before .before .before .before .before .before .before .before .before .before .before .before))))
     (λ c κs. notification-asks (hands (c .before .before .before .before .before .before .before .before .before .before .before .before .before .before)))  -- record-requires
-    (λ c κs.  -- holder-requires
+    (λ c κs.  -- picture-requires
     let h = hands (c .before .before .before .before .before .before .before .before .before .before .before .before .before .before .before .before .before .before) in
-    ((omega (arith, h .room, c .before .before .before .«record» .kept .0), notification-icon h (c .before .before .before .before .before .before .before .icon-number .ensures)), notification-ready h))
-    (λ c. search needs)
-    (λ c κs. omega (arith, hands (c .before .before .before .before .before .before .before .before .before .before .before .before .before .before .before .before .before .before .before .before .before .before) .room, c .before .before .before .before .before .before .before .«record» .kept .0, c .before .before .before .holder .kept .0))
-    (λ c κs. omega (arith, hands (c .before .before .before .before .before .before .before .before .before .before .before .before .before .before .before .before .before .before .before .before .before .before .before .before .before .before) .room, c .before .before .before .before .before .before .before .before .before .before .before .«record» .kept .0, c .before .before .before .before .before .before .before .holder .kept .0, c .before .before .before .write-u8 .kept .0))
-    (λ c. search needs)
+    ((omega (arith, h .room, c .before .before .before .«record» .kept .0), omega (arith, h .room, c .before .before .before .«record» .kept .0), notification-icon h (c .before .before .before .before .before .before .before .icon-number .ensures)), notification-ready h))
+    (λ c κs. omega (arith, hands (c .before .before .before .before .before .before .before .before .before .before .before .before .before .before .before .before .before .before .before .before .before .before) .room, c .before .before .before .before .before .before .before .«record» .kept .0, c .before .before .before .picture .kept .0))  -- write-u8-requires
+    (λ c. omega (arith, c .before .before .before .before .before .before .before .before .before .before .«record» .kept .0, c .before .before .before .before .before .before .picture .kept .0, c .before .before .write-u8 .kept .0))  -- same-length
     (λ c.  -- returns
-    let p = c .before .before .before .before .before .before .before .before .before .before .holder .ensures in
-    notification-handed (hands (c .before .before .before .before .before .before .before .before .before .before .before .before .before .before .before .before .before .before .before .before .before .before .before .before .before .before .before .before .before)) (c .before .before .before .before .before .before .before .before .before .before .before .before .before .before .before .before .before .before .icon-number .ensures) (c .before .before .before .before .before .before .before .before .before .before .before .before .before .before .«record» .ensures) (p .0) (p .1) (c .before .before .before .before .before .before .write-u8 .ensures) (c .before .before .write-u82 .ensures)))
+    notification-handed (hands (c .before .before .before .before .before .before .before .before .before .before .before .before .before .before .before .before .before .before .before .before .before .before .before .before .before)) (c .before .before .before .before .before .before .before .before .before .before .before .before .before .before .icon-number .ensures) (c .before .before .before .before .before .before .before .before .before .before .«record» .ensures) (c .before .before .before .before .before .before .picture .ensures) (c .before .before .write-u8 .ensures)))

@@ -9,7 +9,7 @@ use borrow.Author.Needs.{needs}
 use Rattle.session.proofs.lookups.window_records.Statement.{statement}
 use Rattle.session.proofs.lookups.window_records.Tie as tie
 
--- The older fields at the start, two pictures behind them, the newer fields, a picture behind these, then the marks.
+-- The older fields at the start, two pictures behind them, the newer fields, a picture behind these.
 abbrev Hands : tie.Start → Type 0
 Hands u =
     HandsOut (Window (u .args .w)) (now (u .args .x)) (now (u .args .bodies))
@@ -33,30 +33,21 @@ window-records-spec =
     (λ c. omega (arith, window-size (hands (c .before .before .before .before .before .before .before .before .before .before .before .before))))
     (λ c. omega (arith, window-size (hands (c .before .before .before .before .before .before .before .before .before .before .before .before))))
     (λ c κs. window-asks (hands (c .before .before .before .before .before .before .before .before .before .before .before .before .before .before)))  -- window-requires
-    (λ c κs.  -- holder-requires
+    (λ c κs.  -- picture-requires
     let h = hands (c .before .before .before .before .before .before .before .before .before .before .before .before .before .before .before .before .before .before) in
-    ((omega (arith, h .room, c .before .before .before .window .kept .0), window-icon h 0 (omega arith) (c .before .before .before .before .before .before .before .icon-number .ensures)), window-ready h))
-    (λ c κs.  -- holder-requires-2
+    ((omega (arith, h .room, c .before .before .before .window .kept .0), omega (arith, h .room, c .before .before .before .window .kept .0), window-icon h 0 (omega arith) (c .before .before .before .before .before .before .before .icon-number .ensures)), window-ready h))
+    (λ c κs.  -- picture-requires-2
     let h = hands (c .before .before .before .before .before .before .before .before .before .before .before .before .before .before .before .before .before .before .before .before .before .before) in
-    ((omega (arith, h .room, c .before .before .before .before .before .before .before .window .kept .0, c .before .before .before .holder .kept .0), window-icon h 1 (omega arith) (window-big h (c .before .before .before .before .before .before .before .before .before .before .before .icon-number .ensures))), window-ready h))
+    ((omega (arith, h .room, c .before .before .before .before .before .before .before .window .kept .0, c .before .before .before .picture .kept .0), omega (arith, h .room, c .before .before .before .before .before .before .before .window .kept .0, c .before .before .before .picture .kept .0), window-icon h 1 (omega arith) (window-big h (c .before .before .before .before .before .before .before .before .before .before .before .icon-number .ensures))), window-ready h))
     (λ c κs.  -- newer-requires
     let h = hands (c .before .before .before .before .before .before .before .before .before .before .before .before .before .before .before .before .before .before .before .before .before .before .before .before .before .before) in
     let w = window-asks h in
-    ((omega (arith, h .room, c .before .before .before .before .before .before .before .before .before .before .before .window .kept .0, c .before .before .before .before .before .before .before .holder .kept .0, c .before .before .before .holder2 .kept .0), w .0 .1), w .1))
-    (λ c κs.  -- holder-requires-3
+    ((omega (arith, h .room, c .before .before .before .before .before .before .before .before .before .before .before .window .kept .0, c .before .before .before .before .before .before .before .picture .kept .0, c .before .before .before .picture2 .kept .0), w .0 .1), w .1))
+    (λ c κs.  -- picture-requires-3
     let h = hands (c .before .before .before .before .before .before .before .before .before .before .before .before .before .before .before .before .before .before .before .before .before .before .before .before .before .before .before .before .before .before) in
-    ((omega (arith, h .room, c .before .before .before .before .before .before .before .before .before .before .before .before .before .before .before .window .kept .0, c .before .before .before .before .before .before .before .before .before .before .before .holder .kept .0, c .before .before .before .before .before .before .before .holder2 .kept .0, c .before .before .before .newer .kept .0), window-icon h 2 (omega arith) (window-overlay h (c .before .before .before .before .before .before .before .before .before .before .before .before .before .before .before .before .before .before .before .icon-number .ensures))), window-ready h))
-    (λ c. search needs)
-    (λ c κs. omega (arith, hands (c .before .before .before .before .before .before .before .before .before .before .before .before .before .before .before .before .before .before .before .before .before .before .before .before .before .before .before .before .before .before .before .before .before .before) .room, c .before .before .before .before .before .before .before .before .before .before .before .before .before .before .before .before .before .before .before .window .kept .0, c .before .before .before .before .before .before .before .before .before .before .before .before .before .before .before .holder .kept .0, c .before .before .before .before .before .before .before .before .before .before .before .holder2 .kept .0, c .before .before .before .before .before .before .before .newer .kept .0, c .before .before .before .holder3 .kept .0))
-    (λ c. search needs)
-    (λ c κs. omega (arith, hands (c .before .before .before .before .before .before .before .before .before .before .before .before .before .before .before .before .before .before .before .before .before .before .before .before .before .before .before .before .before .before .before .before .before .before .before .before .before .before) .room, c .before .before .before .before .before .before .before .before .before .before .before .before .before .before .before .before .before .before .before .before .before .before .before .window .kept .0, c .before .before .before .before .before .before .before .before .before .before .before .before .before .before .before .before .before .before .before .holder .kept .0, c .before .before .before .before .before .before .before .before .before .before .before .before .before .before .before .holder2 .kept .0, c .before .before .before .before .before .before .before .before .before .before .before .newer .kept .0, c .before .before .before .before .before .before .before .holder3 .kept .0, c .before .before .before .write-u8 .kept .0))
-    (λ c. search needs)
-    (λ c κs. omega (arith, hands (c .before .before .before .before .before .before .before .before .before .before .before .before .before .before .before .before .before .before .before .before .before .before .before .before .before .before .before .before .before .before .before .before .before .before .before .before .before .before .before .before .before .before) .room, c .before .before .before .before .before .before .before .before .before .before .before .before .before .before .before .before .before .before .before .before .before .before .before .before .before .before .before .window .kept .0, c .before .before .before .before .before .before .before .before .before .before .before .before .before .before .before .before .before .before .before .before .before .before .before .holder .kept .0, c .before .before .before .before .before .before .before .before .before .before .before .before .before .before .before .before .before .before .before .holder2 .kept .0, c .before .before .before .before .before .before .before .before .before .before .before .before .before .before .before .newer .kept .0, c .before .before .before .before .before .before .before .before .before .before .before .holder3 .kept .0, c .before .before .before .before .before .before .before .write-u8 .kept .0, c .before .before .before .write-u82 .kept .0))
-    (λ c. omega (arith, c .before .before .before .before .before .before .before .before .before .before .before .before .before .before .before .before .before .before .before .before .before .before .before .before .before .before .before .before .before .before .window .kept .0, c .before .before .before .before .before .before .before .before .before .before .before .before .before .before .before .before .before .before .before .before .before .before .before .before .before .before .holder .kept .0, c .before .before .before .before .before .before .before .before .before .before .before .before .before .before .before .before .before .before .before .before .before .before .holder2 .kept .0, c .before .before .before .before .before .before .before .before .before .before .before .before .before .before .before .before .before .before .newer .kept .0, c .before .before .before .before .before .before .before .before .before .before .before .before .before .before .holder3 .kept .0, c .before .before .before .before .before .before .before .before .before .before .write-u8 .kept .0, c .before .before .before .before .before .before .write-u82 .kept .0, c .before .before .write-u83 .kept .0))  -- same-length
+    ((omega (arith, h .room, c .before .before .before .before .before .before .before .before .before .before .before .before .before .before .before .window .kept .0, c .before .before .before .before .before .before .before .before .before .before .before .picture .kept .0, c .before .before .before .before .before .before .before .picture2 .kept .0, c .before .before .before .newer .kept .0), omega (arith, h .room, c .before .before .before .before .before .before .before .before .before .before .before .before .before .before .before .window .kept .0, c .before .before .before .before .before .before .before .before .before .before .before .picture .kept .0, c .before .before .before .before .before .before .before .picture2 .kept .0, c .before .before .before .newer .kept .0), window-icon h 2 (omega arith) (window-overlay h (c .before .before .before .before .before .before .before .before .before .before .before .before .before .before .before .before .before .before .before .icon-number .ensures))), window-ready h))
+    (λ c. omega (arith, c .before .before .before .before .before .before .before .before .before .before .before .before .before .before .before .before .before .before .window .kept .0, c .before .before .before .before .before .before .before .before .before .before .before .before .before .before .picture .kept .0, c .before .before .before .before .before .before .before .before .before .before .picture2 .kept .0, c .before .before .before .before .before .before .newer .kept .0, c .before .before .picture3 .kept .0))  -- same-length
     (λ c.  -- returns
-    let h = hands (c .before .before .before .before .before .before .before .before .before .before .before .before .before .before .before .before .before .before .before .before .before .before .before .before .before .before .before .before .before .before .before .before .before .before .before .before .before .before .before .before .before .before .before .before .before) in
-    let small = c .before .before .before .before .before .before .before .before .before .before .before .before .before .before .before .before .before .before .before .before .before .before .before .before .before .before .before .before .before .before .before .before .before .before .icon-number .ensures in
-    let p = c .before .before .before .before .before .before .before .before .before .before .before .before .before .before .before .before .before .before .before .before .before .before .before .before .before .before .holder .ensures in
-    let q = c .before .before .before .before .before .before .before .before .before .before .before .before .before .before .before .before .before .before .before .before .before .before .holder2 .ensures in
-    let o = c .before .before .before .before .before .before .before .before .before .before .before .before .before .before .holder3 .ensures in
-    records-handed h small (window-big h small) (window-overlay h small) (c .before .before .before .before .before .before .before .before .before .before .before .before .before .before .before .before .before .before .before .before .before .before .before .before .before .before .before .before .before .before .window .ensures) (p .0) (p .1) (q .0) (q .1) (c .before .before .before .before .before .before .before .before .before .before .before .before .before .before .before .before .before .before .newer .ensures) (o .0) (o .1) (c .before .before .before .before .before .before .before .before .before .before .write-u8 .ensures) (c .before .before .before .before .before .before .write-u82 .ensures) (c .before .before .write-u83 .ensures)))
+    let h = hands (c .before .before .before .before .before .before .before .before .before .before .before .before .before .before .before .before .before .before .before .before .before .before .before .before .before .before .before .before .before .before .before .before .before) in
+    let small = c .before .before .before .before .before .before .before .before .before .before .before .before .before .before .before .before .before .before .before .before .before .before .icon-number .ensures in
+    records-handed h small (window-big h small) (window-overlay h small) (c .before .before .before .before .before .before .before .before .before .before .before .before .before .before .before .before .before .before .window .ensures) (c .before .before .before .before .before .before .before .before .before .before .before .before .before .before .picture .ensures) (c .before .before .before .before .before .before .before .before .before .before .picture2 .ensures) (c .before .before .before .before .before .before .newer .ensures) (c .before .before .picture3 .ensures)))
