@@ -1,13 +1,13 @@
 -- What each function over a table's memory does, by its tests: one law for each way out. Assumes nothing.
 use mathlib.Core.Path.{_≡_, refl, sym, ap, _∙_}
-use mathlib.Core.Bool.{Bool, true, false}
+use mathlib.Core.Bool.{Bool, true, false, not}
 use mathlib.Core.List.{List, [], _∷_, _++_}
 use mathlib.Core.Logic.{inl, inr}
 use Prim.Native.Nat.{ℕ, _+_, _*_, _-_, _≤_, _<_}
 use native.Mathlib.Omega.{arith}
 use lib.Dec.{eqb, ltb}
 use lib.Bits.{bitAnd}
-use lib.ListN.{length, getD, take, drop, length-take, length-drop}
+use lib.ListN.{length, getD, take, drop, length-append, length-take, length-drop}
 use lib.Seq.{take-all}
 use borrow.Author.Tests.{eqb-true, eqb-false, eq-eqb, ne-eqb, lt-ltb, le-ltb, ltb-true}
 use denote.Enum.Declared.{tagOf}
@@ -16,7 +16,7 @@ use Rattle.wire.specs.Tests.{pick, both, has}
 use Rattle.wire.specs.Parts.{splice}
 use Rattle.wire.proofs.Tests.{both-left, both-right}
 use Rattle.wire.proofs.Numbers.{num1-is}
-use Rattle.wire.proofs.Parts.{length-splice, part-back}
+use Rattle.wire.proofs.Parts.{part-back}
 use Rattle.order.specs.declared.Row.{Row}
 use Rattle.order.specs.Rows.{rowsFrom}
 use Rattle.order.specs.Icons.{partsOf}
@@ -38,10 +38,11 @@ use Rattle.body.specs.Bodies.{windowFields, notificationFields, desktopFields, 
 use Rattle.body.specs.Stores.{storeOf, preparedOf, hookedOf, syncedOf, roomAll, EndsWell}
 use Rattle.body.proofs.Slots.{window-start, window-length, slot-within, slot-after, length-slot, slot-lent, slots-back}
 use Rattle.store.specs.Store.{placeLength}
-use Rattle.picture.specs.Pictures.{headOk, headsAfter, storeAfter}
+use Rattle.picture.specs.Pictures.{headLength, headOk, headsAfter, storeAfter}
+use Rattle.table.specs.declared.Brought.{Brought}
 use Rattle.table.specs.Table.{fieldRows}
-use Rattle.table.specs.Memory.{headsOf, fixedBy, recordOk, holderOk, soundTable}
-use Rattle.table.specs.Changes.{slotAfter, slotsAfter, headsPut, desktopSlot, slotsBy, headsBy, storeBy, Able, Follows}
+use Rattle.table.specs.Memory.{headsStart, headsOf, fixedBy, recordOk, holderOk, soundTable}
+use Rattle.table.specs.Changes.{slotAfter, putsPicture, slotsAfter, headsPut, desktopSlot, slotsBy, broughtBy, headsBy, storeBy, Able, Follows}
 use Rattle.table.proofs.Heads.{desk-start, desk-length, desk-ends}
 
 lacks : (flags mask : ℕ) → bitAnd flags mask ≡ 0 → has flags mask ≡ false
@@ -109,6 +110,29 @@ module _ (b : List ℕ) (k : ℕ) {base end : ℕ} (eb : base ≡ slotStart k) (
       let e : length (take (end - base) (drop base b)) ≡ slotLength k = ap length (slot-lent b base (end - base) k eb part-is) ∙ length-slot b k (omega (arith, slot-within k l, big)) in
       omega (arith, e, h)
 
+-- a part that was lent and came back is as long
+pub part-same : (b x : List ℕ) (base end : ℕ) → base ≤ end → end ≤ length b → length x ≡ length (take (end - base) (drop base b))
+    → length (take base b ++ (x ++ drop (end - base) (drop base b))) ≡ length b
+part-same b x base end order within size =
+    let k : length (take (end - base) (drop base b)) ≡ end - base = simp (length-take, length-drop) (omega arith) in
+    let l : length x ≡ end - base = size ∙ k in
+    simp (length-append, length-take, length-drop) (omega (arith, l))
+
+module _ (s b : List ℕ) (c : Change) where
+  pub slots-deleted : c .deleted ≡ true → b ≡ slotsAfter s c b
+  unfolding slotsAfter
+  slots-deleted t = rw t
+
+  pub slots-changed : {base end : ℕ} {x : List ℕ} → c .deleted ≡ false → 61012 ≤ length b → Able s c → base ≡ slotStart (c .slot) → end ≡ slotStart (c .slot + 1)
+      → length x ≡ length (take (end - base) (drop base b)) → x ≡ slotAfter s c (take (end - base) (drop base b))
+      → take base b ++ (x ++ drop (end - base) (drop base b)) ≡ slotsAfter s c b
+  unfolding slotsAfter
+  slots-changed {base} {end} t big a eb ee size h =
+      let l : c .slot < 49 = omega (arith, a .slot) in
+      let ends = slot-within (c .slot) l in
+      slot-back b (c .slot) base (end - base) (slotAfter s c) (omega (arith, ends, big)) eb (part-is b (c .slot) eb ee) size h
+      ∙ stays (c .deleted) b (splice b (slotStart (c .slot)) (slotAfter s c (slotOf b (c .slot)))) t
+
 module _ (s b : List ℕ) (p : Plan) where
   pub plan-able : {c : Change} → p ≡ ChangeRecord c → Follows s p → Able s c
   unfolding Follows
@@ -118,21 +142,9 @@ module _ (s b : List ℕ) (p : Plan) where
   unfolding Follows
   plan-desktop e f = rw e at f
 
-  pub slots-deleted : {c : Change} → p ≡ ChangeRecord c → c .deleted ≡ true → b ≡ slotsBy s p b
-  unfolding slotsBy slotsAfter
-  slots-deleted e t = rw (e, t)
-
-  pub slots-changed : (c : Change) {base end : ℕ} {x : List ℕ} → p ≡ ChangeRecord c → c .deleted ≡ false → 61012 ≤ length b → Able s c
-      → base ≡ slotStart (c .slot) → end ≡ slotStart (c .slot + 1)
-      → length x ≡ length (take (end - base) (drop base b)) → x ≡ slotAfter s c (take (end - base) (drop base b))
-      → take base b ++ (x ++ drop (end - base) (drop base b)) ≡ slotsBy s p b
-  unfolding slotsBy slotsAfter
-  slots-changed c {base} {end} e t big a eb ee size h =
-      let l : c .slot < 49 = omega (arith, a .slot) in
-      let ends = slot-within (c .slot) l in
-      rw e
-      (slot-back b (c .slot) base (end - base) (slotAfter s c) (omega (arith, ends, big)) eb (part-is b (c .slot) eb ee) size h
-      ∙ stays (c .deleted) b (splice b (slotStart (c .slot)) (slotAfter s c (slotOf b (c .slot)))) t)
+  pub slots-record : {c : Change} {x : List ℕ} → p ≡ ChangeRecord c → x ≡ slotsAfter s c b → x ≡ slotsBy s p b
+  unfolding slotsBy
+  slots-record e f = rw e f
 
   pub slots-desktop : (flags : ℕ) {x : List ℕ} → p ≡ ChangeDesktop flags → 61012 ≤ length b
       → length x ≡ length (take 916 (drop 59200 b)) → x ≡ desktopSlot flags s (take 916 (drop 59200 b)) → take 59200 b ++ (x ++ drop 916 (drop 59200 b)) ≡ slotsBy s p b
@@ -143,50 +155,98 @@ module _ (s b : List ℕ) (p : Plan) where
   unfolding slotsBy
   slots-refused e = rw e
 
-  -- the heads that were lent and came back are as long
-  pub heads-same : (x : List ℕ) → 61012 ≤ length b → length x ≡ length (take (length b - 60116) (drop 60116 b))
-      → length (take 60116 b ++ (x ++ drop (length b - 60116) (drop 60116 b))) ≡ length b
-  heads-same x big size =
-      let w : take (length b - 60116) (drop 60116 b) ≡ drop 60116 b = take-all (length b - 60116) (drop 60116 b) (simp length-drop (omega arith)) in
-      let l : length x ≡ length b - 60116 = size ∙ ap length w ∙ length-drop 60116 b in
-      ap length (part-back b x 60116 (length b - 60116) l) ∙ length-splice b 60116 x (omega (arith, l))
+-- ---- the picture of an order
 
-  -- ---- the picture of an order
+-- as the code tells whether there is one
+pub puts-is : (c : Change) → both (not (c .deleted)) (has (c .flags) flagIcon) ≡ putsPicture c
+puts-is c = go (c .deleted)
+  where
+    go : (d : Bool) → both (not d) (has (c .flags) flagIcon) ≡ pick d false (has (c .flags) flagIcon)
+    go true = refl
+    go false = refl
 
-  module _ (store : List (List ℕ)) where
-    abbrev Put : List ℕ → List (List ℕ) → Type 0
-    Put y store' = (y ≡ headsBy s p b) × (store' ≡ storeBy s p store)
+-- a plan of another kind brings none, by its tag
+pub brings-none : (p : Plan) → OneOf (1 ∷ 2 ∷ []) (tagOf the-type p) → _≡_ {A = Brought} (record { there = false; place = 0; icon = 0 }) (broughtBy p)
+unfolding broughtBy
+brings-none (ChangeRecord c) (inl e) = absurd (omega (arith, e))
+brings-none (ChangeRecord c) (inr e) = absurd (omega (arith, e))
+brings-none (ChangeDesktop flags) k = refl
+brings-none (Refuse n) k = refl
 
-    pub put-deleted : {c : Change} → p ≡ ChangeRecord c → c .deleted ≡ true → Put b store
-    unfolding headsBy headsPut storeBy
-    put-deleted e t = (rw (e, t), rw (e, t))
+pub brings-one : {p : Plan} (c : Change) → p ≡ ChangeRecord c → {t : Bool} → t ≡ putsPicture c → _≡_ {A = Brought} (record { there = t; place = c .place; icon = c .icon }) (broughtBy p)
+unfolding broughtBy
+brings-one c e f = rw (e, f)
 
-    pub put-none : {c : Change} → p ≡ ChangeRecord c → c .deleted ≡ false → bitAnd (c .flags) flagIcon ≡ 0 → Put b store
-    unfolding headsBy headsPut storeBy
-    put-none {c} e t h = let n = lacks (c .flags) flagIcon h in (rw (e, t, n), rw (e, t, n))
+no : {A : Type 0} → _≡_ {A = Bool} false true → A
+no e = let z : _≡_ {A = ℕ} 0 1 = cc in absurd (omega arith)
 
-    pub put-there : (c : Change) {x : List ℕ} {q : List (List ℕ)} → p ≡ ChangeRecord c → c .deleted ≡ false → (bitAnd (c .flags) flagIcon ≡ 0 → ⊥)
-        → length x ≡ length (take (length b - 60116) (drop 60116 b)) → x ≡ headsAfter (take (length b - 60116) (drop 60116 b)) (c .place) s (c .icon)
-        → q ≡ storeAfter store (c .place) s (c .icon) → Put (take 60116 b ++ (x ++ drop (length b - 60116) (drop 60116 b))) q
-    unfolding headsBy headsPut storeBy headsOf
-    put-there c {x} e t h size f g =
-        let n = holds (c .flags) flagIcon h in
-        let w : take (length b - 60116) (drop 60116 b) ≡ drop 60116 b = take-all (length b - 60116) (drop 60116 b) (simp length-drop (omega arith)) in
-        let l : length x ≡ length b - 60116 = size ∙ ap length w ∙ length-drop 60116 b in
-        let k : x ≡ headsAfter (drop 60116 b) (c .place) s (c .icon) = f ∙ ap (λ (y : List ℕ). headsAfter y (c .place) s (c .icon)) w in
-        (rw (e, t, n) (part-back b x 60116 (length b - 60116) l ∙ ap (splice b 60116) k), rw (e, t, n) g)
+brings-icon : (c : Change) → putsPicture c ≡ true → bitAnd (c .flags) flagIcon ≡ 0 → ⊥
+brings-icon c t z = go (c .deleted) t
+  where
+    go : (d : Bool) → pick d false (has (c .flags) flagIcon) ≡ true → ⊥
+    go true e = no e
+    go false e = no (sym (lacks (c .flags) flagIcon z) ∙ e)
 
--- a plan of another kind, by its tag
-pub put-other : (s b : List ℕ) (p : Plan) (store : List (List ℕ)) → OneOf (1 ∷ 2 ∷ []) (tagOf the-type p) → (b ≡ headsBy s p b) × (store ≡ storeBy s p store)
-unfolding headsBy storeBy
-put-other s b (ChangeRecord c) store (inl e) = absurd (omega (arith, e))
-put-other s b (ChangeRecord c) store (inr e) = absurd (omega (arith, e))
-put-other s b (ChangeDesktop flags) store k = (refl, refl)
-put-other s b (Refuse n) store k = (refl, refl)
-
-pub icon-asks : (s : List ℕ) (c : Change) → Able s c → (bitAnd (c .flags) flagIcon ≡ 0 → ⊥)
+icon-asks : (s : List ℕ) (c : Change) → Able s c → (bitAnd (c .flags) flagIcon ≡ 0 → ⊥)
     → (c .icon ≤ length s) × (partsOf s (c .icon) .end ≡ length s) × (partsOf s (c .icon) .end - partsOf s (c .icon) .mask ≤ placeLength)
 icon-asks s c a h = let t = holds (c .flags) flagIcon h in (a .icon .low t, a .icon .end t, a .icon .bytes t)
+
+abbrev there : Brought → Bool
+there g = g .there
+
+module _ (s b : List ℕ) where
+  -- what putting it asks
+  asks-put : (p : Plan) {g : Brought} → g ≡ broughtBy p → g .there ≡ true → Follows s p → 61012 ≤ length b
+      → (headLength * g .place + headLength ≤ length (take (length b - 60116) (drop 60116 b))) × (g .icon ≤ length s) × (partsOf s (g .icon) .end ≡ length s)
+      × (partsOf s (g .icon) .end - partsOf s (g .icon) .mask ≤ placeLength)
+  unfolding Follows broughtBy
+  asks-put (ChangeRecord c) is t w big = rw is (asks (sym (ap there is) ∙ t))
+    where
+      asks : putsPicture c ≡ true
+          → (headLength * c .place + headLength ≤ length (take (length b - 60116) (drop 60116 b))) × (c .icon ≤ length s) × (partsOf s (c .icon) .end ≡ length s)
+          × (partsOf s (c .icon) .end - partsOf s (c .icon) .mask ≤ placeLength)
+      asks n =
+          let q = icon-asks s c w (brings-icon c n) in
+          let low = w .place in
+          (simp (length-take, length-drop) (omega arith), q .0, q .1, q .2)
+  asks-put (ChangeDesktop flags) is t w big = no (sym (ap there is) ∙ t)
+  asks-put (Refuse n) is t w big = no (sym (ap there is) ∙ t)
+
+  module _ (store : List (List ℕ)) where
+    abbrev Put : Plan → List ℕ → List (List ℕ) → Type 0
+    Put p y store' = (y ≡ headsBy s p b) × (store' ≡ storeBy s p store)
+
+    pub put-none : (p : Plan) {g : Brought} → g ≡ broughtBy p → g .there ≡ false → Put p b store
+    unfolding headsBy headsPut storeBy broughtBy
+    put-none (ChangeRecord c) is t = let n : putsPicture c ≡ false = sym (ap there is) ∙ t in (rw n, rw n)
+    put-none (ChangeDesktop flags) is t = (refl, refl)
+    put-none (Refuse n) is t = (refl, refl)
+
+    there-put : (p : Plan) {g : Brought} {x : List ℕ} {q : List (List ℕ)} → g ≡ broughtBy p → g .there ≡ true → 61012 ≤ length b
+        → length x ≡ length (take (length b - 60116) (drop 60116 b)) → x ≡ headsAfter (take (length b - 60116) (drop 60116 b)) (g .place) s (g .icon)
+        → q ≡ storeAfter store (g .place) s (g .icon) → Put p (take 60116 b ++ (x ++ drop (length b - 60116) (drop 60116 b))) q
+    unfolding headsBy headsPut storeBy headsOf broughtBy
+    there-put (ChangeRecord c) {g} {x} is t big size f h =
+        let n : putsPicture c ≡ true = sym (ap there is) ∙ t in
+        let w : take (length b - 60116) (drop 60116 b) ≡ drop 60116 b = take-all (length b - 60116) (drop 60116 b) (simp length-drop (omega arith)) in
+        let l : length x ≡ length b - 60116 = size ∙ ap length w ∙ length-drop 60116 b in
+        let k : x ≡ headsAfter (drop 60116 b) (c .place) s (c .icon) =
+        f ∙ ap (λ (y : List ℕ). headsAfter y (g .place) s (g .icon)) w ∙ ap (λ (g : Brought). headsAfter (drop 60116 b) (g .place) s (g .icon)) is in
+        (rw n (part-back b x 60116 (length b - 60116) l ∙ ap (splice b 60116) k), rw n (h ∙ ap (λ (g : Brought). storeAfter store (g .place) s (g .icon)) is))
+    there-put (ChangeDesktop flags) is t big size f h = no (sym (ap there is) ∙ t)
+    there-put (Refuse n) is t big size f h = no (sym (ap there is) ∙ t)
+
+  -- the heads, from where the code lends them
+  module _ {at : ℕ} (start : at ≡ headsStart) where
+    pub put-asks : (p : Plan) {g : Brought} → g ≡ broughtBy p → g .there ≡ true → Follows s p → 61012 ≤ length b
+        → (headLength * g .place + headLength ≤ length (take (length b - at) (drop at b))) × (g .icon ≤ length s) × (partsOf s (g .icon) .end ≡ length s)
+        × (partsOf s (g .icon) .end - partsOf s (g .icon) .mask ≤ placeLength)
+    put-asks p is t w big = rw start (asks-put p is t w big)
+
+    pub put-there : (store : List (List ℕ)) (p : Plan) {g : Brought} {x : List ℕ} {q : List (List ℕ)} → g ≡ broughtBy p → g .there ≡ true → 61012 ≤ length b
+        → length x ≡ length (take (length b - at) (drop at b)) → x ≡ headsAfter (take (length b - at) (drop at b)) (g .place) s (g .icon)
+        → q ≡ storeAfter store (g .place) s (g .icon) → (take at b ++ (x ++ drop (length b - at) (drop at b)) ≡ headsBy s p b) × (q ≡ storeBy s p store)
+    put-there store p is t big size f h = rw start (there-put store p is t big (rw start at size) (rw start at f) h)
 
 -- ---- soundness
 

@@ -19,6 +19,7 @@ use Rattle.body.specs.Stores.{storeOf, preparedOf, hookedOf, syncedOf, roomAll,
 use Rattle.cache.specs.Cells.{carriedPicture}
 use Rattle.store.specs.Store.{placeLength}
 use Rattle.picture.specs.Pictures.{headsAfter, storeAfter}
+use Rattle.table.specs.declared.Brought.{Brought}
 use Rattle.table.specs.Table.{fieldRows, fieldsAt}
 use Rattle.table.specs.Memory.{headsStart, headsOf}
 
@@ -47,6 +48,12 @@ unfoldable pub slotsBy : List ℕ → Plan → List ℕ → List ℕ
 slotsBy s (ChangeRecord c) bodies = slotsAfter s c bodies
 slotsBy s (ChangeDesktop flags) bodies = splice bodies (slotStart 48) (desktopSlot flags s (slotOf bodies 48))
 slotsBy s (Refuse n) bodies = bodies
+
+-- the picture that a plan puts
+unfoldable pub broughtBy : Plan → Brought
+broughtBy (ChangeRecord c) = record { there = putsPicture c; place = c .place; icon = c .icon }
+broughtBy (ChangeDesktop flags) = record { there = false; place = 0; icon = 0 }
+broughtBy (Refuse n) = record { there = false; place = 0; icon = 0 }
 
 unfoldable pub headsBy : List ℕ → Plan → List ℕ → List ℕ
 headsBy s (ChangeRecord c) bodies = headsPut s c bodies

@@ -9,7 +9,9 @@ ghost use Rattle.body.specs.Stores.{roomAll, storeOf, preparedOf, EndsWell};
 ghost use Rattle.store.specs.Store.{five};
 ghost use Rattle.table.specs.Table.{fieldRows};
 ghost use Rattle.table.specs.Memory.{bodiesLength};
-ghost use Rattle.table.specs.Changes.{slotAfter, slotsBy, headsBy, storeBy, desktopSlot, Able, Follows};
+ghost use Rattle.table.specs.Changes.{slotAfter, slotsAfter, slotsBy, broughtBy, headsBy, storeBy, desktopSlot, Able, Follows};
+use crate::Brought;
+use crate::heads_start;
 use index::Change;
 use index::Plan;
 use places::Family;
@@ -59,24 +61,49 @@ pub fn desktop_slot(slot: &mut [u8], s: &[u8], flags: u32)
     body::store(slot, s, 7, flags, 29, 31);
 }
 
+// Changes the slot that a change names, unless it deletes the record there.
+fn record_slot(bodies: &mut [u8], s: &[u8], c: Change)
+    requires { ⌜ (bodiesLength ≤ length (now bodies)) × Able (now s) c ⌝ }
+    ensures { λ _. ⌜ now (bodies .exit) ≡ slotsAfter (now (s .entry)) c (now (bodies .entry)) ⌝ }
+{
+    if c.deleted {
+        return;
+    }
+    let base = body::start(c.slot);
+    let end = body::start(c.slot + 1);
+    change_slot(&mut bodies[base..end], s, c);
+}
+
 // Changes the slots of the bodies.
 pub fn bodies(bodies: &mut [u8], s: &[u8], p: Plan)
     requires { ⌜ (bodiesLength ≤ length (now bodies)) × Follows (now s) p ⌝ }
     ensures { λ _. ⌜ now (bodies .exit) ≡ slotsBy (now (s .entry)) p (now (bodies .entry)) ⌝ }
 {
     match p {
-        Plan::ChangeRecord(c) => {
-            if c.deleted {
-                return;
-            }
-            let base = body::start(c.slot);
-            let end = body::start(c.slot + 1);
-            change_slot(&mut bodies[base..end], s, c);
-        }
+        Plan::ChangeRecord(c) => record_slot(bodies, s, c),
         Plan::ChangeDesktop(flags) => {
             desktop_slot(&mut bodies[crate::DESKTOP..crate::HEADS], s, flags)
         }
         Plan::Refuse(_) => {}
+    }
+}
+
+// The picture that a plan puts.
+fn brought(p: Plan) -> Brought
+    ensures { λ r. ⌜ r ≡ broughtBy p ⌝ }
+{
+    let Plan::ChangeRecord(c) = p else {
+        return Brought {
+            there: false,
+            place: 0,
+            icon: 0,
+        };
+    };
+    let there = !c.deleted & (c.flags & protocol::ICON != 0);
+    Brought {
+        there,
+        place: c.place,
+        icon: c.icon as usize,
     }
 }
 
@@ -95,24 +122,11 @@ pub fn pictures(
     ensures { λ _. ⌜ now (bodies .exit) ≡ headsBy (now (s .entry)) p (now (bodies .entry)) ⌝ }
     ensures { λ _. ⌜ five (now (a .exit)) (now (b .exit)) (now (c .exit)) (now (d .exit)) (now (e .exit)) ≡ storeBy (now (s .entry)) p (five (now (a .entry)) (now (b .entry)) (now (c .entry)) (now (d .entry)) (now (e .entry))) ⌝ }
 {
-    let Plan::ChangeRecord(g) = p else {
-        return;
-    };
-    if g.deleted {
+    let g = brought(p);
+    if !g.there {
         return;
     }
-    if g.flags & protocol::ICON == 0 {
-        return;
-    }
-    picture::put(
-        &mut bodies[crate::HEADS..],
-        a,
-        b,
-        c,
-        d,
-        e,
-        g.place,
-        s,
-        g.icon as usize,
-    );
+    let at = heads_start();
+    let end = bodies.len();
+    picture::put(&mut bodies[at..end], a, b, c, d, e, g.place, s, g.icon);
 }

@@ -8,7 +8,7 @@ ghost use lib.ListN.{length};
 ghost use Rattle.places.specs.Sizes.{fewestPlaces};
 ghost use Rattle.index.specs.Families.{indexLength};
 ghost use Rattle.store.specs.Store.{placesIn, five};
-ghost use Rattle.table.specs.Memory.{bodiesLength, fixedBy, soundTable};
+ghost use Rattle.table.specs.Memory.{bodiesLength, headsStart, fixedBy, soundTable};
 ghost use Rattle.table.specs.Outcome.{Emptied, Delivered};
 
 pub mod changes;
@@ -21,6 +21,20 @@ pub const BODIES: usize = 61012;
 
 // Where the slot of the desktop state begins.
 pub const DESKTOP: usize = 59200;
+
+// The picture that an order brings: whether there is one, its place, and where in the order its icon begins.
+pub struct Brought {
+    pub there: bool,
+    pub place: usize,
+    pub icon: usize,
+}
+
+// Where the heads begin, as a number that the check does not take apart.
+fn heads_start() -> usize
+    ensures { λ r. ⌜ r ≡ headsStart ⌝ }
+{
+    HEADS
+}
 
 // The number of places that emptying fixes: those lent, at most 64.
 fn fixed(lent: usize) -> u8

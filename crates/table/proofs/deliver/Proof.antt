@@ -60,7 +60,9 @@ returns c =
     let j = f .before .before in
     let v = j .before .before in
     let u = start v in
-    delivered-done (now (u .args .index)) (now (u .args .bodies)) (now (u .args .s)) (store v) (bytes v) (u .pre) (j .judge .ensures) (f .bodies .ensures) (q .pictures .ensures .0) (q .pictures .ensures .1) (y .apply .ensures) (c .number .ensures)
+    let l = q .pictures .last .1 in
+    delivered-done (now (u .args .index)) (now (u .args .bodies)) (now (u .args .s)) (store v) (bytes v) (u .pre) (j .judge .ensures)
+    {q = five (l .0) (l .1 .0) (l .1 .1 .0) (l .1 .1 .1 .0) (l .1 .1 .1 .1 .0)} (f .bodies .ensures) (q .pictures .ensures .0) (q .pictures .ensures .1) (y .apply .ensures) (c .number .ensures)
 
 pub deliver-spec : {M : Type 1} → statement M
 deliver-spec =
@@ -71,11 +73,11 @@ deliver-spec =
     pictures-requires
     apply-requires
     (λ c κs. search needs)
-    (λ c. search needs)
-    (λ c. search needs)
-    (λ c. search needs)
-    (λ c. search needs)
-    (λ c. search needs)
-    (λ c. search needs)
-    (λ c. search needs)
+    (λ c. c .before .before .before .apply .kept .0)
+    (λ c. omega (arith, c .before .before .before .before .before .before .before .before .before .before .before .before .before .before .before .before .before .pictures .kept .0, c .before .before .before .before .before .before .before .before .before .before .before .before .before .before .before .before .before .before .before .before .before .before .before .before .before .before .bodies .kept .0))
+    (λ c. c .before .before .before .before .before .before .before .before .before .before .before .before .before .before .before .before .before .pictures .kept .1 .0)
+    (λ c. c .before .before .before .before .before .before .before .before .before .before .before .before .before .before .before .before .before .pictures .kept .1 .1 .0)
+    (λ c. c .before .before .before .before .before .before .before .before .before .before .before .before .before .before .before .before .before .pictures .kept .1 .1 .1 .0)
+    (λ c. c .before .before .before .before .before .before .before .before .before .before .before .before .before .before .before .before .before .pictures .kept .1 .1 .1 .1 .0)
+    (λ c. c .before .before .before .before .before .before .before .before .before .before .before .before .before .before .before .before .before .pictures .kept .1 .1 .1 .1 .1 .0)
     returns)

@@ -1,5 +1,7 @@
 -- The index is emptied, and the desktop's slot is lent, cleared and given back.
+use Rattle.table.proofs.Ways.{part-same}
 use Rattle.table.proofs.Delivered.{emptied-done}
+use native.Mathlib.Omega.{arith}
 use denote.Ref.{now}
 use borrow.Author.Needs.{needs}
 use Rattle.table.proofs.empty.Statement.{statement}
@@ -15,8 +17,11 @@ empty-spec =
     (λ c. search needs)
     (λ c. search needs)
     (λ c κs. search needs)
-    (λ c. search needs)
-    (λ c. search needs)
+    (λ c. c .before .before .before .before .before .before .empty .kept .0)  -- same-length
+    (λ c.  -- same-length-2
+    let u = c .before .before .before .before .before .before .before .before .before .before .before in
+    let p = c .before .before .prepare in
+    part-same (now (u .args .bodies)) (p .last .0) 59200 60116 (omega arith) (omega (arith, u .pre .1)) (p .kept .0))
     (λ c.  -- returns
     let e = c .before .before .before .before .before .before in
     let u = e .before .before .before .before .before in
