@@ -11,25 +11,28 @@ pub(crate) struct Turn {
 }
 
 // The number of an answer without a message.
-fn number_of(answer: Joined) -> u8 {
+fn number_of(answer: Joined) -> u32 {
     match answer {
-        Joined::Refused(number) => number,
+        Joined::Refused(number) => number as u32,
         _ => 0,
     }
+}
+
+// Prints what the whole message, the first len bytes of the memory, reads as.
+fn whole_line(memory: &[u8], len: usize, out: &mut [u8]) -> bool {
+    if len > memory.len() {
+        return false;
+    }
+    item::read_line(b'K', &memory[0..len], out)
 }
 
 // K: joins the chunk s and prints what the whole message reads as, the refusal, or that more is awaited.
 fn chunk_call(memory: &mut [u8], s: &[u8], out: &mut [u8]) -> bool {
     let answer = chunk::join(memory, s);
     let Joined::Whole(len) = answer else {
-        let n = print::text(out, 0, b"K");
-        return item::number_line(out, n, number_of(answer));
+        return item::number_line(b'K', number_of(answer), out);
     };
-    let end = len as usize;
-    if end > memory.len() {
-        return false;
-    }
-    item::read_line(b'K', &memory[0..end], out)
+    whole_line(memory, len as usize, out)
 }
 
 // E: empties the chunk memory.
@@ -38,8 +41,15 @@ fn reset_call(memory: &mut [u8], s: &[u8], out: &mut [u8]) -> bool {
         return item::bad_item();
     }
     let number = chunk::reset(memory);
-    let n = print::text(out, 0, b"E");
-    item::number_line(out, n, number)
+    item::number_line(b'E', number as u32, out)
+}
+
+// K, E: the calls on the chunk memory as it is lent.
+fn memory_call(memory: &mut [u8], kind: u8, s: &[u8], out: &mut [u8]) -> bool {
+    if kind == b'K' {
+        return chunk_call(memory, s, out);
+    }
+    reset_call(memory, s, out)
 }
 
 // How many of len bytes are lent.
@@ -75,26 +85,28 @@ fn fault(memory: &mut [u8], s: &[u8]) -> bool {
     true
 }
 
+// A call on the chunk memory, lent what it does not lack; the next one is lent the whole again.
+fn lent_call(memory: &mut [u8], lack: usize, kind: u8, s: &[u8], out: &mut [u8]) -> Turn {
+    let n = lent(memory.len(), lack);
+    let on = memory_call(&mut memory[0..n], kind, s, out);
+    Turn { on, lack: 0 }
+}
+
+// An item that is no call on the chunk memory: the next one lacks what it lacked.
+fn other(memory: &mut [u8], kind: u8, s: &[u8], out: &mut [u8]) -> bool {
+    if kind == b'X' {
+        return fault(memory, s);
+    }
+    item::call(kind, s, out)
+}
+
 // Runs an item.
 pub(crate) fn run_item(memory: &mut [u8], lack: usize, kind: u8, s: &[u8], out: &mut [u8]) -> Turn {
     match kind {
-        b'K' => {
-            let n = lent(memory.len(), lack);
-            let on = chunk_call(&mut memory[0..n], s, out);
-            Turn { on, lack: 0 }
-        }
-        b'E' => {
-            let n = lent(memory.len(), lack);
-            let on = reset_call(&mut memory[0..n], s, out);
-            Turn { on, lack: 0 }
-        }
+        b'K' | b'E' => lent_call(memory, lack, kind, s, out),
         b'T' => shorten(s),
-        b'X' => {
-            let on = fault(memory, s);
-            Turn { on, lack }
-        }
         _ => {
-            let on = item::call(kind, s, out);
+            let on = other(memory, kind, s, out);
             Turn { on, lack }
         }
     }

@@ -3,12 +3,10 @@
 use crate::channel;
 use crate::channel::Turn;
 use crate::record;
-use crate::record::Record;
 use crate::show;
 use libc::STDERR_FILENO;
 use libc::STDIN_FILENO;
 use libc::STDOUT_FILENO;
-use pdu::Pdu;
 use pdu::Read;
 use pdu::Written;
 
@@ -30,48 +28,54 @@ fn memory_changed() -> bool {
     false
 }
 
-// The number that a read answers.
-fn number_of(answer: Read) -> u8 {
-    match answer {
-        Read::Message(_) => 0,
-        Read::Refused(number) => number,
-    }
-}
-
-pub(crate) fn number_line(out: &mut [u8], at: usize, number: u8) -> bool {
-    let n = print::field(out, at, b" ", number as u64);
+// The line of a call that answers a number alone.
+pub(crate) fn number_line(kind: u8, number: u32, out: &mut [u8]) -> bool {
+    let n = print::byte(out, 0, kind);
+    let n = print::field(out, n, b" ", number as u64);
     print::end_line(out, n)
 }
 
 // The line of a granted read: the record that words stand for, its strings in s.
-fn record_line(out: &mut [u8], at: usize, s: &[u8], words: &[u32; 12]) -> bool {
-    let n = print::text(out, at, b" 0 type=");
+fn record_line(kind: u8, words: &[u32; 12], s: &[u8], out: &mut [u8]) -> bool {
+    let n = print::byte(out, 0, kind);
+    let n = print::text(out, n, b" 0 type=");
     let n = show::record(out, n, s, words);
     print::end_line(out, n)
 }
 
-// Reads the message s and prints its record, or the refusal, after the kind of its item.
-pub(crate) fn read_line(kind: u8, s: &[u8], out: &mut [u8]) -> bool {
-    let n = print::byte(out, 0, kind);
-    let answer = pdu_read::read_pdu(s);
-    let Read::Message(p) = answer else {
-        return number_line(out, n, number_of(answer));
-    };
-    let mut words = [0u32; 12];
-    pdu_words::words_of(&mut words, p);
-    record_line(out, n, s, &words)
+fn number_of(answer: Read) -> u32 {
+    match answer {
+        Read::Message(_) => 0,
+        Read::Refused(number) => number as u32,
+    }
 }
 
-// r: the same in the counter profile.
-fn counter_line(s: &[u8], out: &mut [u8]) -> bool {
-    let n = print::byte(out, 0, b'r');
-    let mut words = [0u32; 12];
-    let number = profile::read_words(s, &mut words);
-    if number != 0 {
-        let n = print::field(out, n, b" ", number as u64);
-        return print::end_line(out, n);
+// Reads the message s by the plain rules: the number, and the words of its record where that is 0.
+fn read_plain(s: &[u8], words: &mut [u32; 12]) -> u32 {
+    let answer = pdu_read::read_pdu(s);
+    let Read::Message(p) = answer else {
+        return number_of(answer);
+    };
+    pdu_words::words_of(words, p);
+    0
+}
+
+// The same for r in the counter profile, else by the plain rules.
+fn read_words(kind: u8, s: &[u8], words: &mut [u32; 12]) -> u32 {
+    if kind == b'r' {
+        return profile::read_words(s, words);
     }
-    record_line(out, n, s, &words)
+    read_plain(s, words)
+}
+
+// Reads the message s and prints its record, or the refusal, after the kind of its item.
+pub(crate) fn read_line(kind: u8, s: &[u8], out: &mut [u8]) -> bool {
+    let mut words = [0u32; 12];
+    let number = read_words(kind, s, &mut words);
+    if number != 0 {
+        return number_line(kind, number, out);
+    }
+    record_line(kind, &words, s, out)
 }
 
 // Whether each byte from index at on is EE still.
@@ -91,8 +95,14 @@ fn refused(kind: u8, memory: &[u8], number: u8, out: &mut [u8]) -> bool {
     if !is_kept(memory, 0) {
         return memory_changed();
     }
+    number_line(kind, number as u32, out)
+}
+
+fn bytes_line(kind: u8, bytes: &[u8], out: &mut [u8]) -> bool {
     let n = print::byte(out, 0, kind);
-    number_line(out, n, number)
+    let n = print::text(out, n, b" 0 ");
+    let n = print::hex(out, n, bytes);
+    print::end_line(out, n)
 }
 
 // The line of a granted write of n bytes, which has to leave the memory past them as it was.
@@ -103,48 +113,54 @@ fn granted(kind: u8, memory: &[u8], n: usize, out: &mut [u8]) -> bool {
     if !is_kept(memory, n) {
         return memory_changed();
     }
-    let at = print::byte(out, 0, kind);
-    let at = print::text(out, at, b" 0 ");
-    let at = print::hex(out, at, &memory[0..n]);
-    print::end_line(out, at)
+    bytes_line(kind, &memory[0..n], out)
 }
 
-// Writes the record p, whose strings stand in s, to the memory lent: for P by the plain rules, for p in the counter profile.
-fn write(kind: u8, p: Pdu, s: &[u8], memory: &mut [u8]) -> Written {
-    if kind == b'P' {
-        return pdu_write::write_pdu(p, s, memory);
+// Writes the record that words stand for, its strings in s, by the plain rules.
+fn write_plain(words: &[u32; 12], s: &[u8], memory: &mut [u8]) -> Written {
+    if !pdu_words::is_record(words) {
+        return Written::Refused(8);
     }
-    let mut words = [0u32; 12];
-    pdu_words::words_of(&mut words, p);
-    profile::write_words(&words, s, memory)
+    pdu_write::write_pdu(pdu_words::record_from(words), s, memory)
 }
 
-fn write_line(kind: u8, p: Pdu, s: &[u8], memory: &mut [u8], out: &mut [u8]) -> bool {
-    match write(kind, p, s, memory) {
+// The same for p in the counter profile, else by the plain rules.
+fn write(kind: u8, words: &[u32; 12], s: &[u8], memory: &mut [u8]) -> Written {
+    if kind == b'p' {
+        return profile::write_words(words, s, memory);
+    }
+    write_plain(words, s, memory)
+}
+
+fn write_line(kind: u8, words: &[u32; 12], s: &[u8], memory: &mut [u8], out: &mut [u8]) -> bool {
+    match write(kind, words, s, memory) {
         Written::Bytes(n) => granted(kind, memory, n, out),
         Written::Refused(number) => refused(kind, memory, number, out),
     }
 }
 
-// P, p: writes the record of the payload s.
-fn write_call(kind: u8, s: &[u8], out: &mut [u8]) -> bool {
-    let Record::Whole(p) = record::read(s) else {
-        return bad_item();
-    };
-    let size = wire::read_u16(s, 0) as usize;
+// Writes to a memory of size bytes.
+fn sized_write(kind: u8, words: &[u32; 12], s: &[u8], size: usize, out: &mut [u8]) -> bool {
     if size > SIZE_MAX {
         return bad_item();
     }
     let mut memory = [0xEEu8; SIZE_MAX];
-    write_line(kind, p, s, &mut memory[0..size], out)
+    write_line(kind, words, s, &mut memory[0..size], out)
+}
+
+// P, p: writes the record of the payload s.
+fn write_call(kind: u8, s: &[u8], out: &mut [u8]) -> bool {
+    let mut words = [0u32; 12];
+    if !record::read(s, &mut words) {
+        return bad_item();
+    }
+    sized_write(kind, &words, s, wire::read_u16(s, 0) as usize, out)
 }
 
 pub(crate) fn call(kind: u8, s: &[u8], out: &mut [u8]) -> bool {
     match kind {
-        b'R' => read_line(kind, s, out),
-        b'r' => counter_line(s, out),
-        b'P' => write_call(kind, s, out),
-        b'p' => write_call(kind, s, out),
+        b'R' | b'r' => read_line(kind, s, out),
+        b'P' | b'p' => write_call(kind, s, out),
         _ => bad_item(),
     }
 }

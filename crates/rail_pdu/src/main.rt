@@ -1,6 +1,7 @@
 // Runs a call script of control messages and their chunks through the library and prints what each
 // call answers.
 mod channel;
+mod fields;
 mod item;
 mod record;
 mod show;

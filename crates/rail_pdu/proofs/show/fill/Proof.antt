@@ -1,16 +1,16 @@
--- The loop ends at the length of the template, and the memory of the line keeps its length.
+-- The loop ends at the end of the row, and the memory of the line keeps its length.
 use lib.ListN.{length}
-use borrow.Author.Needs.{needs}
 use Prim.Native.Nat.{_-_}
 use mathlib.Core.Path.{_≡_}
+use borrow.Author.Needs.{needs}
 use Rattle.rail_pdu.proofs.show.fill.Statement.{statement}
 use Rattle.rail_pdu.proofs.show.fill.Tie as tie
 
 abbrev Inv-loop : tie.InvT-loop
-Inv-loop out₀ at s words template n₀ k₀ i₀ out n k i = length out ≡ length out₀
+Inv-loop out₀ at s words from end n₀ k₀ i₀ out n k i = length out ≡ length out₀
 
 abbrev μ-loop : tie.MeasureT-loop
-μ-loop out₀ at s words template n₀ k₀ i₀ out n k i = length template - i
+μ-loop out₀ at s words from end n₀ k₀ i₀ out n k i = end - i
 
 pub fill-spec : {M : Type 1} → statement M
 fill-spec =
@@ -19,7 +19,7 @@ fill-spec =
     Inv-loop
     μ-loop
     (λ c. search needs)
-    (λ c. search needs)
+    (λ c κs. search needs)
     (λ c κs. search needs)
     (λ c κs. search needs)
     (λ c. search needs)

@@ -1,0 +1,26 @@
+-- The loop ends at the end of the rows, and asks nothing from turn to turn.
+use lib.ListN.{length}
+use Prim.Native.Nat.{_-_}
+use borrow.Author.Needs.{needs}
+use Rattle.rail_pdu.proofs.fields.row_end.Statement.{statement}
+use Rattle.rail_pdu.proofs.fields.row_end.Tie as tie
+
+abbrev Inv-loop : tie.InvT-loop
+Inv-loop rows from i₀ i = Unit {0}
+
+abbrev μ-loop : tie.MeasureT-loop
+μ-loop rows from i₀ i = length rows - i
+
+pub row-end-spec : {M : Type 1} → statement M
+row-end-spec =
+    tie.close
+    (tie.spec
+    Inv-loop
+    μ-loop
+    (λ c. tt)
+    (λ c. search needs)
+    (λ c. search needs)
+    (λ c. search needs)
+    (λ c. search needs)
+    (λ c. tt)
+    (λ c. search needs))
