@@ -1,5 +1,9 @@
 // U: a whole update, its limit before its bytes.
-use print::byte;
+use crate::calls;
+use crate::fill::numbers;
+use crate::lending;
+use crate::lending::Lending;
+use crate::lending::MEMORY;
 use print::field;
 use update::Report;
 
@@ -10,36 +14,48 @@ pub(crate) fn is_listed(len: usize) -> bool {
     LIMIT <= len
 }
 
-// What was granted, and what stands.
-fn counts(out: &mut [u8], at: usize, r: Report) -> usize {
-    let n = print::pair(out, at, b" ", r.orders as u64, b' ', r.granted as u64);
-    print::pair(out, n, b" ", r.count as u64, b' ', r.bytes as u64)
+// The bytes of the update.
+fn orders(s: &[u8]) -> &[u8] {
+    let end = s.len();
+    if end < LIMIT {
+        return &s[0..0];
+    }
+    &s[LIMIT..end]
 }
 
-// The number, and where the memory is fit the counts too.
+// The number, and where the memory is fit what was granted, and what stands.
 fn line(out: &mut [u8], r: Report) -> usize {
-    let n = byte(out, 0, b'U');
-    let n = field(out, n, b" ", r.number as u64);
+    let n = field(out, 0, b"U ", r.number as u64);
     if r.number == 1 {
         return n;
     }
-    counts(out, n, r)
+    let ns = [
+        r.orders as u64,
+        r.granted as u64,
+        r.count as u64,
+        r.bytes as u64,
+    ];
+    numbers(out, n, b" # # # #", &ns)
+}
+
+// Makes the call on a copy of the journal.
+fn update(memory: &[u8; MEMORY], journal: &mut [u8], s: &[u8], l: Lending) -> Report {
+    let limit = wire::read_u32(s, 0);
+    let lent = lending::places(memory, l);
+    let index = lending::part(memory, lending::INDEX, l);
+    let bodies = lending::part(memory, lending::BODIES, l);
+    update::update(index, bodies, lent, journal, limit, orders(s))
 }
 
 // Makes the call and lays its line, whose length it answers.
-pub(crate) fn call(
-    index: &[u8],
-    bodies: &[u8],
-    lent: usize,
-    journal: &mut [u8],
-    s: &[u8],
-    out: &mut [u8],
-) -> usize {
-    let end = s.len();
-    if end < LIMIT {
-        return 0;
-    }
-    let limit = wire::read_u32(s, 0);
-    let r = update::update(index, bodies, lent, journal, limit, &s[LIMIT..end]);
+pub(crate) fn call(memory: &mut [u8; MEMORY], s: &[u8], out: &mut [u8], l: Lending) -> usize {
+    let mut journal = calls::copy_of(memory, lending::JOURNAL);
+    let r = update(
+        memory,
+        calls::lent_of(&mut journal, lending::JOURNAL, l),
+        s,
+        l,
+    );
+    calls::put_back(memory, lending::JOURNAL, &journal);
     line(out, r)
 }

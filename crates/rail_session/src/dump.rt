@@ -3,6 +3,7 @@ ghost use Prim.Native.Nat.{_*_, _≤_};
 ghost use lib.ListN.{length};
 use crate::lending;
 use crate::lending::Lending;
+use crate::lending::MEMORY;
 use crate::lending::STORE;
 
 // The most places that are printed.
@@ -41,36 +42,35 @@ fn part(out: &mut [u8], part: &[u8], l: Laid) -> Laid {
     }
 }
 
-// Parts i and i + 1 of the store.
-fn two(out: &mut [u8], store: &[u8; STORE], i: u8, l: Lending, p: Laid) -> Laid {
-    if 4 < i {
+// Parts i and i + 1.
+fn two(out: &mut [u8], memory: &[u8; MEMORY], i: u8, l: Lending, p: Laid) -> Laid {
+    if 7 < i {
         return p;
     }
-    let p = part(out, lending::part(store, i, l), p);
-    part(out, lending::part(store, i + 1, l), p)
+    let p = part(out, lending::part(memory, i, l), p);
+    part(out, lending::part(memory, i + 1, l), p)
 }
 
-fn places(out: &mut [u8], at: usize, store: &[u8; STORE], l: Lending) -> usize {
+fn places(out: &mut [u8], at: usize, memory: &[u8; MEMORY], l: Lending) -> usize {
     let p = Laid { at, left: MOST };
-    let p = two(out, store, 0, l, p);
-    let p = two(out, store, 2, l, p);
-    let p = part(out, lending::part(store, 4, l), p);
+    let p = two(out, memory, STORE, l, p);
+    let p = two(out, memory, STORE + 2, l, p);
+    let p = part(out, lending::part(memory, STORE + 4, l), p);
     p.at
 }
 
+// The parts of the state memory.
+fn state(out: &mut [u8], at: usize, memory: &[u8; MEMORY], l: Lending) -> usize {
+    let n = print::hex(out, at, lending::part(memory, lending::INDEX, l));
+    let n = print::hex(out, n, lending::part(memory, lending::BODIES, l));
+    print::hex(out, n, lending::part(memory, lending::JOURNAL, l))
+}
+
 // The line. What the next call lacks is printed too.
-pub(crate) fn line(
-    out: &mut [u8],
-    index: &[u8],
-    bodies: &[u8],
-    journal: &[u8],
-    store: &[u8; STORE],
-    l: Lending,
-) -> bool {
+pub(crate) fn line(memory: &[u8; MEMORY], out: &mut [u8], l: Lending) -> bool {
+    let whole = lending::whole(l);
     let n = print::text(out, 0, b"Z ");
-    let n = print::hex(out, n, index);
-    let n = print::hex(out, n, bodies);
-    let n = print::hex(out, n, journal);
-    let n = places(out, n, store, lending::whole(l));
+    let n = state(out, n, memory, whole);
+    let n = places(out, n, memory, whole);
     print::end_line(out, n)
 }

@@ -1,7 +1,11 @@
 // The lookups.
 use crate::holders;
 use crate::lending;
+use crate::lending::BODIES;
+use crate::lending::INDEX;
+use crate::lending::JOURNAL;
 use crate::lending::Lending;
+use crate::lending::MEMORY;
 use crate::lending::STORE;
 use crate::lists;
 use crate::show;
@@ -10,24 +14,16 @@ use protocol::WindowId;
 use session::LookupTarget;
 use session::Reply;
 
-fn look(
-    index: &[u8],
-    bodies: &[u8],
-    journal: &[u8],
-    store: &[u8; STORE],
-    l: Lending,
-    target: LookupTarget,
-    found: &mut [u8],
-) -> Reply {
+fn look(memory: &[u8; MEMORY], l: Lending, target: LookupTarget, found: &mut [u8]) -> Reply {
     session::lookups::look(
-        index,
-        bodies,
-        lending::part(store, 0, l),
-        lending::part(store, 1, l),
-        lending::part(store, 2, l),
-        lending::part(store, 3, l),
-        lending::part(store, 4, l),
-        journal,
+        lending::part(memory, INDEX, l),
+        lending::part(memory, BODIES, l),
+        lending::part(memory, STORE, l),
+        lending::part(memory, STORE + 1, l),
+        lending::part(memory, STORE + 2, l),
+        lending::part(memory, STORE + 3, l),
+        lending::part(memory, STORE + 4, l),
+        lending::part(memory, JOURNAL, l),
         target,
         found,
     )
@@ -58,51 +54,18 @@ pub(crate) fn is_lookup(kind: u8) -> bool {
 }
 
 // W, N, C, S, H.
-pub(crate) fn call(
-    index: &[u8],
-    bodies: &[u8],
-    journal: &[u8],
-    store: &[u8; STORE],
-    kind: u8,
-    s: &[u8],
-    out: &mut [u8],
-    l: Lending,
-) -> usize {
+pub(crate) fn call(memory: &[u8; MEMORY], kind: u8, s: &[u8], out: &mut [u8], l: Lending) -> usize {
     let target = target_of(kind, s);
     let mut found = [0u8; show::FOUND];
-    let r = look(index, bodies, journal, store, l, target, &mut found);
+    let r = look(memory, l, target, &mut found);
     show::found(out, kind, r, target, &found)
 }
 
 // I: the two lists of ids.
-pub(crate) fn list_call(
-    index: &[u8],
-    bodies: &[u8],
-    journal: &[u8],
-    store: &[u8; STORE],
-    kind: u8,
-    out: &mut [u8],
-    l: Lending,
-) -> usize {
+pub(crate) fn list_call(memory: &[u8; MEMORY], kind: u8, out: &mut [u8], l: Lending) -> usize {
     let mut windows = [0u8; ids::LENGTH];
     let mut icons = [0u8; ids::LENGTH];
-    let r = look(
-        index,
-        bodies,
-        journal,
-        store,
-        l,
-        LookupTarget::Windows,
-        &mut windows,
-    );
-    look(
-        index,
-        bodies,
-        journal,
-        store,
-        l,
-        LookupTarget::Notifications,
-        &mut icons,
-    );
+    let r = look(memory, l, LookupTarget::Windows, &mut windows);
+    look(memory, l, LookupTarget::Notifications, &mut icons);
     lists::found(out, kind, r, &windows, &icons)
 }

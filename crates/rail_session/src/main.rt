@@ -3,6 +3,7 @@ mod batch;
 mod calls;
 mod dump;
 mod faults;
+mod fill;
 mod holders;
 mod item;
 mod lending;
@@ -16,18 +17,15 @@ mod turn;
 // A proved loop has to end, and nothing says that the input does: the items are counted down from
 // a number that no run uses up.
 fn run(
-    index: &mut [u8; session::INDEX],
-    bodies: &mut [u8; session::BODIES],
-    journal: &mut [u8; session::JOURNAL],
-    store: &mut [u8; lending::STORE],
+    memory: &mut [u8; lending::MEMORY],
     payload: &mut [u8; item::PAYLOAD],
     out: &mut [u8; dump::LINE],
 ) {
     let mut l = lending::first();
-    session::calls::reset(index, bodies, lending::places(store, l), journal);
+    calls::state_call(memory, b'E', l);
     let mut turns = u64::MAX;
     while turns > 0 {
-        let t = turn::next(index, bodies, journal, store, payload, out, l);
+        let t = turn::next(memory, payload, out, l);
         if !t.on {
             return;
         }
@@ -37,18 +35,8 @@ fn run(
 }
 
 fn main() {
-    let mut index = [0xEEu8; session::INDEX];
-    let mut bodies = [0xEEu8; session::BODIES];
-    let mut journal = [0xEEu8; session::JOURNAL];
-    let mut store = [0xEEu8; lending::STORE];
+    let mut memory = [0xEEu8; lending::MEMORY];
     let mut payload = [0u8; item::PAYLOAD];
     let mut out = [0u8; dump::LINE];
-    run(
-        &mut index,
-        &mut bodies,
-        &mut journal,
-        &mut store,
-        &mut payload,
-        &mut out,
-    );
+    run(&mut memory, &mut payload, &mut out);
 }

@@ -1,14 +1,17 @@
 // A picture as text: in a cell a name=value for each field, in a record the values in one.
-use print::field;
+use crate::fill::numbers;
 use print::string;
 use print::text;
 use view::PictureRecord;
 
-// Bits per pixel, width and height, each after its name.
-fn sides(out: &mut [u8], at: usize, p: PictureRecord, a: &[u8], b: &[u8], c: &[u8]) -> usize {
-    let n = field(out, at, a, p.bits as u64);
-    let n = field(out, n, b, p.width as u64);
-    field(out, n, c, p.height as u64)
+// Bits per pixel, width and height, as a template has them.
+fn sides(out: &mut [u8], at: usize, p: PictureRecord, template: &[u8]) -> usize {
+    numbers(
+        out,
+        at,
+        template,
+        &[p.bits as u64, p.width as u64, p.height as u64],
+    )
 }
 
 // Mask, color table and color, each after its name. They lie one after the other.
@@ -38,17 +41,32 @@ fn parts(out: &mut [u8], at: usize, p: PictureRecord, a: &[u8], b: &[u8], c: &[u
 // The fields of a cell.
 pub(crate) fn cell(out: &mut [u8], at: usize, bytes: &[u8]) -> usize {
     let p = view::picture(bytes);
-    let n = sides(out, at, p, b" bpp=", b" width=", b" height=");
+    let n = sides(out, at, p, b" bpp=# width=# height=#");
     parts(out, n, p, b" mask=", b" table=", b" color=")
 }
 
-// The field of an icon, which may show none.
-pub(crate) fn icon(out: &mut [u8], at: usize, name: &[u8], there: bool, bytes: &[u8]) -> usize {
-    if !there {
-        let n = text(out, at, name);
-        return text(out, n, b"none");
+// The values of the picture at index from of the bytes.
+fn values(out: &mut [u8], at: usize, bytes: &[u8], from: usize) -> usize {
+    if bytes.len() < from {
+        return at;
     }
-    let p = view::picture(bytes);
-    let n = sides(out, at, p, name, b",", b",");
+    let p = view::picture(&bytes[from..]);
+    let n = sides(out, at, p, b"#,#,#");
     parts(out, n, p, b",", b",", b",")
+}
+
+// The field of an icon, which may show none; its picture stands at index from of the bytes.
+pub(crate) fn icon(
+    out: &mut [u8],
+    at: usize,
+    name: &[u8],
+    there: bool,
+    bytes: &[u8],
+    from: usize,
+) -> usize {
+    let n = text(out, at, name);
+    if there {
+        return values(out, n, bytes, from);
+    }
+    text(out, n, b"none")
 }

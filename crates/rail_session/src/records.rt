@@ -1,4 +1,8 @@
 // The items of the session record: O writes it, V reads one.
+use crate::fill::numbers;
+use crate::lending;
+use crate::lending::Lending;
+use crate::lending::MEMORY;
 use crate::show;
 use libc::STDOUT_FILENO;
 use session::Reply;
@@ -42,16 +46,20 @@ fn write_line(out: &mut [u8], r: Reply, record: &[u8]) -> bool {
     print::end_line(out, n)
 }
 
+// The record of the state memory as it is lent, written to memory.
+fn write(state: &[u8; MEMORY], memory: &mut [u8], l: Lending) -> Reply {
+    session::records::write(
+        lending::part(state, lending::INDEX, l),
+        lending::part(state, lending::BODIES, l),
+        lending::places(state, l),
+        lending::part(state, lending::JOURNAL, l),
+        memory,
+    )
+}
+
 // A write to memory with EE in each byte. Past the bytes written it has to be as it was.
-fn write_to(
-    index: &[u8],
-    bodies: &[u8],
-    lent: usize,
-    journal: &[u8],
-    memory: &mut [u8],
-    out: &mut [u8],
-) -> bool {
-    let r = session::records::write(index, bodies, lent, journal, memory);
+fn write_to(state: &[u8; MEMORY], memory: &mut [u8], out: &mut [u8], l: Lending) -> bool {
+    let r = write(state, memory, l);
     let n = written(r);
     if n > memory.len() {
         return memory_changed();
@@ -63,17 +71,10 @@ fn write_to(
 }
 
 // O: a write to memory of the size that the payload names.
-pub(crate) fn write_call(
-    index: &[u8],
-    bodies: &[u8],
-    lent: usize,
-    journal: &[u8],
-    s: &[u8],
-    out: &mut [u8],
-) -> bool {
+pub(crate) fn write_call(state: &[u8; MEMORY], s: &[u8], out: &mut [u8], l: Lending) -> bool {
     let size = wire::read_u16(s, 0) as usize;
     let mut memory = [0xEEu8; LENT];
-    write_to(index, bodies, lent, journal, &mut memory[0..size], out)
+    write_to(state, &mut memory[0..size], out, l)
 }
 
 // The comma between bodies.
@@ -96,15 +97,19 @@ fn bodies(out: &mut [u8], at: usize, record: &[u8], count: usize) -> usize {
     n
 }
 
-// V: a record read.
-pub(crate) fn read_call(s: &[u8], out: &mut [u8]) -> bool {
+// The number of a record, and where that is 0 its bodies.
+fn contents(s: &[u8], out: &mut [u8]) -> usize {
     let c = record::inspect(s);
     let n = print::field(out, 0, b"V ", c.number as u64);
     if c.number != 0 {
-        return print::end_line(out, n);
+        return n;
     }
-    let n = print::field(out, n, b" ", c.count as u64);
-    let n = print::text(out, n, b" bodies=");
-    let n = bodies(out, n, s, c.count);
+    let n = numbers(out, n, b" # bodies=", &[c.count as u64]);
+    bodies(out, n, s, c.count)
+}
+
+// V: a record read.
+pub(crate) fn read_call(s: &[u8], out: &mut [u8]) -> bool {
+    let n = contents(s, out);
     print::end_line(out, n)
 }

@@ -1,6 +1,8 @@
 // Records as text: a name=value for each field.
+use crate::fill::fill;
+use crate::fill::numbers;
 use crate::pictures;
-use print::byte;
+use crate::pictures::icon;
 use print::field;
 use print::string;
 use print::text;
@@ -11,8 +13,6 @@ use session::Reply;
 use view::DesktopRecord;
 use view::NewerRecord;
 use view::NotificationRecord;
-use view::Pair;
-use view::Point;
 use view::Rectangles;
 use view::Stack;
 use view::Text;
@@ -42,17 +42,6 @@ const HALF: u64 = 4294967296;
 // The most bytes that a lookup hands out.
 pub(crate) const FOUND: usize = session::lookups::WINDOW;
 
-fn point(out: &mut [u8], at: usize, name: &[u8], p: Point) -> usize {
-    let n = text(out, at, name);
-    let n = print::signed(out, n, p.x);
-    let n = byte(out, n, b',');
-    print::signed(out, n, p.y)
-}
-
-fn pair(out: &mut [u8], at: usize, name: &[u8], p: Pair) -> usize {
-    print::pair(out, at, name, p.x as u64, b',', p.y as u64)
-}
-
 fn words(out: &mut [u8], at: usize, name: &[u8], t: Text) -> usize {
     let bytes = t.bytes;
     string(out, at, name, &bytes, 0, t.count as usize)
@@ -72,96 +61,104 @@ fn rectangles(out: &mut [u8], at: usize, name: &[u8], r: Rectangles) -> usize {
     sides(out, n, &list, 4 * (r.count as usize))
 }
 
-fn window_style(out: &mut [u8], at: usize, w: WindowRecord) -> usize {
-    let n = field(out, at, b" owner=", w.owner.id as u64);
-    let n = field(out, n, b" style=", w.style as u64);
-    field(out, n, b" ext=", w.extended_style as u64)
-}
-
-fn window_title(out: &mut [u8], at: usize, w: WindowRecord) -> usize {
-    let n = field(out, at, b" show=", w.show_state as u64);
+fn window_looks(out: &mut [u8], at: usize, id: WindowId, w: WindowRecord) -> usize {
+    let ns = [
+        id.id as u64,
+        w.owner.id as u64,
+        w.style as u64,
+        w.extended_style as u64,
+        w.show_state as u64,
+    ];
+    let n = numbers(out, at, b" id=# owner=# style=# ext=# show=#", &ns);
     words(out, n, b" title=", w.title)
 }
 
+fn wide(v: u32) -> u64 {
+    v as u64
+}
+
 fn margins(out: &mut [u8], at: usize, w: NewerRecord) -> usize {
-    let left = w.left_resize_margin as u64;
-    let right = w.right_resize_margin as u64;
-    let n = print::pair(out, at, b" margin_x=", left, b',', right);
-    let top = w.top_resize_margin as u64;
-    let bottom = w.bottom_resize_margin as u64;
-    print::pair(out, n, b" margin_y=", top, b',', bottom)
-}
-
-fn window_bars(out: &mut [u8], at: usize, w: NewerRecord) -> usize {
-    let n = words(out, at, b" overlay_text=", w.overlay_description);
-    let n = field(out, n, b" taskbar=", w.taskbar_button as u64);
-    field(out, n, b" server_z=", w.enforce_server_z_order as u64)
-}
-
-fn app_bar(out: &mut [u8], at: usize, w: NewerRecord) -> usize {
-    let n = field(out, at, b" app_bar=", w.app_bar_state as u64);
-    field(out, n, b" edge=", w.app_bar_edge as u64)
-}
-
-fn window_newer(out: &mut [u8], at: usize, w: NewerRecord) -> usize {
-    let n = window_bars(out, at, w);
-    app_bar(out, n, w)
+    let ns = [
+        w.left_resize_margin as u64,
+        w.right_resize_margin as u64,
+        w.top_resize_margin as u64,
+        w.bottom_resize_margin as u64,
+    ];
+    numbers(out, at, b" margin_x=#,# margin_y=#,#", &ns)
 }
 
 fn window_client(out: &mut [u8], at: usize, w: WindowRecord) -> usize {
-    let n = point(out, at, b" client=", w.client_offset);
-    let n = pair(out, n, b" client_size=", w.client_size);
-    let n = margins(out, n, w.newer);
-    field(out, n, b" rp=", w.rp_content as u64)
-}
-
-fn window_place(out: &mut [u8], at: usize, w: WindowRecord) -> usize {
-    let n = field(out, at, b" root=", w.root_parent.id as u64);
-    let n = point(out, n, b" offset=", w.window_offset);
-    point(out, n, b" delta=", w.client_delta)
-}
-
-fn window_area(out: &mut [u8], at: usize, w: WindowRecord) -> usize {
-    let n = pair(out, at, b" size=", w.window_size);
-    let n = rectangles(out, n, b" rects=", w.window_rects);
-    point(out, n, b" visible=", w.visible_offset)
-}
-
-fn window_looks(out: &mut [u8], at: usize, w: WindowRecord) -> usize {
-    let n = window_style(out, at, w);
-    let n = window_title(out, n, w);
-    window_client(out, n, w)
+    let ns = [wide(w.client_size.x), wide(w.client_size.y)];
+    let zs = [w.client_offset.x, w.client_offset.y];
+    let n = fill(out, at, b" client=~,~ client_size=#,#", &ns, &zs);
+    margins(out, n, w.newer)
 }
 
 fn window_places(out: &mut [u8], at: usize, w: WindowRecord) -> usize {
-    let n = window_place(out, at, w);
-    let n = window_area(out, n, w);
-    let n = rectangles(out, n, b" vis_rects=", w.visibility_rects);
-    window_newer(out, n, w.newer)
+    let ns = [
+        w.rp_content as u64,
+        wide(w.root_parent.id),
+        wide(w.window_size.x),
+        wide(w.window_size.y),
+    ];
+    let zs = [
+        w.window_offset.x,
+        w.window_offset.y,
+        w.client_delta.x,
+        w.client_delta.y,
+    ];
+    fill(
+        out,
+        at,
+        b" rp=# root=# offset=~,~ delta=~,~ size=#,#",
+        &ns,
+        &zs,
+    )
+}
+
+fn window_areas(out: &mut [u8], at: usize, w: WindowRecord) -> usize {
+    let zs = [w.visible_offset.x, w.visible_offset.y];
+    let n = rectangles(out, at, b" rects=", w.window_rects);
+    let n = fill(out, n, b" visible=~,~", &[0], &zs);
+    rectangles(out, n, b" vis_rects=", w.visibility_rects)
+}
+
+fn window_newer(out: &mut [u8], at: usize, w: NewerRecord) -> usize {
+    let ns = [
+        w.taskbar_button as u64,
+        w.enforce_server_z_order as u64,
+        w.app_bar_state as u64,
+        w.app_bar_edge as u64,
+    ];
+    let n = words(out, at, b" overlay_text=", w.overlay_description);
+    numbers(out, n, b" taskbar=# server_z=# app_bar=# edge=#", &ns)
 }
 
 fn window_icons(out: &mut [u8], at: usize, w: WindowRecord, bytes: &[u8; FOUND]) -> usize {
-    let all = &bytes[..];
-    let n = pictures::icon(out, at, b" small=", w.small, &all[SMALL..]);
-    let n = pictures::icon(out, n, b" big=", w.big, &all[BIG..]);
-    let newer = w.newer;
-    pictures::icon(out, n, b" overlay=", newer.overlay, &all[OVERLAY..])
+    let n = icon(out, at, b" small=", w.small, bytes, SMALL);
+    let n = icon(out, n, b" big=", w.big, bytes, BIG);
+    icon(out, n, b" overlay=", w.newer.overlay, bytes, OVERLAY)
+}
+
+fn window_fields(out: &mut [u8], at: usize, id: WindowId, w: WindowRecord) -> usize {
+    let n = window_looks(out, at, id, w);
+    let n = window_client(out, n, w);
+    let n = window_places(out, n, w);
+    let n = window_areas(out, n, w);
+    window_newer(out, n, w.newer)
 }
 
 fn window_record(out: &mut [u8], at: usize, id: WindowId, bytes: &[u8; FOUND]) -> usize {
     let w = view::window(bytes);
-    let n = field(out, at, b" id=", id.id as u64);
-    let n = window_looks(out, n, w);
-    let n = window_places(out, n, w);
+    let n = window_fields(out, at, id, w);
     let n = window_icons(out, n, w, bytes);
     field(out, n, b" pixels=", wire::read_u32(bytes, PIXELS) as u64)
 }
 
 fn notification_tip(out: &mut [u8], at: usize, r: NotificationRecord) -> usize {
-    let n = field(out, at, b" version=", r.version as u64);
-    let n = words(out, n, b" tip=", r.tip);
-    let n = field(out, n, b" timeout=", r.timeout as u64);
-    field(out, n, b" flags=", r.flags as u64)
+    let ns = [r.timeout as u64, r.flags as u64];
+    let n = words(out, at, b" tip=", r.tip);
+    numbers(out, n, b" timeout=# flags=#", &ns)
 }
 
 fn notification_text(out: &mut [u8], at: usize, r: NotificationRecord) -> usize {
@@ -174,16 +171,15 @@ fn notification_record(
     out: &mut [u8],
     at: usize,
     window: WindowId,
-    icon: NotifyIconId,
+    notify_icon: NotifyIconId,
     bytes: &[u8; FOUND],
 ) -> usize {
     let r = view::notification(bytes);
-    let n = field(out, at, b" window=", window.id as u64);
-    let n = field(out, n, b" icon=", icon.id as u64);
+    let ns = [window.id as u64, notify_icon.id as u64, r.version as u64];
+    let n = numbers(out, at, b" window=# icon=# version=#", &ns);
     let n = notification_tip(out, n, r);
     let n = notification_text(out, n, r);
-    let all = &bytes[..];
-    pictures::icon(out, n, b" picture=", r.icon, &all[ICON..])
+    icon(out, n, b" picture=", r.icon, bytes, ICON)
 }
 
 fn yes_number(b: bool) -> u64 {
@@ -215,18 +211,21 @@ fn stack(out: &mut [u8], at: usize, s: Stack) -> usize {
 }
 
 fn desktop_fields(out: &mut [u8], at: usize, d: DesktopRecord) -> usize {
-    let n = field(out, at, b" active=", d.active.id as u64);
-    let n = field(out, n, b" hooked=", yes_number(d.hooked));
-    let n = field(out, n, b" syncing=", yes_number(d.syncing));
+    let ns = [
+        d.active.id as u64,
+        yes_number(d.hooked),
+        yes_number(d.syncing),
+    ];
+    let n = numbers(out, at, b" active=# hooked=# syncing=#", &ns);
     stack(out, n, d.stack)
 }
 
 // The windows that are shown, and their pixels.
 fn figure(out: &mut [u8], at: usize, bytes: &[u8; FOUND]) -> usize {
-    let n = field(out, at, b" shown=", wire::read_u32(bytes, SHOWN) as u64);
+    let shown = wire::read_u32(bytes, SHOWN) as u64;
     let low = wire::read_u32(bytes, PIXELS_LOW) as u64;
     let high = wire::read_u32(bytes, PIXELS_HIGH) as u64;
-    field(out, n, b" pixels=", low + HALF * high)
+    numbers(out, at, b" shown=# pixels=#", &[shown, low + HALF * high])
 }
 
 fn desktop_record(out: &mut [u8], at: usize, bytes: &[u8; FOUND]) -> usize {
@@ -236,12 +235,11 @@ fn desktop_record(out: &mut [u8], at: usize, bytes: &[u8; FOUND]) -> usize {
 
 // The kind and the number, and for a granted call the count and the bytes.
 pub(crate) fn reply(out: &mut [u8], kind: u8, r: Reply) -> usize {
-    let n = byte(out, 0, kind);
-    let n = field(out, n, b" ", r.number as u64);
+    let n = field(out, 0, &[kind, b' '], r.number as u64);
     if r.number != 0 {
         return n;
     }
-    print::pair(out, n, b" ", r.count as u64, b' ', r.bytes as u64)
+    numbers(out, n, b" # #", &[r.count as u64, r.bytes as u64])
 }
 
 // The record in the bytes that were handed out.

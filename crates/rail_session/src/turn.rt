@@ -7,6 +7,7 @@ use crate::holders;
 use crate::item;
 use crate::lending;
 use crate::lending::Lending;
+use crate::lending::MEMORY;
 use crate::look;
 use crate::records;
 use crate::show;
@@ -23,61 +24,40 @@ fn bad(lending: Lending) -> Turn {
 }
 
 // Makes a call on the state memory as it is lent, and lays its line, whose length it answers.
-fn call(
-    index: &mut [u8],
-    bodies: &mut [u8],
-    journal: &mut [u8],
-    store: &mut [u8; lending::STORE],
-    kind: u8,
-    s: &[u8],
-    out: &mut [u8],
-    l: Lending,
-) -> usize {
+fn call(memory: &mut [u8; MEMORY], kind: u8, s: &[u8], out: &mut [u8], l: Lending) -> usize {
     if look::is_lookup(kind) {
-        return look::call(index, bodies, journal, store, kind, s, out, l);
+        return look::call(memory, kind, s, out, l);
     }
-    if kind == b'I' {
-        return look::list_call(index, bodies, journal, store, kind, out, l);
+    match kind {
+        b'I' => look::list_call(memory, kind, out, l),
+        b'U' => batch::call(memory, s, out, l),
+        _ => {
+            let r = calls::call(memory, kind, s, l);
+            show::reply(out, kind, r)
+        }
     }
-    if kind == b'U' {
-        return batch::call(index, bodies, lending::places(store, l), journal, s, out);
-    }
-    let r = calls::call(index, bodies, journal, store, kind, s, l);
-    show::reply(out, kind, r)
 }
 
-// A call, lent what it does not lack; the next one is lent the whole again.
-fn lent_call(
-    index: &mut [u8],
-    bodies: &mut [u8],
-    journal: &mut [u8],
-    store: &mut [u8; lending::STORE],
-    kind: u8,
-    s: &[u8],
-    out: &mut [u8],
-    l: Lending,
-) -> Turn {
-    let i = lending::lent(0, index.len(), l);
-    let b = lending::lent(1, bodies.len(), l);
-    let j = lending::lent(2, journal.len(), l);
-    let lending = lending::whole(l);
-    if kind == b'O' {
-        let places = lending::places(store, l);
-        let on = records::write_call(&index[0..i], &bodies[0..b], places, &journal[0..j], s, out);
-        return Turn { on, lending };
+// Makes the call of an item, and prints its line.
+fn line(memory: &mut [u8; MEMORY], kind: u8, s: &[u8], out: &mut [u8], l: Lending) -> bool {
+    match kind {
+        b'V' => records::read_call(s, out),
+        b'Z' => dump::line(memory, out, l),
+        b'O' => records::write_call(memory, s, out, l),
+        _ => {
+            let n = call(memory, kind, s, out, l);
+            print::end_line(out, n)
+        }
     }
-    let n = call(
-        &mut index[0..i],
-        &mut bodies[0..b],
-        &mut journal[0..j],
-        store,
-        kind,
-        s,
-        out,
-        l,
-    );
-    let on = print::end_line(out, n);
-    Turn { on, lending }
+}
+
+// What is lent after the call of an item: the whole again. V and Z are lent no state memory, so the next call still lacks what it
+// lacked.
+fn lent_after(kind: u8, l: Lending) -> Lending {
+    match kind {
+        b'V' | b'Z' => l,
+        _ => lending::whole(l),
+    }
 }
 
 // T: the next call is lent a part that is too short.
@@ -89,37 +69,9 @@ fn shorten(s: &[u8], l: Lending) -> Turn {
     Turn { on: true, lending }
 }
 
-// Changes a byte of a part. False where there is none.
-fn change(
-    index: &mut [u8],
-    bodies: &mut [u8],
-    journal: &mut [u8],
-    store: &mut [u8; lending::STORE],
-    part: u8,
-    at: usize,
-    value: u8,
-) -> bool {
-    match part {
-        0 => faults::change(index, at, value),
-        1 => faults::change(bodies, at, value),
-        2 => faults::change(journal, at, value),
-        _ => faults::change_store(store, part, at, value),
-    }
-}
-
 // X: a byte of the state memory or of the store changes.
-fn fault(
-    index: &mut [u8],
-    bodies: &mut [u8],
-    journal: &mut [u8],
-    store: &mut [u8; lending::STORE],
-    s: &[u8],
-    lending: Lending,
-) -> Turn {
-    let part = wire::read_u8(s, 0);
-    let at = wire::read_u32(s, 1) as usize;
-    let value = wire::read_u8(s, 5);
-    if change(index, bodies, journal, store, part, at, value) {
+fn fault(memory: &mut [u8; MEMORY], s: &[u8], lending: Lending) -> Turn {
+    if faults::change(memory, s) {
         return Turn { on: true, lending };
     }
     bad(lending)
@@ -134,55 +86,26 @@ fn lend(s: &[u8], l: Lending) -> Turn {
     Turn { on: true, lending }
 }
 
-// V: no state memory is lent, so the next call still lacks what it lacked.
-fn read_record(s: &[u8], out: &mut [u8], lending: Lending) -> Turn {
-    let on = records::read_call(s, out);
-    Turn { on, lending }
-}
-
-// Z: nor is it here.
-fn dumped(
-    index: &[u8],
-    bodies: &[u8],
-    journal: &[u8],
-    store: &[u8; lending::STORE],
-    out: &mut [u8],
-    lending: Lending,
-) -> Turn {
-    let on = dump::line(out, index, bodies, journal, store, lending);
-    Turn { on, lending }
-}
-
 // Runs an item.
-fn run_item(
-    index: &mut [u8],
-    bodies: &mut [u8],
-    journal: &mut [u8],
-    store: &mut [u8; lending::STORE],
-    kind: u8,
-    s: &[u8],
-    out: &mut [u8],
-    l: Lending,
-) -> Turn {
+fn run_item(memory: &mut [u8; MEMORY], kind: u8, s: &[u8], out: &mut [u8], l: Lending) -> Turn {
     if (kind == b'H') & !holders::are_listed(s) {
         return bad(l);
     }
     match kind {
         b'T' => shorten(s, l),
-        b'X' => fault(index, bodies, journal, store, s, l),
+        b'X' => fault(memory, s, l),
         b'L' => lend(s, l),
-        b'V' => read_record(s, out, l),
-        b'Z' => dumped(index, bodies, journal, store, out, l),
-        _ => lent_call(index, bodies, journal, store, kind, s, out, l),
+        _ => {
+            let on = line(memory, kind, s, out, l);
+            let lending = lent_after(kind, l);
+            Turn { on, lending }
+        }
     }
 }
 
 // Reads an item and runs it, with out as the memory of its line.
 pub(crate) fn next(
-    index: &mut [u8],
-    bodies: &mut [u8],
-    journal: &mut [u8],
-    store: &mut [u8; lending::STORE],
+    memory: &mut [u8; MEMORY],
     payload: &mut [u8],
     out: &mut [u8],
     lending: Lending,
@@ -192,14 +115,5 @@ pub(crate) fn next(
         return Turn { on: false, lending };
     }
     let len = i.len;
-    run_item(
-        index,
-        bodies,
-        journal,
-        store,
-        i.kind,
-        &payload[0..len],
-        out,
-        lending,
-    )
+    run_item(memory, i.kind, &payload[0..len], out, lending)
 }

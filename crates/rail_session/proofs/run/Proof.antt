@@ -4,10 +4,10 @@ use Rattle.rail_session.proofs.run.Statement.{statement}
 use Rattle.rail_session.proofs.run.Tie as tie
 
 abbrev Inv-loop : tie.InvT-loop
-Inv-loop index₀ bodies₀ journal₀ store₀ payload₀ out₀ l₀ turns₀ index bodies journal store payload out l turns = Unit {0}
+Inv-loop memory₀ payload₀ out₀ l₀ turns₀ memory payload out l turns = Unit {0}
 
 abbrev μ-loop : tie.MeasureT-loop
-μ-loop index₀ bodies₀ journal₀ store₀ payload₀ out₀ l₀ turns₀ index bodies journal store payload out l turns = turns
+μ-loop memory₀ payload₀ out₀ l₀ turns₀ memory payload out l turns = turns
 
 pub run-spec : {M : Type 1} → statement M
 run-spec =
@@ -15,7 +15,6 @@ run-spec =
     (tie.spec
     Inv-loop
     μ-loop
-    (λ c κs. search needs)
     (λ c κs. search needs)
     (λ c κs. search needs)
     (λ c. tt)
