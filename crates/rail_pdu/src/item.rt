@@ -4,6 +4,8 @@ use crate::channel;
 use crate::channel::Turn;
 use crate::record;
 use crate::show;
+ghost use Prim.Native.Nat.{_≤_};
+ghost use lib.ListN.{length};
 use libc::STDERR_FILENO;
 use libc::STDIN_FILENO;
 use libc::STDOUT_FILENO;
@@ -12,6 +14,13 @@ use pdu::Written;
 
 // The most output memory that an item can ask for.
 const SIZE_MAX: usize = 17408;
+
+// An item that was read: its kind and the length of its payload.
+struct Item {
+    whole: bool,
+    kind: u8,
+    len: usize,
+}
 
 // The input is no script: the line that ends a run, and on standard error how the program is used.
 pub(crate) fn bad_item() -> bool {
@@ -30,8 +39,7 @@ fn memory_changed() -> bool {
 
 // The line of a call that answers a number alone.
 pub(crate) fn number_line(kind: u8, number: u32, out: &mut [u8]) -> bool {
-    let n = print::byte(out, 0, kind);
-    let n = print::field(out, n, b" ", number as u64);
+    let n = print::field(out, 0, &[kind, b' '], number as u64);
     print::end_line(out, n)
 }
 
@@ -90,28 +98,22 @@ fn is_kept(memory: &[u8], at: usize) -> bool {
     true
 }
 
-// The line of a refused write, which has to leave the memory as it was.
-fn refused(kind: u8, memory: &[u8], number: u8, out: &mut [u8]) -> bool {
-    if !is_kept(memory, 0) {
-        return memory_changed();
-    }
-    number_line(kind, number as u32, out)
-}
-
 fn bytes_line(kind: u8, bytes: &[u8], out: &mut [u8]) -> bool {
-    let n = print::byte(out, 0, kind);
-    let n = print::text(out, n, b" 0 ");
+    let n = print::text(out, 0, &[kind, b' ', b'0', b' ']);
     let n = print::hex(out, n, bytes);
     print::end_line(out, n)
 }
 
-// The line of a granted write of n bytes, which has to leave the memory past them as it was.
-fn granted(kind: u8, memory: &[u8], n: usize, out: &mut [u8]) -> bool {
+// The line of a write of n bytes, none where it is refused: past them it has to leave the memory as it was.
+fn written(kind: u8, memory: &[u8], n: usize, number: u8, out: &mut [u8]) -> bool {
     if n > memory.len() {
         return memory_changed();
     }
     if !is_kept(memory, n) {
         return memory_changed();
+    }
+    if number != 0 {
+        return number_line(kind, number as u32, out);
     }
     bytes_line(kind, &memory[0..n], out)
 }
@@ -134,8 +136,8 @@ fn write(kind: u8, words: &[u32; 12], s: &[u8], memory: &mut [u8]) -> Written {
 
 fn write_line(kind: u8, words: &[u32; 12], s: &[u8], memory: &mut [u8], out: &mut [u8]) -> bool {
     match write(kind, words, s, memory) {
-        Written::Bytes(n) => granted(kind, memory, n, out),
-        Written::Refused(number) => refused(kind, memory, number, out),
+        Written::Bytes(n) => written(kind, memory, n, 0, out),
+        Written::Refused(number) => written(kind, memory, 0, number, out),
     }
 }
 
@@ -165,33 +167,55 @@ pub(crate) fn call(kind: u8, s: &[u8], out: &mut [u8]) -> bool {
     }
 }
 
-// The end of a run.
-fn no_turn() -> Turn {
-    Turn { on: false, lack: 0 }
+fn no_item() -> Item
+    ensures { λ r. ⌜ r .len ≤ 0 ⌝ }
+{
+    Item {
+        whole: false,
+        kind: 0,
+        len: 0,
+    }
 }
 
-fn bad_turn() -> Turn {
+fn cut_item() -> Item
+    ensures { λ r. ⌜ r .len ≤ 0 ⌝ }
+{
     bad_item();
-    no_turn()
+    no_item()
 }
 
-// Reads an item into the payload's memory and runs it, with out as the memory of its line.
-pub(crate) fn next(memory: &mut [u8], payload: &mut [u8], out: &mut [u8], lack: usize) -> Turn {
+// Reads an item, and its payload into the payload's memory.
+fn read(payload: &mut [u8]) -> Item
+    ensures { λ r. ⌜ r .len ≤ length (now (payload .exit)) ⌝ }
+{
     let mut head = [0u8; 3];
     let got = io::read_full(STDIN_FILENO, &mut head);
     if got == 0 {
-        return no_turn();
+        return no_item();
     }
-    if got < 3 {
-        return bad_turn();
-    }
-    let kind = wire::read_u8(&head, 0);
     let len = wire::read_u16(&head, 1) as usize;
+    if got < 3 {
+        return cut_item();
+    }
     if len > payload.len() {
-        return bad_turn();
+        return cut_item();
     }
     if io::read_full(STDIN_FILENO, &mut payload[0..len]) < len {
-        return bad_turn();
+        return cut_item();
     }
-    channel::run_item(memory, lack, kind, &payload[0..len], out)
+    Item {
+        whole: true,
+        kind: wire::read_u8(&head, 0),
+        len,
+    }
+}
+
+// Reads an item and runs it, with out as the memory of its line.
+pub(crate) fn next(memory: &mut [u8], payload: &mut [u8], out: &mut [u8], lack: usize) -> Turn {
+    let i = read(payload);
+    if !i.whole {
+        return Turn { on: false, lack };
+    }
+    let len = i.len;
+    channel::run_item(memory, lack, i.kind, &payload[0..len], out)
 }

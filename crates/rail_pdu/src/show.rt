@@ -17,26 +17,15 @@ fn eight_digits(out: &mut [u8], at: usize, v: u32) -> usize {
     print::hex(out, at, &bytes)
 }
 
-// Lays the field whose first word is v, where the byte b of a row stands for a number.
-fn number(out: &mut [u8], at: usize, v: u32, b: u8) -> usize {
+// Lays what the byte b of a row stands for: v is the next word, len the one after it.
+fn stand_for(out: &mut [u8], at: usize, s: &[u8], b: u8, v: u32, len: u32) -> usize {
     match b {
-        b'%' => eight_digits(out, at, v),
+        b'.' | b'?' | b':' | b'#' => print::decimal(out, at, v as u64),
         b'~' => print::signed(out, at, signs::signed32(v)),
-        _ => print::decimal(out, at, v as u64),
+        b'%' => eight_digits(out, at, v),
+        b'$' => print::string(out, at, b"", s, v as usize, len as usize),
+        _ => print::byte(out, at, b),
     }
-}
-
-// Lays what the byte b of a row stands for, k being the number of the next word.
-fn stand_for(out: &mut [u8], at: usize, s: &[u8], words: &[u32; 12], k: usize, b: u8) -> usize {
-    if fields::width(b) == 0 {
-        return print::byte(out, at, b);
-    }
-    let v = word(words, k);
-    if b != b'$' {
-        return number(out, at, v, b);
-    }
-    let len = word(words, fields::after(k, b'#'));
-    print::string(out, at, b"", s, v as usize, len as usize)
 }
 
 // Lays the row from index from to end of the rows.
@@ -46,7 +35,8 @@ fn fill(out: &mut [u8], at: usize, s: &[u8], words: &[u32; 12], from: usize, end
     let mut i = from;
     while i < end {
         let b = fields::byte(i);
-        n = stand_for(out, n, s, words, k, b);
+        let next = fields::after(k, b'#');
+        n = stand_for(out, n, s, b, word(words, k), word(words, next));
         k = fields::after(k, b);
         i += 1;
     }
