@@ -36,7 +36,7 @@ pub fn all() -> Vec<Kind> {
     let delete = || window(flags::DELETED, &[]);
     vec![
         with_delete("New window, title of 40 bytes", new()),
-        with_delete("New window, all 14 fields", new_with_all()),
+        with_delete("New window, 14 fields", new_with_all()),
         repeated(
             "Update: title of 200 bytes, 16 and 16 rectangles",
             vec![new()],
@@ -159,7 +159,7 @@ fn new_with_all() -> Order {
     of_fields(flags::NEW, &fields(60, 1))
 }
 
-/// All 14 fields, with a title and rectangles of that length.
+/// The 14 fields that there were before request No. 12, with a title and rectangles of that length.
 fn fields(title: usize, count: u16) -> [(u32, Vec<u8>); 14] {
     [
         (flags::OWNER, numbers(1)),
