@@ -260,7 +260,7 @@ static void print_found(const struct item *item) {
 
 /* T: the next call is lent a part shorter; a second one before that call takes the place of the first. */
 static int shorten(uint32_t which, size_t missing) {
-    if (which >= PARTS || missing == 0 || (which < STORE && missing > whole[which]))
+    if (which >= PARTS || missing == 0)
         return 0;
     memset(short_by, 0, sizeof short_by);
     short_by[which] = missing;

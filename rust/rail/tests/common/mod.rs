@@ -75,7 +75,7 @@ pub fn lend<'a>(
     store: &StoreLengths,
 ) -> LentSession<'a> {
     let lent = |part: usize, length: usize| match lack {
-        Some((at, missing)) if at == part => length - missing,
+        Some((at, missing)) if at == part => length.saturating_sub(missing),
         _ => length,
     };
     let [index, bodies, journal] =
