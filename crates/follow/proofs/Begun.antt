@@ -65,7 +65,7 @@ module _ (f : Family) (b m : List ℕ) (long : length m ≡ recordRoom f) where
   pub record-origins : (w : Found) (k : ℕ) → originAt (slice (beginRecord f w b m) (slotRoom f) 128) k ≡ 0
   record-origins w k = origin-cleared (copied w) (slotRoom f) (omega (arith, copied-length w)) k
 
-  slot-begun : (i : ℕ) → Within f i → 61012 ≤ length b → heldSlot f (beginRecord f (At i) b m) ≡ slotOf b i
+  pub slot-begun : (i : ℕ) → Within f i → 61012 ≤ length b → heldSlot f (beginRecord f (At i) b m) ≡ slotOf b i
   slot-begun i n big =
       let part = slice b (slotStart i) (slotRoom f) in
       let e = length-slice b (slotStart i) (slotRoom f) (room-within f b i n big) in

@@ -11,3 +11,4 @@ pub mod Handed
 pub mod HandedFigures
 pub mod Found
 pub mod HolderKinds
+pub mod TouchedStays

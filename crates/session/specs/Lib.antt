@@ -9,3 +9,4 @@ pub mod PresentFigure
 pub mod Targets
 pub mod Handing
 pub mod Packed
+pub mod Touched

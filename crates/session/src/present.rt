@@ -1,19 +1,79 @@
 // The figure of the present table: each window that its index lists is followed from the mark through the journal's orders.
 ghost use mathlib.Core.Path.{_≡_};
-ghost use Prim.Native.Nat.{_<_};
+ghost use Prim.Native.Nat.{_<_, _≤_};
+ghost use lib.ListN.{length};
 ghost use Rattle.wire.specs.Numbers.{Bytes};
 ghost use Rattle.places.specs.declared.Family.the-variants as family;
 ghost use Rattle.index.specs.Families.{capacity};
+ghost use Rattle.body.specs.Bodies.{windowFields, bodyOf, slotOf};
 ghost use Rattle.figure.specs.Figure.{pixelsOf};
+ghost use Rattle.table.specs.Memory.{bodiesLength};
+ghost use Rattle.journal.specs.Limits.{journalLength, logStart};
 ghost use Rattle.session.specs.PresentFigure.{Followable, windowHeld, heldAt, shownOne, FigureIs, figureHeld, noFigure, figureFor};
+ghost use Rattle.session.specs.Touched.{isOrderFor, touchedFrom};
 use crate::LookupTarget;
 use figure::Figure;
 use follow::Want;
 use index::slots;
+use places::Family;
+use places::Found;
+use protocol::NotifyIconId;
 use protocol::WindowId;
 
-// What the window of an id shows after the first count orders.
-fn window_held(index: &[u8], bodies: &[u8], journal: &[u8], count: usize, w: WindowId) -> Figure
+// Where the flags and the id of a window stand in an order.
+const FLAGS_AT: usize = 3;
+
+const ID_AT: usize = 7;
+
+// An order for the window of an id.
+fn is_for(s: &[u8], w: WindowId) -> bool
+    ensures { λ r. ⌜ r ≡ isOrderFor (w .id) (now (s .entry)) ⌝ }
+{
+    let flags = wire::read_u32(s, FLAGS_AT);
+    let id = wire::read_u32(s, ID_AT);
+    (flags & protocol::WINDOW != 0) & (id == w.id)
+}
+
+// Whether one of the first count orders is for the window of an id, or is cut.
+fn is_touched(journal: &[u8], count: usize, w: WindowId) -> bool
+    requires { ⌜ journalLength ≤ length (now journal) ⌝ }
+    ensures { λ r. ⌜ r ≡ touchedFrom (w .id) count logStart (now (journal .entry)) ⌝ }
+{
+    let mut p = journal::START;
+    let mut i = 0;
+    while i < count {
+        let size = wire::read_u16(journal, p + 1) as usize;
+        if journal::LENGTH - p < size {
+            return true;
+        }
+        let end = p + size;
+        if is_for(&journal[p..end], w) {
+            return true;
+        }
+        p = end;
+        i += 1;
+    }
+    false
+}
+
+// What the window in slot i of the table at the mark shows.
+fn window_marked(bodies: &[u8], i: usize) -> Figure
+    requires { ⌜ (i < capacity family.Windows) × (bodiesLength ≤ length (now bodies)) ⌝ }
+    ensures { λ r. ⌜ FigureIs r (shownOne (bodyOf windowFields (slotOf (now (bodies .entry)) i))) (pixelsOf (bodyOf windowFields (slotOf (now (bodies .entry)) i))) ⌝ }
+{
+    let from = body::start(i);
+    let to = from + body::WINDOW;
+    let slot = &bodies[from..to];
+    let shown = figure::shows(slot);
+    let pixels = figure::pixels(slot);
+    Figure {
+        windows: shown as u32,
+        pixels,
+    }
+}
+
+// What the window of an id shows after the first count orders, followed through them.
+fn window_followed(index: &[u8], bodies: &[u8], journal: &[u8], count: usize, w: WindowId) -> Figure
     requires { ⌜ Followable (now index) (now bodies) (now journal) ⌝ }
     ensures { λ r. ⌜ FigureIs r (shownOne (windowHeld (now (index .entry)) (now (bodies .entry)) (now (journal .entry)) count w)) (pixelsOf (windowHeld (now (index .entry)) (now (bodies .entry)) (now (journal .entry)) count w)) ⌝ }
 {
@@ -35,6 +95,22 @@ fn window_held(index: &[u8], bodies: &[u8], journal: &[u8], count: usize, w: Win
         windows: shown as u32,
         pixels,
     }
+}
+
+// The same. A window of the mark that none of the orders is for is as it was there.
+fn window_held(index: &[u8], bodies: &[u8], journal: &[u8], count: usize, w: WindowId) -> Figure
+    requires { ⌜ Followable (now index) (now bodies) (now journal) ⌝ }
+    ensures { λ r. ⌜ FigureIs r (shownOne (windowHeld (now (index .entry)) (now (bodies .entry)) (now (journal .entry)) count w)) (pixelsOf (windowHeld (now (index .entry)) (now (bodies .entry)) (now (journal .entry)) count w)) ⌝ }
+{
+    if is_touched(journal, count, w) {
+        return window_followed(index, bodies, journal, count, w);
+    }
+    let search = slots::find(index, Family::Windows, w, NotifyIconId { id: 0 });
+    let found = search.found;
+    let Found::At(i) = found else {
+        return window_followed(index, bodies, journal, count, w);
+    };
+    window_marked(bodies, i)
 }
 
 fn none() -> Figure
