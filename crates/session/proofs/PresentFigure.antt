@@ -108,20 +108,25 @@ present-has-figure m x journal bytes met sound same =
 
 -- ---- what the functions answer
 
+-- a slot, from the memory that it is
+pub slot-figure : {part slot : List ℕ} {shown : Bool} {p : ℕ} → part ≡ slot → shown ≡ isShown (bodyOf windowFields part)
+    → (p ≡ pixelsOf (bodyOf windowFields part)) × (p ≤ mostPoints)
+    → FigureIs (record { windows = boolByte shown; pixels = p }) (shownOne (bodyOf windowFields slot)) (pixelsOf (bodyOf windowFields slot))
+slot-figure {shown = shown} same s p =
+    record {
+      windows = counts shown .0 ∙ ap one (s ∙ ap (λ (x : List ℕ). isShown (bodyOf windowFields x)) same);
+      pixels = p .0 ∙ ap (λ (x : List ℕ). pixelsOf (bodyOf windowFields x)) same;
+      few = counts shown .1;
+      most = p .1;
+    }
+
 -- a window, from its slot
 pub window-figure : (index bodies journal : List ℕ) (n : ℕ) (w : WindowId) {e : ℕ} {d m : List ℕ} {shown : Bool} {p : ℕ}
     → Replayed (fromMark (want.Window w) index bodies journal n (replicate indexLength 0) (replicate (recordRoom family.Windows) 0)) e d m
     → shown ≡ isShown (bodyOf windowFields (heldSlot family.Windows m)) → (p ≡ pixelsOf (bodyOf windowFields (heldSlot family.Windows m))) × (p ≤ mostPoints)
     → FigureIs (record { windows = boolByte shown; pixels = p }) (shownOne (windowHeld index bodies journal n w)) (pixelsOf (windowHeld index bodies journal n w))
 unfolding windowHeld
-window-figure index bodies journal n w {shown = shown} r s p =
-    let same = ap (λ (f : List ℕ). bodyOf windowFields (heldSlot family.Windows f)) (r .followed) in
-    record {
-      windows = counts shown .0 ∙ ap one (s ∙ ap isShown same);
-      pixels = p .0 ∙ ap pixelsOf same;
-      few = counts shown .1;
-      most = p .1;
-    }
+window-figure index bodies journal n w r s p = slot-figure (ap (heldSlot family.Windows) (r .followed)) s p
 
 module _ (x index bodies journal : List ℕ) (n i : ℕ) {u : ℕ} (read : u ≡ numAt 1 x (slotAt i)) where
   used-read : {t : Bool} → isUsed x i ≡ t → (f : Body → ℕ)

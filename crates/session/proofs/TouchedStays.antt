@@ -37,15 +37,11 @@ use Rattle.index.specs.Plans.{lacksPicture, slotFor, cellFor, pointerFor, chang
 use Rattle.index.specs.Sound.{soundIndex}
 use Rattle.index.proofs.After.{plan-sound}
 use Rattle.index.proofs.Ways.{found-is}
-use Rattle.index.proofs.Soundness.{Within, found-within}
+use Rattle.index.proofs.Soundness.{never, Within, found-within}
 use Rattle.places.specs.Changes.{freePlace}
 use Rattle.body.specs.Bodies.{windowFields, bodyOf, slotStart, slotOf}
 use Rattle.figure.specs.declared.Figure.{Figure}
-use Rattle.figure.specs.Figure.{isShown, pixelsOf}
-use Rattle.figure.proofs.FigureSums.{counts}
-use Rattle.area.specs.Area.{one}
-use Rattle.area.specs.Cutting.{mostPoints}
-use mir.Val.{boolByte}
+use Rattle.figure.specs.Figure.{pixelsOf}
 use Rattle.table.specs.Changes.{Follows}
 use Rattle.table.proofs.Able.{plan-follows}
 use Rattle.follow.specs.declared.Want.the-variants as want
@@ -60,9 +56,6 @@ use Rattle.journal.specs.Replay.{Replay, indexAfter, followedAfter, stopped, re
 use Rattle.journal.proofs.Validations.{copy-sound}
 use Rattle.session.specs.PresentFigure.{windowHeld, shownOne, FigureIs}
 use Rattle.session.specs.Touched.{isOrderFor, touchedFrom}
-
-false-true : {A : Type 0} → true ≡ false → A
-false-true e = let z : _≡_ {A = ℕ} 0 1 = cc in absurd (omega arith)
 
 -- ---- one order
 
@@ -102,7 +95,7 @@ module _ (id : ℕ) (d s : List ℕ) where
       (λ same.
       let yes : eqb (numAt 4 s 7) id ≡ true = eq-eqb (numAt 4 s 7) id (sym (same ∙ own)) in
       let all : isOrderFor id s ≡ true = rw (w .kind, yes) in
-      false-true (sym all ∙ t))
+      never (sym t ∙ all))
 
   plan-other : isOrderFor id s ≡ false → Other id (planOf d s)
   unfolding planOf
@@ -150,7 +143,7 @@ module _ (w : WindowId) (n p : ℕ) (j d m : List ℕ) (bytes : Bytes j) (sound 
       → (touchedFrom (w .id) n (p + sizeAt j p) j ≡ false → heldSlot family.Windows (rest .followed) ≡ heldSlot family.Windows then)
       → heldSlot family.Windows (pick a (stopped d m) (pick c rest (stopped (indexAfter d o) then)) .followed) ≡ heldSlot family.Windows m
   one-more true b c e f ih = refl
-  one-more false true c e f ih = false-true f
+  one-more false true c e f ih = never (sym f)
   one-more false false true e f ih = ih f ∙ other-stays w d o m p own sound long e
   one-more false false false e f ih = other-stays w d o m p own sound long e
 
@@ -244,18 +237,6 @@ slot-part bodies i {from} below big is =
       omega (arith, is, room-within family.Windows bodies i n big),
       ap (λ (k : ℕ). take k (drop from bodies)) e ∙ ap (λ (k : ℕ). take 1392 (drop k bodies)) is ∙ room-slot family.Windows bodies i n,
     )
-
--- a slot's figure, from the part of the bodies that it is
-pub slot-figure : (bodies : List ℕ) (i : ℕ) {part : List ℕ} {shown : Bool} {p : ℕ} → part ≡ slotOf bodies i
-    → shown ≡ isShown (bodyOf windowFields part) → (p ≡ pixelsOf (bodyOf windowFields part)) × (p ≤ mostPoints)
-    → FigureIs (record { windows = boolByte shown; pixels = p }) (shownOne (bodyOf windowFields (slotOf bodies i))) (pixelsOf (bodyOf windowFields (slotOf bodies i)))
-slot-figure bodies i {shown = shown} same s p =
-    record {
-      windows = counts shown .0 ∙ ap one (s ∙ ap (λ (x : List ℕ). isShown (bodyOf windowFields x)) same);
-      pixels = p .0 ∙ ap (λ (x : List ℕ). pixelsOf (bodyOf windowFields x)) same;
-      few = counts shown .1;
-      most = p .1;
-    }
 
 -- what the search in the mark's index finds
 pub found-slot : (x : List ℕ) (id i : ℕ) {s : Searched} → s ≡ slots.searchOf x family.Windows id 0 → s .found ≡ At i

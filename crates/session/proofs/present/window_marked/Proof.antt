@@ -1,4 +1,5 @@
-use Rattle.session.proofs.TouchedStays.{slot-part, slot-figure}
+use Rattle.session.proofs.TouchedStays.{slot-part}
+use Rattle.session.proofs.PresentFigure.{slot-figure}
 use denote.Ref.{now}
 use native.Mathlib.Omega.{arith}
 use borrow.Author.Needs.{needs}
@@ -23,4 +24,4 @@ window-marked-spec =
     (λ c.  -- returns
     let u = c .before .before .before in
     let b = u .before .before in
-    slot-figure (now (b .args .bodies)) (b .args .i) (slot-part (now (b .args .bodies)) (b .args .i) (b .pre .0) (b .pre .1) (u .start .ensures .0) .1) (c .before .shows .ensures) (c .pixels .ensures)))
+    slot-figure (slot-part (now (b .args .bodies)) (b .args .i) (b .pre .0) (b .pre .1) (u .start .ensures .0) .1) (c .before .shows .ensures) (c .pixels .ensures)))
