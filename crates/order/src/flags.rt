@@ -21,24 +21,35 @@ pub fn in_closed(flags: u32) -> bool
 // Deleted, big or overlay icon, desktop: without one of these, an icon or a cached icon no flags clash.
 const CLASHING: u32 = 0x2410_2000;
 
+// In branches, so that most orders take the first test alone, and each kind of the others only its own tests.
 pub fn clashes(flags: u32) -> bool
     ensures { λ r. ⌜ r ≡ clash flags ⌝ }
 {
     if (flags & CLASHING == 0) & (flags & protocol::ANY_ICON == 0) {
         return false;
     }
-    ((flags & protocol::DELETED != 0) & (flags & 0xD8FF_FFFF != 0))
-        | ((flags & protocol::ICON != 0) & (flags & protocol::CACHED_ICON != 0))
-        | ((flags & protocol::WINDOW != 0)
-            & (flags & protocol::ANY_ICON != 0)
-            & (flags & 0x28EF_DFFF != 0))
-        | ((flags & protocol::BIG_ICON != 0) & !(flags & protocol::ANY_ICON != 0))
-        | ((flags & protocol::OVERLAY_ICON != 0)
-            & (!(flags & protocol::ANY_ICON != 0) | (flags & protocol::BIG_ICON != 0)))
-        | ((flags & protocol::DESKTOP != 0)
-            & (flags & protocol::DESKTOP_NONE != 0)
-            & (flags & 0xF8FF_FFFE != 0))
-        | ((flags & protocol::DESKTOP != 0)
-            & (flags & protocol::DESKTOP_ARC_COMPLETED != 0)
+    if flags & protocol::DELETED != 0 {
+        return flags & 0xD8FF_FFFF != 0;
+    }
+    if flags & protocol::ANY_ICON != 0 {
+        if (flags & protocol::ICON != 0) & (flags & protocol::CACHED_ICON != 0) {
+            return true;
+        }
+        if (flags & protocol::WINDOW != 0) & (flags & 0x28EF_DFFF != 0) {
+            return true;
+        }
+        if (flags & protocol::OVERLAY_ICON != 0) & (flags & protocol::BIG_ICON != 0) {
+            return true;
+        }
+    } else {
+        if (flags & protocol::BIG_ICON != 0) | (flags & protocol::OVERLAY_ICON != 0) {
+            return true;
+        }
+    }
+    if flags & protocol::DESKTOP == 0 {
+        return false;
+    }
+    ((flags & protocol::DESKTOP_NONE != 0) & (flags & 0xF8FF_FFFE != 0))
+        | ((flags & protocol::DESKTOP_ARC_COMPLETED != 0)
             & (flags & protocol::DESKTOP_ARC_BEGAN != 0))
 }
