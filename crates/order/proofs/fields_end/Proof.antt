@@ -1,5 +1,6 @@
 use borrow.Author.Needs.{needs}
 use Rattle.order.proofs.Verdicts.{fit-ended, fit-window, fit-notification, fit-desktop}
+use Rattle.order.specs.Rows.{windowRows, desktopRows}
 use denote.Ref.{now}
 use native.Mathlib.Omega.{arith}
 use Rattle.order.proofs.fields_end.Statement.{statement}
@@ -13,7 +14,8 @@ fields-end-spec =
     (λ c κs. search needs)
     (λ c.  -- returns
     let b = c .before .before .before .before in
-    (fit-ended (b .args .flags) (now (b .args .s)) (c .before .before .if1 .taken) (b .pre .1) (c .before .window .ensures) (c .if2 .taken), (c .if2 .taken, omega arith)))
+    let e = fit-ended windowRows (b .args .flags) (now (b .args .s)) (b .pre .1) (c .before .window .ensures) (c .if2 .taken) in
+    (fit-window (b .args .flags) (now (b .args .s)) (c .before .before .if1 .taken) e, (c .if2 .taken, omega arith)))
     (λ c κs. search needs)
     (λ c.  -- returns-2
     let a = c .before .before .before .before .before .args in
@@ -24,5 +26,10 @@ fields-end-spec =
     (fit-notification (a .flags) (now (a .s)) (c .before .before .if1 .left) (c .before .if3 .taken) (c .walk2 .ensures .0), c .walk2 .ensures .1))
     (λ c κs. search needs)
     (λ c.  -- returns-4
-    let a = c .before .before .before .before .args in
-    (fit-desktop (a .flags) (now (a .s)) (c .before .before .if1 .left) (c .before .if3 .left) (c .walk3 .ensures .0), c .walk3 .ensures .1)))
+    let b = c .before .before .before .before .before in
+    let e = fit-ended desktopRows (b .args .flags) (now (b .args .s)) (b .pre .1) (c .before .desktop .ensures) (c .if4 .taken) in
+    (fit-desktop (b .args .flags) (now (b .args .s)) (c .before .before .before .if1 .left) (c .before .before .if3 .left) e, (c .if4 .taken, omega arith)))
+    (λ c κs. search needs)
+    (λ c.  -- returns-5
+    let a = c .before .before .before .before .before .before .args in
+    (fit-desktop (a .flags) (now (a .s)) (c .before .before .before .before .if1 .left) (c .before .before .before .if3 .left) (c .walk3 .ensures .0), c .walk3 .ensures .1)))
