@@ -8,18 +8,20 @@ use lib.Dec.{eqb, ltb}
 use lib.ListN.{length, getD, set, take, drop, replicate, length-set, length-replicate, List·getD-eq-default}
 use lib.Seq.{getD-set-same, getD-set-other, drop-length}
 use borrow.Author.Tests.{eqb-true, eqb-false, eq-eqb, ne-eqb, ltb-true, ltb-false}
-use Rattle.wire.specs.Tests.{pick}
+use Rattle.wire.specs.Tests.{pick, both}
+use Rattle.wire.specs.Numbers.{numAt}
 use Rattle.wire.specs.Parts.{slice, splice}
 use Rattle.wire.proofs.Parts.{length-slice, splice-start}
-use Rattle.wire.proofs.Numbers.{num1-is, num-slice, num-zeros}
+use Rattle.wire.proofs.Tests.{both-left, both-right}
+use Rattle.wire.proofs.Numbers.{num1-is, num4-is, num-slice, num-zeros}
 use Rattle.places.specs.declared.Found.{Found}
 use Rattle.places.specs.declared.Found.the-variants.{At, Nothing}
 use Rattle.places.specs.Counts.{one, countBelow, firstFrom, onFound}
 use Rattle.places.specs.Sharing.{isOne, full}
 use Rattle.places.specs.Memory.{placesOf, pointerAt, countAt, isFree, decode, valid}
-use Rattle.places.specs.Marks.{Marked}
+use Rattle.places.specs.Marks.{noneOf, Marked}
 use Rattle.places.specs.Changes.{put, letGo, pointTo, pointAll, freePlace, takeOf, shareOf, releaseOf, releaseRecordsOf}
-use Rattle.places.proofs.Counting.{count-last, first-cong}
+use Rattle.places.proofs.Counting.{count-last, count-front, first-cong}
 use Rattle.places.proofs.Pointers.{put-put}
 use Rattle.places.proofs.Bytes.{inside, letGo-is}
 use Rattle.places.proofs.Validity.{Valid, valid-has}
@@ -29,11 +31,11 @@ use Rattle.places.proofs.Meaning.{holders, full-means, found-free}
 
 pub marks-none : (ptr : ℕ → ℕ) → Marked ptr 0 (replicate 65 0)
 unfolding countAt countBelow
-marks-none ptr v l = eq-eqb (getD (replicate 65 0) v 0) 0 (num1-is (replicate 65 0) v ∙ num-zeros 1 65 v)
+marks-none ptr v pos l = eq-eqb (getD (replicate 65 0) v 0) 0 (num1-is (replicate 65 0) v ∙ num-zeros 1 65 v)
 
 pub marks-next : (ptr : ℕ → ℕ) (ms : List ℕ) (n x : ℕ) → length ms ≡ 65 → ptr n ≡ x → x < 65 → Marked ptr n ms → Marked ptr (n + 1) (set ms x 1)
 unfolding countAt
-marks-next ptr ms n x long at-n small before v l = rw (count-last n (λ h. eqb (ptr h) v), at-n) (go (eqb x v) refl)
+marks-next ptr ms n x long at-n small before v pos l = rw (count-last n (λ h. eqb (ptr h) v), at-n) (go (eqb x v) refl)
   where
     go : (t : Bool) → eqb x v ≡ t → eqb (getD (set ms x 1) v 0) 0 ≡ eqb (countBelow n (λ h. eqb (ptr h) v) + one t) 0
     go true e =
@@ -42,7 +44,50 @@ marks-next ptr ms n x long at-n small before v l = rw (count-last n (λ h. eqb (
     go false e =
         let y : getD (set ms x 1) v 0 ≡ getD ms v 0 = getD-set-other ms x v 1 0 (λ z. eqb-false x v e (sym z)) in
         let z : countBelow n (λ h. eqb (ptr h) v) + 0 ≡ countBelow n (λ h. eqb (ptr h) v) = omega arith in
-        rw (y, z) (before v l)
+        rw (y, z) (before v pos l)
+
+-- pointers that are none mark nothing
+marks-pass : (ptr : ℕ → ℕ) (ms : List ℕ) (n m : ℕ) → n ≤ m → ((h : ℕ) → n ≤ h → h < m → ptr h ≡ 0) → Marked ptr n ms → Marked ptr m ms
+unfolding countAt
+marks-pass ptr ms n m le none before v pos l =
+    let e = count-front n m (λ h. eqb (ptr h) v) le (λ h u w. rw (none h u w) (ne-eqb 0 v (λ z. omega arith))) in
+    rw e (before v pos l)
+
+-- a number of four bytes is 0 only if each of them is
+four-none : (s : List ℕ) (at : ℕ) → numAt 4 s at ≡ 0 → (h : ℕ) → at ≤ h → h < at + 4 → getD s h 0 ≡ 0
+four-none s at e h l u = go (eqb h at) (eqb h (at + 1)) (eqb h (at + 2)) refl refl refl
+  where
+    go : (a b c : Bool) → eqb h at ≡ a → eqb h (at + 1) ≡ b → eqb h (at + 2) ≡ c → getD s h 0 ≡ 0
+    go true b c x y z = rw (eqb-true h at x) (omega (arith, num4-is s at))
+    go false true c x y z = rw (eqb-true h (at + 1) y) (omega (arith, num4-is s at))
+    go false false true x y z = rw (eqb-true h (at + 2) z) (omega (arith, num4-is s at))
+    go false false false x y z =
+        let r : h ≡ at + 3 = omega (arith, eqb-false h at x, eqb-false h (at + 1) y, eqb-false h (at + 2) z) in
+        rw r (omega (arith, num4-is s at))
+
+-- so it is in a part that is lent
+pub lent-none : (s : List ℕ) (a n i : ℕ) → i + 4 ≤ n → eqb (numAt 4 (take n (drop a s)) i) 0 ≡ true → (h : ℕ) → a + i ≤ h → h < a + i + 4 → getD s h 0 ≡ 0
+unfolding slice
+lent-none s a n i l t = four-none s (a + i) (sym (num-slice 4 s a n i l) ∙ eqb-true (numAt 4 (take n (drop a s)) i) 0 t)
+
+-- a group that is lent
+module _ (s : List ℕ) (a n : ℕ) (big : 12 ≤ n) (e : noneOf (take n (drop a s)) ≡ true) where
+  abbrev noneAt : ℕ → Bool
+  noneAt i = eqb (numAt 4 (take n (drop a s)) i) 0
+
+  group-none : (h : ℕ) → a ≤ h → h < a + 12 → getD s h 0 ≡ 0
+  group-none h l u = go (ltb h (a + 4)) (ltb h (a + 8)) refl refl
+    where
+      front : both (noneAt 0) (noneAt 4) ≡ true
+      front = both-left (both (noneAt 0) (noneAt 4)) (noneAt 8) e
+
+      go : (p q : Bool) → ltb h (a + 4) ≡ p → ltb h (a + 8) ≡ q → getD s h 0 ≡ 0
+      go true q v w = lent-none s a n 0 (omega arith) (both-left (noneAt 0) (noneAt 4) front) h (omega arith) (omega (arith, ltb-true h (a + 4) v))
+      go false true v w = lent-none s a n 4 (omega arith) (both-right (noneAt 0) (noneAt 4) front) h (omega (arith, ltb-false h (a + 4) v)) (omega (arith, ltb-true h (a + 8) w))
+      go false false v w = lent-none s a n 8 (omega arith) (both-right (both (noneAt 0) (noneAt 4)) (noneAt 8) e) h (omega (arith, ltb-false h (a + 8) w)) (omega arith)
+
+  pub marks-skip : (ms : List ℕ) → Marked (λ h. getD s h 0) a ms → Marked (λ h. getD s h 0) (a + 12) ms
+  marks-skip ms = marks-pass (λ h. getD s h 0) ms a (a + 12) (omega arith) group-none
 
 -- ---- the search
 
@@ -95,9 +140,9 @@ module _ (b : List ℕ) (long : 157 ≤ length b) where
       let s : getD (slice b 1 156) h 0 ≡ pointerAt b h = ap (λ (f : ℕ → ℕ). f h) pointers in
       omega (arith, s, v .within h, v .many)
 
-  pub lent-marked : (ms : List ℕ) → Marked (λ h. getD (take 156 (drop 1 b)) h 0) (length (take 156 (drop 1 b))) ms → Marked (pointerAt b) 156 ms
+  pub lent-marked : (ms : List ℕ) → Marked (λ h. getD (take 156 (drop 1 b)) h 0) 156 ms → Marked (pointerAt b) 156 ms
   unfolding slice
-  lent-marked ms marked v l = marked v l ∙ rw (length-slice b 1 156 (omega arith), pointers)
+  lent-marked ms marked v pos l = marked v pos l ∙ rw pointers
 
   -- all of it copied into an array of zeros
   pub copied : {x : List ℕ} → x ≡ splice (replicate 156 0) 0 (slice b 1 156) → x ≡ slice b 1 156
@@ -134,14 +179,14 @@ module _ (b : List ℕ) (long : 157 ≤ length b) where
         go v false = omega (arith, v .within h, v .many)
 
     -- the search over the marks is the search for a free place
-    pub free-found : valid b ≡ true → (ms : List ℕ) → Marked (λ h. getD (set (set x c 0) q 0) h 0) (length (set (set x c 0) q 0)) ms → {r : Found}
+    pub free-found : valid b ≡ true → (ms : List ℕ) → Marked (λ h. getD (set (set x c 0) q 0) h 0) 156 ms → {r : Found}
         → r ≡ firstFrom (getD b 0 0) 0 (λ p. eqb (getD ms (p + 1) 0) 0) → r ≡ freePlace b (c ∷ q ∷ [])
     unfolding freePlace placesOf isFree
     free-found ok ms marked s =
         let v = valid-has b ok in
         s
         ∙ first-cong (getD b 0 0) 0 (λ p. eqb (getD ms (p + 1) 0) 0) (isFree 156 (letGo (c ∷ q ∷ []) (pointerAt b)))
-        (λ p l u. marked (p + 1) (omega (arith, v .many)) ∙ rw (length-left, left-is))
+        (λ p l u. marked (p + 1) (omega arith) (omega (arith, v .many)) ∙ rw left-is)
 
 -- ---- 17
 

@@ -20,6 +20,10 @@ iconCount = 144
 abbrev pub holderCount : ℕ
 holderCount = 156
 
+-- pointers that are marked together: those of the cells, or of four records
+abbrev pub groupSize : ℕ
+groupSize = 12
+
 -- the number of places, then a pointer for each holder
 abbrev pub holdersLength : ℕ
 holdersLength = 157

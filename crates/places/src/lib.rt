@@ -6,12 +6,12 @@ ghost use mathlib.Core.List.{_∷_, []};
 ghost use Prim.Native.Nat.{ℕ, _+_, _<_, _≤_};
 ghost use lib.Dec.{eqb, ltb};
 ghost use lib.ListN.{length, getD};
-ghost use Rattle.places.specs.Sizes.{holderCount, holdersLength, mostPlaces, pointerCount};
+ghost use Rattle.places.specs.Sizes.{holderCount, holdersLength, groupSize, mostPlaces, pointerCount};
 ghost use Rattle.places.specs.Counts.{firstFrom};
 ghost use Rattle.places.specs.Sharing.{full};
 ghost use Rattle.wire.specs.Tests.{pick};
 ghost use Rattle.places.specs.Memory.{pointerAt, decode, cellsApart, valid};
-ghost use Rattle.places.specs.Marks.{Marked, Most};
+ghost use Rattle.places.specs.Marks.{noneOf, Marked, Most};
 ghost use Rattle.places.specs.Changes.{pointAll, freePlace, takeOf, shareOf, releaseOf, releaseRecordsOf};
 
 // Cells of the icon cache.
@@ -25,6 +25,11 @@ pub const ICONS: usize = 144;
 
 // Cells and icons.
 pub const HOLDERS: usize = 156;
+
+// Pointers are marked by groups, the cells and the icons of four records each: where all of a group are none, one test passes them.
+const GROUP: usize = 12;
+
+const GROUPS: usize = 13;
 
 // The bytes of the memory.
 pub const LENGTH: usize = 157;
@@ -51,22 +56,50 @@ pub enum Found {
     Nothing,
 }
 
-// A mark for each pointer that stands among some, 0 where none has it.
-fn marks_of(pointers: &[u8]) -> [u8; POINTERS]
-    requires { ⌜ ((h : ℕ) → getD (now pointers) h 0 < pointerCount) ⌝ }
-    ensures { λ r. ⌜ Marked (λ h. getD (now (pointers .entry)) h 0) (length (now (pointers .entry))) r ⌝ }
+// Whether the pointers of a group are all none.
+fn is_none(group: &[u8]) -> bool
+    ensures { λ r. ⌜ r ≡ noneOf (now (group .entry)) ⌝ }
 {
-    let mut marks = [0u8; POINTERS];
-    let mut h = 0;
-    while h < pointers.len() {
+    let a = wire::read_u32(group, 0);
+    let b = wire::read_u32(group, 4);
+    let c = wire::read_u32(group, 8);
+    (a == 0) & (b == 0) & (c == 0)
+}
+
+// Marks the pointers of a group.
+fn mark_group(marks: &mut [u8; POINTERS], pointers: &[u8], from: usize)
+    requires { ⌜ (from + groupSize ≤ length (now pointers)) × ((h : ℕ) → getD (now pointers) h 0 < pointerCount) ⌝ }
+    requires { ⌜ (length (now marks) ≡ pointerCount) × Marked (λ h. getD (now pointers) h 0) from (now marks) ⌝ }
+    ensures { λ _. ⌜ (length (now (marks .exit)) ≡ pointerCount) × Marked (λ h. getD (now (pointers .entry)) h 0) (from + groupSize) (now (marks .exit)) ⌝ }
+{
+    let end = from + GROUP;
+    let mut h = from;
+    while h < end {
         let v = pointers[h] as usize;
         marks[v] = 1;
         h += 1;
     }
+}
+
+// A mark for each pointer at a place that stands among some, 0 where it does not.
+fn marks_of(pointers: &[u8]) -> [u8; POINTERS]
+    requires { ⌜ (length (now pointers) ≡ holderCount) × ((h : ℕ) → getD (now pointers) h 0 < pointerCount) ⌝ }
+    ensures { λ r. ⌜ Marked (λ h. getD (now (pointers .entry)) h 0) holderCount r ⌝ }
+{
+    let mut marks = [0u8; POINTERS];
+    let mut g = 0;
+    while g < GROUPS {
+        let from = GROUP * g;
+        let end = from + GROUP;
+        if !is_none(&pointers[from..end]) {
+            mark_group(&mut marks, pointers, from);
+        }
+        g += 1;
+    }
     marks
 }
 
-// A mark for each pointer that a holder has.
+// A mark for each pointer at a place that a holder has.
 pub fn marks(bytes: &[u8]) -> [u8; POINTERS]
     requires { ⌜ valid (now bytes) ≡ true ⌝ }
     ensures { λ r. ⌜ Marked (pointerAt (now (bytes .entry))) holderCount r ⌝ }

@@ -59,7 +59,7 @@ module _ (x b ms : List ℕ) (sound : soundIndex x ≡ true) (marked : Marked (p
           let one = count-one 156 (λ g. eqb (pointerAt x g) (pointerAt x h)) h l (eq-eqb (pointerAt x h) (pointerAt x h) refl) in
           let c : eqb (countBelow 156 (λ g. eqb (pointerAt x g) (pointerAt x h))) 0 ≡ false = ne-eqb (countBelow 156 (λ g. eqb (pointerAt x g) (pointerAt x h))) 0 (λ z. omega (arith, one)) in
           let f : pointerAt x h - 1 + 1 ≡ pointerAt x h = omega (arith, ne) in
-          let d : eqb (getD ms (pointerAt x h - 1 + 1) 0) 0 ≡ false = ap (λ (q : ℕ). eqb (getD ms q 0) 0) f ∙ marked (pointerAt x h) (omega (arith, i, m)) ∙ c in
+          let d : eqb (getD ms (pointerAt x h - 1 + 1) 0) 0 ≡ false = ap (λ (q : ℕ). eqb (getD ms q 0) 0) f ∙ marked (pointerAt x h) (omega (arith, ne)) (omega (arith, i, m)) ∙ c in
           rw d at k
 
   -- a place that is good for each holder at it
@@ -82,7 +82,7 @@ module _ (x b ms : List ℕ) (sound : soundIndex x ≡ true) (marked : Marked (p
       go false u true f = f
       go false u false f =
           let c = count-none 156 (λ h. eqb (pointerAt x h) (p + 1)) (λ h m. none f h m (eqb (pointerAt x h) (p + 1)) refl) in
-          f ∙ sym u ∙ marked (p + 1) (omega arith) ∙ eq-eqb (countBelow 156 (λ h. eqb (pointerAt x h) (p + 1))) 0 c
+          f ∙ sym u ∙ marked (p + 1) (omega arith) (omega arith) ∙ eq-eqb (countBelow 156 (λ h. eqb (pointerAt x h) (p + 1))) 0 c
 
   pub heads-once : {r : Bool} → r ≡ eachBelow 64 (markedOk ms b) → r ≡ eachBelow 156 (holderOk x b)
   heads-once e =

@@ -1,5 +1,5 @@
 -- A copy in which both have let go has the marks of the others alone.
-use Rattle.places.proofs.Ways.{copied, left-small, free-found, valid-long, valid-first}
+use Rattle.places.proofs.Ways.{copied, length-left, left-small, free-found, valid-long, valid-first}
 use native.Mathlib.Omega.{arith}
 use denote.Ref.{now}
 use borrow.Author.Needs.{needs}
@@ -26,7 +26,8 @@ marks-of-requires c κs =
     let s = c .before .before .before .before .before in
     let b = now (s .args .bytes) in
     let l = valid-long b (s .pre .0) in
-    left-small b l (copied b l (c .before .before .copy-part .ensures)) _ _ (search needs) (search needs) (s .pre .0)
+    let e = copied b l (c .before .before .copy-part .ensures) in
+    (length-left b l e (s .args .cell) (s .args .pointer) (s .pre .1) (s .pre .2), left-small b l e (s .args .cell) (s .args .pointer) (s .pre .1) (s .pre .2) (s .pre .0))
 
 shared-slice-read-first-unmarked : tie.Need-shared-slice-read-first-unmarked
 shared-slice-read-first-unmarked c =

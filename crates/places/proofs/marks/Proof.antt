@@ -1,6 +1,7 @@
 -- The pointers lie behind the number of places.
 use Rattle.places.proofs.Ways.{lent-small, lent-marked, valid-long}
 use native.Mathlib.Omega.{arith}
+use lib.ListN.{length-take, length-drop}
 use denote.Ref.{now}
 use borrow.Author.Needs.{needs}
 use Rattle.places.proofs.marks.Statement.{statement}
@@ -18,7 +19,8 @@ marks-spec =
     (λ c κs.  -- marks-of-requires
     let u = c .before .before in
     let b = now (u .args .bytes) in
-    lent-small b (valid-long b (u .pre)) (u .pre))
+    let l = valid-long b (u .pre) in
+    (simp (length-take, length-drop) (omega arith), lent-small b l (u .pre)))
     (λ c.  -- returns
     let u = c .before .before .before in
     let b = now (u .args .bytes) in
