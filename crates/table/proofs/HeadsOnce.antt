@@ -4,20 +4,23 @@ use mathlib.Core.Bool.{Bool, true, false}
 use mathlib.Core.List.{List}
 use Prim.Native.Nat.{ℕ, _+_, _*_, _-_, _≤_, _<_}
 use native.Mathlib.Omega.{arith}
-use lib.Dec.{eqb}
+use lib.Dec.{eqb, ltb}
 use lib.ListN.{length, getD, take, drop, length-take, length-drop}
 use lib.Seq.{take-all}
-use borrow.Author.Tests.{eqb-true, eqb-false, eq-eqb, ne-eqb}
+use borrow.Author.Tests.{eqb-true, eqb-false, eq-eqb, ne-eqb, ltb-true, ltb-false}
 use Rattle.wire.specs.Tests.{pick}
+use Rattle.wire.specs.Numbers.{numAt}
+use Rattle.wire.proofs.Tests.{both-left, both-right}
 use Rattle.places.specs.Counts.{countBelow, eachBelow}
 use Rattle.places.specs.Memory.{pointerAt, countAt}
 use Rattle.places.specs.Marks.{Marked}
 use Rattle.places.proofs.Counting.{count-one, count-none, each-has, each-is}
 use Rattle.places.proofs.Validity.{valid-has}
+use Rattle.places.proofs.Ways.{lent-none}
 use Rattle.index.specs.Sound.{soundIndex}
 use Rattle.index.proofs.Soundness.{sound-has}
 use Rattle.picture.specs.Pictures.{headOk}
-use Rattle.table.specs.Memory.{headsOf, holderOk, markedOk}
+use Rattle.table.specs.Memory.{headsOf, holderOk, markedOk, unmarked}
 
 -- ---- one place
 
@@ -34,6 +37,19 @@ module _ (ms b : List ℕ) (p : ℕ) where
   marked-head long ne f =
       let w : take (length b - 60116) (drop 60116 b) ≡ drop 60116 b = take-all (length b - 60116) (drop 60116 b) (simp length-drop (omega arith)) in
       rw (ne-eqb (getD ms (p + 1) 0) 0 ne) (f ∙ ap (λ (y : List ℕ). headOk y p) w)
+
+-- ---- a group of them that is lent
+
+module _ (ms b : List ℕ) (p n : ℕ) (big : 8 ≤ n) (e : unmarked (take n (drop (p + 1) ms)) ≡ true) where
+  abbrev noneAt : ℕ → Bool
+  noneAt i = eqb (numAt 4 (take n (drop (p + 1) ms)) i) 0
+
+  pub group-none : (q : ℕ) → p ≤ q → q < p + 8 → markedOk ms b q ≡ true
+  group-none q l u = sym (marked-none ms b q (go (ltb q (p + 4)) refl))
+    where
+      go : (t : Bool) → ltb q (p + 4) ≡ t → getD ms (q + 1) 0 ≡ 0
+      go true v = lent-none ms (p + 1) n 0 (omega arith) (both-left (noneAt 0) (noneAt 4) e) (q + 1) (omega arith) (omega (arith, ltb-true q (p + 4) v))
+      go false v = lent-none ms (p + 1) n 4 (omega arith) (both-right (noneAt 0) (noneAt 4) e) (q + 1) (omega (arith, ltb-false q (p + 4) v)) (omega arith)
 
 -- ---- all of them
 

@@ -9,7 +9,7 @@ use lib.Dec.{eqb, ltb}
 use lib.Bits.{bitAnd}
 use lib.ListN.{length, getD, take, drop, length-append, length-take, length-drop}
 use lib.Seq.{take-all}
-use borrow.Author.Tests.{eqb-true, eqb-false, eq-eqb, ne-eqb, lt-ltb, le-ltb, ltb-true}
+use borrow.Author.Tests.{eqb-true, eqb-false, eq-eqb, ne-eqb, lt-ltb, le-ltb, ltb-true, ltb-false}
 use denote.Enum.Declared.{tagOf}
 use types.Run.{OneOf}
 use Rattle.wire.specs.Tests.{pick, both, has}
@@ -328,6 +328,20 @@ module _ (test : ℕ → Bool) where
     where
       go : (u : Bool) → eachBelow n test ≡ u → false ≡ u
       go true u = sym t ∙ f ∙ each-has n test u h l
+      go false u = refl
+
+  pub each-more : (n h : ℕ) → ((j : ℕ) → h ≤ j → j < n → test j ≡ true) → eachBelow h test ≡ true → eachBelow n test ≡ true
+  each-more n h f e = each-is n test (λ j l. go j l (ltb j h) refl)
+    where
+      go : (j : ℕ) → j < n → (u : Bool) → ltb j h ≡ u → test j ≡ true
+      go j l true u = each-has h test e j (ltb-true j h u)
+      go j l false u = f j (ltb-false j h u) l
+
+  pub each-fewer : (n h : ℕ) {r : Bool} → h ≤ n → r ≡ eachBelow h test → r ≡ false → false ≡ eachBelow n test
+  each-fewer n h l f t = go (eachBelow n test) refl
+    where
+      go : (u : Bool) → eachBelow n test ≡ u → false ≡ u
+      go true u = sym t ∙ f ∙ each-is h test (λ j m. each-has n test u j (omega arith))
       go false u = refl
 
   pub each-all : (n h : ℕ) → h ≤ n → n ≤ h → eachBelow h test ≡ true → true ≡ eachBelow n test

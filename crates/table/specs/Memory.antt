@@ -6,7 +6,8 @@ use mathlib.Core.List.{List, []}
 use mathlib.Core.Option.{Option}
 use lib.Dec.{eqb, ltb}
 use lib.ListN.{length, getD, drop}
-use Rattle.wire.specs.Tests.{pick}
+use Rattle.wire.specs.Tests.{pick, both}
+use Rattle.wire.specs.Numbers.{numAt}
 use Rattle.order.specs.declared.Row.{Row}
 use Rattle.places.specs.declared.Family.{Family}
 use Rattle.places.specs.declared.Family.the-variants.{Windows, Notifications}
@@ -84,3 +85,11 @@ soundTable index bodies lent =
 -- the head of place p is in its sets, where the pointer at it has a mark
 unfoldable pub markedOk : List ℕ → List ℕ → ℕ → Bool
 markedOk marks bodies p = pick (eqb (getD marks (p + 1) 0) 0) true (headOk (headsOf bodies) p)
+
+-- places whose heads are tested together
+abbrev pub groupSize : ℕ
+groupSize = 8
+
+-- the marks of a group are all 0, four at a time
+abbrev pub unmarked : List ℕ → Bool
+unmarked s = both (eqb (numAt 4 s 0) 0) (eqb (numAt 4 s 4) 0)

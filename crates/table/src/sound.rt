@@ -9,9 +9,14 @@ ghost use Rattle.places.specs.declared.Family.the-variants.{Windows};
 ghost use Rattle.index.specs.Families.{capacity, indexLength};
 ghost use Rattle.index.specs.Sound.{eachFrom, soundIndex};
 ghost use Rattle.body.specs.Bodies.{slotOf, bodyOk};
-ghost use Rattle.table.specs.Memory.{bodiesLength, recordOk, holderOk, markedOk, soundTable};
+ghost use Rattle.table.specs.Memory.{bodiesLength, groupSize, recordOk, holderOk, markedOk, unmarked, soundTable};
 ghost use mathlib.Core.Bool.{true};
 use index::slots;
+
+// The heads of places are tested by groups: where no place of a group has a mark, one test passes them.
+const GROUP: usize = 8;
+
+const GROUPS: usize = 8;
 
 // Whether slot i of the bodies holds a body of rows low to high, with marks up to m.
 fn body_ok(bodies: &[u8], i: usize, low: usize, high: usize, m: u8) -> bool
@@ -81,18 +86,48 @@ fn place_ok(marks: &[u8; places::POINTERS], bodies: &[u8], p: usize) -> bool
     picture::is_ok(&bodies[crate::HEADS..], p)
 }
 
-// So it is of every place.
-fn places_ok(marks: &[u8; places::POINTERS], bodies: &[u8]) -> bool
-    requires { ⌜ bodiesLength ≤ length (now bodies) ⌝ }
-    ensures { λ r. ⌜ r ≡ eachBelow mostPlaces (markedOk (now (marks .entry)) (now (bodies .entry))) ⌝ }
+// Whether no place of a group has a mark.
+fn is_unmarked(group: &[u8]) -> bool
+    ensures { λ r. ⌜ r ≡ unmarked (now (group .entry)) ⌝ }
 {
-    let end = places::MOST as usize;
-    let mut p = 0;
+    let a = wire::read_u32(group, 0);
+    let b = wire::read_u32(group, 4);
+    (a == 0) & (b == 0)
+}
+
+// So it is of every place up to a group's last, those before the group having passed.
+fn group_ok(marks: &[u8; places::POINTERS], bodies: &[u8], from: usize) -> bool
+    requires { ⌜ (bodiesLength ≤ length (now bodies)) × (from + groupSize ≤ mostPlaces) × (eachBelow from (markedOk (now marks) (now bodies)) ≡ true) ⌝ }
+    ensures { λ r. ⌜ r ≡ eachBelow (from + groupSize) (markedOk (now (marks .entry)) (now (bodies .entry))) ⌝ }
+{
+    let first = from + 1;
+    let last = first + GROUP;
+    let all = &marks[..];
+    if is_unmarked(&all[first..last]) {
+        return true;
+    }
+    let end = from + GROUP;
+    let mut p = from;
     while p < end {
         if !place_ok(marks, bodies, p) {
             return false;
         }
         p += 1;
+    }
+    true
+}
+
+// So it is of every place.
+fn places_ok(marks: &[u8; places::POINTERS], bodies: &[u8]) -> bool
+    requires { ⌜ bodiesLength ≤ length (now bodies) ⌝ }
+    ensures { λ r. ⌜ r ≡ eachBelow mostPlaces (markedOk (now (marks .entry)) (now (bodies .entry))) ⌝ }
+{
+    let mut g = 0;
+    while g < GROUPS {
+        if !group_ok(marks, bodies, GROUP * g) {
+            return false;
+        }
+        g += 1;
     }
     true
 }
