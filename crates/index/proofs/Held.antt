@@ -26,7 +26,7 @@ use Rattle.places.proofs.Named.{cell-number, icon-number, own-cell, own-icon, i
 use Rattle.places.proofs.Ways as places
 use Rattle.index.specs.declared.RecordOrder.{RecordOrder}
 use Rattle.index.specs.Slots.{slotOf}
-use Rattle.index.specs.Orders.{bringsIcon, cellAt, sentOnce, whichOf, pointerOf, holdersOf}
+use Rattle.index.specs.Orders.{bringsIcon, cellAt, sentOnce, whichOf, holdersOf}
 use Rattle.index.specs.Plans.{pointerFor, besideOf, cellFor}
 use Rattle.index.proofs.Memory.{points-slotted}
 use Rattle.index.proofs.Soundness.{within-slots, found-within, Sound, slots-of}

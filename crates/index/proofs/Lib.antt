@@ -11,4 +11,7 @@ pub mod After
 pub mod Decided
 pub mod Promises
 pub mod Ways
+pub mod PlansMade
 pub mod Once
+pub mod StepsOfPlans
+pub mod JudgedNumbers

@@ -14,37 +14,27 @@ use Rattle.wire.specs.Parts.{slice, splice}
 use Rattle.wire.proofs.Tests.{both-left, both-right}
 use Rattle.wire.proofs.Numbers.{num1-is, num-past, num-slice}
 use Rattle.protocol.specs.Flags.{desktopNone, flagBigIcon, flagCachedIcon, flagIcon, flagNew, flagOverlayNone, flagsIcon, flagsOverlay}
-use Rattle.order.specs.declared.Judged.{Judged}
-use Rattle.order.specs.declared.Judged.the-variants.{Window, Notification, Desktop, Refused}
-use Rattle.order.specs.declared.WindowOrder.{WindowOrder}
-use Rattle.order.specs.declared.NotificationOrder.{NotificationOrder}
-use Rattle.order.specs.declared.DesktopOrder.{DesktopOrder}
-use Rattle.order.specs.declared.Refusal.{Refusal}
-use Rattle.order.specs.Judge.{judgeOf}
 use Rattle.places.specs.declared.Family.{Family}
 use Rattle.places.specs.declared.Family.the-variants.{Windows, Notifications}
 use Rattle.places.specs.declared.Found.{Found}
 use Rattle.places.specs.declared.Found.the-variants.{At, Nothing}
 use Rattle.places.specs.Counts.{firstFrom, onFound}
 use Rattle.places.specs.Memory.{pointerAt, valid}
-use Rattle.places.specs.Changes.{pointAll, freePlace, shareOf, releaseOf, releaseRecordsOf}
+use Rattle.places.specs.Changes.{pointAll, shareOf, releaseOf, releaseRecordsOf}
 use Rattle.places.proofs.Bytes.{inside}
 use Rattle.places.proofs.Counting.{found}
 use Rattle.index.specs.declared.Searched.{Searched}
-use Rattle.index.specs.declared.RecordOrder.{RecordOrder}
-use Rattle.index.specs.declared.Place.{Place}
-use Rattle.index.specs.declared.Place.the-variants.{Slot, Not}
 use Rattle.index.specs.declared.Change.{Change}
 use Rattle.index.specs.declared.Plan.{Plan}
 use Rattle.index.specs.declared.Plan.the-variants.{ChangeRecord, ChangeDesktop, Refuse}
 use Rattle.index.specs.Families.{start, capacity, isWithin}
 use Rattle.index.specs.Slots.{usedAt, firstId, secondId, isUsed, isFree, isAt, slotOf, freeOf, searchFrom, searchOf, slotHas}
-use Rattle.index.specs.Orders.{isNew, isDelete, cellAt, whichOf}
-use Rattle.index.specs.Plans.{slotFor, lacksPicture, pointerFor, besideOf, cellFor, changeOf, planAt, planRecord, planOf}
+use Rattle.index.specs.Orders.{isNew, cellAt, whichOf}
+use Rattle.index.specs.Plans.{lacksPicture, besideOf}
 use Rattle.index.specs.Changes.{listedOf, freedOf, removedOf, picturedOf, changedOf, clearedOf, emptiedOf, appliedOf, Fits, FitsPlan}
 use Rattle.index.specs.Sound.{eachFrom, noPointers, soundIndex, familyOk}
 use Rattle.index.proofs.Searching.{first-parts}
-use Rattle.index.proofs.Soundness.{Within, never, within-slots, found-within, free-within, sound-has, one-slot}
+use Rattle.index.proofs.Soundness.{Within, never, sound-has, one-slot}
 
 -- ---- a slot
 
@@ -241,124 +231,6 @@ module _ (x : List ℕ) (flags c : ℕ) where
     pub cached-empty : c < 12 → eqb (getD x (c + 1) 0) 0 ≡ lacksPicture x flags c
     unfolding lacksPicture
     cached-empty l = rw (ne-eqb (bitAnd flags flagCachedIcon) 0 g, lt-leb 12 c l, inside x c (omega arith))
-
--- ---- 9 and 10
-
-module _ (x : List ℕ) (o : RecordOrder) {t : Bool} (e : t ≡ isNew (o .family) (o .flags)) {r : Found}
-    (f : r ≡ slotOf x (o .family) (o .window .id) (o .notify .id)) where
-  module _ {i : ℕ} (g : r ≡ At i) where
-    pub slot-listed : t ≡ true → Not 9 ≡ slotFor x o
-    unfolding slotFor
-    slot-listed h = rw (← f, g, ← e, h)
-
-    pub slot-own : t ≡ false → Slot i ≡ slotFor x o
-    unfolding slotFor
-    slot-own h = rw (← f, g, ← e, h)
-
-  module _ (g : r ≡ Nothing) where
-    pub slot-absent : t ≡ false → Not 9 ≡ slotFor x o
-    unfolding slotFor
-    slot-absent h = rw (← f, g, ← e, h)
-
-    module _ (h : t ≡ true) {w : Found} (k : w ≡ freeOf x (o .family)) where
-      pub slot-full : w ≡ Nothing → Not 10 ≡ slotFor x o
-      unfolding slotFor
-      slot-full m = rw (← f, g, ← e, h, ← k, m)
-
-      pub slot-new : {i : ℕ} → w ≡ At i → Slot i ≡ slotFor x o
-      unfolding slotFor
-      slot-new m = rw (← f, g, ← e, h, ← k, m)
-
--- a slot that is found is one of 48
-pub slot-small : (x : List ℕ) (o : RecordOrder) {p : Place} {i : ℕ} → p ≡ slotFor x o → p ≡ Slot i → i < 48
-unfolding slotFor
-slot-small x o {p} {i} e g =
-    go (slotOf x (o .family) (o .window .id) (o .notify .id)) (freeOf x (o .family)) (isNew (o .family) (o .flags)) refl refl (sym e ∙ g)
-  where
-    go : (w v : Found) (t : Bool) → slotOf x (o .family) (o .window .id) (o .notify .id) ≡ w → freeOf x (o .family) ≡ v
-        → onFound w (pick t (onFound v (Not 10) Slot) (Not 9)) (λ j. pick t (Not 9) (Slot j)) ≡ Slot i → i < 48
-    go (At j) v true m n h = let z : _≡_ {A = ℕ} 0 1 = cc in absurd (omega arith)
-    go (At j) v false m n h =
-        let k : j ≡ i = cc in
-        let s = within-slots (o .family) j (found-within (o .family) x (o .window .id) (o .notify .id) j m) in
-        omega arith
-    go Nothing (At j) true m n h =
-        let k : j ≡ i = cc in
-        let s = within-slots (o .family) j (free-within (o .family) x j n) in
-        omega arith
-    go Nothing Nothing true m n h = let z : _≡_ {A = ℕ} 0 1 = cc in absurd (omega arith)
-    go Nothing v false m n h = let z : _≡_ {A = ℕ} 0 1 = cc in absurd (omega arith)
-
--- ---- the plans
-
-pub change-is : (s : List ℕ) (o : RecordOrder) (i place : ℕ) {t : Bool} {c w d : ℕ} → t ≡ isNew (o .family) (o .flags) → c ≡ cellAt s (o .icon) → w ≡ whichOf (o .flags)
-    → d ≡ besideOf c (12 + 3 * i + w)
-    → record {
-      family = o .family;
-      slot = i;
-      fresh = t;
-      deleted = isDelete (o .flags);
-      window = o .window;
-      notify = o .notify;
-      flags = o .flags;
-      icon = o .icon;
-      cell = d;
-      pointer = 12 + 3 * i + w;
-      place = place;
-    }
-    ≡ changeOf s o i place
-change-is s o i place e f g k = rw (k, e, f, g)
-
-module _ (x s : List ℕ) (o : RecordOrder) (i : ℕ) where
-  pub plan-plain : bitAnd (o .flags) flagIcon ≡ 0 → {c : Change} → c ≡ changeOf s o i 0 → ChangeRecord c ≡ planAt x s o i
-  unfolding planAt
-  plan-plain h e = rw (eq-eqb (bitAnd (o .flags) flagIcon) 0 h, e)
-
-  module _ (h : bitAnd (o .flags) flagIcon ≡ 0 → ⊥) {c w d : ℕ} (e : c ≡ cellAt s (o .icon)) (g : w ≡ whichOf (o .flags))
-      (b : d ≡ besideOf c (12 + 3 * i + w)) {f : Found} (k : f ≡ freePlace x (d ∷ (12 + 3 * i + w) ∷ [])) where
-    place-at : freePlace x (cellFor s o i ∷ pointerFor i (o .flags) ∷ []) ≡ f
-    place-at = rw (← e, ← g, ← b) (sym k)
-
-    pub plan-full : f ≡ Nothing → Refuse 17 ≡ planAt x s o i
-    unfolding planAt
-    plan-full m = rw (ne-eqb (bitAnd (o .flags) flagIcon) 0 h, place-at, m)
-
-    pub plan-taken : {p : ℕ} {r : Change} → f ≡ At p → r ≡ changeOf s o i p → ChangeRecord r ≡ planAt x s o i
-    unfolding planAt
-    plan-taken m n = rw (ne-eqb (bitAnd (o .flags) flagIcon) 0 h, place-at, m, n)
-
-module _ (x s : List ℕ) (o : RecordOrder) {p : Place} (e : p ≡ slotFor x o) where
-  pub record-refused : {n : ℕ} → p ≡ Not n → Refuse n ≡ planRecord x s o
-  unfolding planRecord
-  record-refused g = rw (← e, g)
-
-  module _ {i : ℕ} (g : p ≡ Slot i) {c : ℕ} (f : c ≡ cellAt s (o .icon)) {t : Bool} (h : t ≡ lacksPicture x (o .flags) c) where
-    pub record-lacks : t ≡ true → Refuse 11 ≡ planRecord x s o
-    unfolding planRecord
-    record-lacks k = rw (← e, g, ← f, ← h, k)
-
-    pub record-plan : {r : Plan} → t ≡ false → r ≡ planAt x s o i → r ≡ planRecord x s o
-    unfolding planRecord
-    record-plan k m = rw (← e, g, ← f, ← h, k) m
-
-module _ (x s : List ℕ) {j : Judged} (e : j ≡ judgeOf s) where
-  pub judged-window : {o : WindowOrder} {r : Plan} → j ≡ Window o
-      → r ≡ planRecord x s (record { family = Windows; window = o .window; notify = record { id = 0 }; flags = o .flags; icon = o .icon }) → r ≡ planOf x s
-  unfolding planOf
-  judged-window g h = rw (← e, g) h
-
-  pub judged-notification : {o : NotificationOrder} {r : Plan} → j ≡ Notification o
-      → r ≡ planRecord x s (record { family = Notifications; window = o .window; notify = o .notify; flags = o .flags; icon = o .icon }) → r ≡ planOf x s
-  unfolding planOf
-  judged-notification g h = rw (← e, g) h
-
-  pub judged-desktop : {o : DesktopOrder} → j ≡ Desktop o → ChangeDesktop (o .flags) ≡ planOf x s
-  unfolding planOf
-  judged-desktop g = rw (← e, g)
-
-  pub judged-refused : {r : Refusal} → j ≡ Refused r → Refuse (r .number) ≡ planOf x s
-  unfolding planOf
-  judged-refused g = rw (← e, g)
 
 -- ---- the changes
 

@@ -5,5 +5,6 @@ pub mod Index
 pub mod Memory
 pub mod Plans
 pub mod Changes
+pub mod Steps
 pub mod Sound
 pub mod Promises

@@ -5,6 +5,7 @@ use mathlib.Core.List.{List, [], _∷_}
 use lib.Dec.{eqb, leb}
 use Rattle.wire.specs.Tests.{pick, both, either}
 use Rattle.order.specs.Judge.{judgeOf}
+use Rattle.places.specs.declared.Family.{Family}
 use Rattle.places.specs.Sizes.{cellCount, slotCount}
 use Rattle.places.specs.Counts.{onFound}
 use Rattle.places.specs.Memory.{pointerAt}
@@ -19,12 +20,15 @@ use Rattle.index.specs.declared.Plan.the-variants.{ChangeRecord, ChangeD
 use Rattle.index.specs.Slots.{slotOf, freeOf}
 use Rattle.index.specs.Orders.{onJudged, isNew, isDelete, bringsIcon, bringsCached, cellAt, whichOf}
 
--- 9 and 10, or the record's slot: for a new record, the first free one
+-- 9 and 10, or the slot of the record of the ids: for a fresh record, the first free one
+abbrev pub placeFor : List ℕ → Family → ℕ → ℕ → Bool → Place
+placeFor x family a b fresh =
+    onFound (slotOf x family a b)
+    (pick fresh (onFound (freeOf x family) (Not 10) Slot) (Not 9))
+    (λ i. pick fresh (Not 9) (Slot i))
+
 unfoldable pub slotFor : List ℕ → RecordOrder → Place
-slotFor x o =
-    onFound (slotOf x (o .family) (o .window .id) (o .notify .id))
-    (pick (isNew (o .family) (o .flags)) (onFound (freeOf x (o .family)) (Not 10) Slot) (Not 9))
-    (λ i. pick (isNew (o .family) (o .flags)) (Not 9) (Slot i))
+slotFor x o = placeFor x (o .family) (o .window .id) (o .notify .id) (isNew (o .family) (o .flags))
 
 -- 11
 unfoldable pub lacksPicture : List ℕ → ℕ → ℕ → Bool
@@ -41,9 +45,9 @@ besideOf c pointer = pick (leb cellCount c) pointer c
 abbrev pub cellFor : List ℕ → RecordOrder → ℕ → ℕ
 cellFor s o i = besideOf (cellAt s (o .icon)) (pointerFor i (o .flags))
 
--- a record's change in slot i, its icon at a place (0 where it brings none)
-abbrev pub changeOf : List ℕ → RecordOrder → ℕ → ℕ → Change
-changeOf s o i place =
+-- a record's change in slot i, with the holders and the place of its icon
+abbrev pub changeWith : RecordOrder → ℕ → ℕ → ℕ → ℕ → Change
+changeWith o i cell pointer place =
     record {
       family = o .family;
       slot = i;
@@ -53,10 +57,14 @@ changeOf s o i place =
       notify = o .notify;
       flags = o .flags;
       icon = o .icon;
-      cell = cellFor s o i;
-      pointer = pointerFor i (o .flags);
+      cell = cell;
+      pointer = pointer;
       place = place;
     }
+
+-- its icon at a place (0 where it brings none)
+abbrev pub changeOf : List ℕ → RecordOrder → ℕ → ℕ → Change
+changeOf s o i place = changeWith o i (cellFor s o i) (pointerFor i (o .flags)) place
 
 -- 17, or the place
 unfoldable pub planAt : List ℕ → List ℕ → RecordOrder → ℕ → Plan
@@ -65,13 +73,16 @@ planAt x s o i =
     (onFound (freePlace x (cellFor s o i ∷ pointerFor i (o .flags) ∷ [])) (Refuse 17) (λ p. ChangeRecord (changeOf s o i p)))
     (ChangeRecord (changeOf s o i 0))
 
+-- 11, 17, or the change of the record in slot i
+abbrev pub planIn : List ℕ → List ℕ → RecordOrder → ℕ → Plan
+planIn x s o i = pick (lacksPicture x (o .flags) (cellAt s (o .icon))) (Refuse 11) (planAt x s o i)
+
 abbrev pub onPlace : Place → (ℕ → Plan) → Plan
 onPlace (Slot i) plan = plan i
 onPlace (Not n) plan = Refuse n
 
 unfoldable pub planRecord : List ℕ → List ℕ → RecordOrder → Plan
-planRecord x s o =
-    onPlace (slotFor x o) (λ i. pick (lacksPicture x (o .flags) (cellAt s (o .icon))) (Refuse 11) (planAt x s o i))
+planRecord x s o = onPlace (slotFor x o) (planIn x s o)
 
 unfoldable pub planOf : List ℕ → List ℕ → Plan
 planOf x s = onJudged (judgeOf s) (planRecord x s) ChangeDesktop Refuse

@@ -13,7 +13,7 @@ use crate::slots;
 const SLOTS: usize = 432;
 
 // Lists the ids a and b in slot i.
-fn list(index: &mut [u8], i: usize, a: u32, b: u32)
+pub(crate) fn list(index: &mut [u8], i: usize, a: u32, b: u32)
     requires { ⌜ (indexLength ≤ length (now index)) × (i < slotCount) ⌝ }
     ensures { λ _. ⌜ now (index .exit) ≡ listedOf (now (index .entry)) i a b ⌝ }
 {
@@ -24,7 +24,7 @@ fn list(index: &mut [u8], i: usize, a: u32, b: u32)
 }
 
 // The record in slot i is deleted: its icons let go, its slot is free.
-fn remove(index: &mut [u8], i: usize)
+pub(crate) fn remove(index: &mut [u8], i: usize)
     requires { ⌜ (indexLength ≤ length (now index)) × (i < slotCount) ⌝ }
     ensures { λ _. ⌜ now (index .exit) ≡ removedOf (now (index .entry)) i ⌝ }
 {
@@ -55,7 +55,7 @@ fn picture(index: &mut [u8], c: Change)
 }
 
 // The change of a record.
-fn change(index: &mut [u8], c: Change)
+pub(crate) fn change(index: &mut [u8], c: Change)
     requires { ⌜ (indexLength ≤ length (now index)) × Fits c ⌝ }
     ensures { λ _. ⌜ now (index .exit) ≡ changedOf (now (index .entry)) c ⌝ }
 {
@@ -72,7 +72,7 @@ fn change(index: &mut [u8], c: Change)
 }
 
 // Desktop none: no record is listed, and no record's icon points at a place.
-fn clear(index: &mut [u8])
+pub(crate) fn clear(index: &mut [u8])
     requires { ⌜ indexLength ≤ length (now index) ⌝ }
     ensures { λ _. ⌜ now (index .exit) ≡ clearedOf (now (index .entry)) ⌝ }
 {

@@ -2,16 +2,21 @@
 // picture store. The numbers 9, 10, 11 and 17 depend on nothing else of a table. The memory, 589 bytes: those of `places`, then
 // 48 slots.
 ghost use mathlib.Core.Path.{_≡_};
-ghost use mathlib.Core.Bool.{true};
+ghost use mathlib.Core.Bool.{true, not};
 ghost use Prim.Native.Nat.{_<_, _≤_};
 ghost use lib.ListN.{length};
+ghost use Rattle.wire.specs.Tests.{both};
 ghost use Rattle.places.specs.Sizes.{holderCount, slotCount};
-ghost use Rattle.index.specs.Families.{indexLength};
+ghost use Rattle.places.specs.declared.Family.the-variants.{Windows, Notifications};
+ghost use Rattle.index.specs.Families.{indexLength, isWithin};
+ghost use Rattle.index.specs.Slots.{isAt};
 ghost use Rattle.index.specs.Orders.{isNew, cellAt, whichOf};
-ghost use Rattle.index.specs.Plans.{besideOf, lacksPicture, slotFor, changeOf, planAt, planRecord, planOf, planNumber, planSlot};
-ghost use Rattle.index.specs.Changes.{appliedOf};
+ghost use Rattle.index.specs.Plans.{besideOf, pointerFor, lacksPicture, placeFor, changeWith, planIn, planRecord, planOf, planNumber, planSlot};
+ghost use Rattle.index.specs.Steps.{stepOf, steppedOf};
 ghost use Rattle.index.specs.Sound.{soundIndex};
 use order::Judged;
+use order::NotificationOrder;
+use order::WindowOrder;
 use places::Family;
 use places::Found;
 use protocol::NotifyIconId;
@@ -20,6 +25,7 @@ use protocol::WindowId;
 pub mod changes;
 pub mod slots;
 pub mod sound;
+mod steps;
 
 // The bytes of an index.
 pub const LENGTH: usize = 589;
@@ -68,6 +74,12 @@ pub enum Plan {
     ChangeRecord(Change),
     ChangeDesktop(u32),
     Refuse(u8),
+}
+
+// The number of an order, and the slot of its record: past the last where it changes none.
+pub struct Stepped {
+    pub number: u8,
+    pub slot: usize,
 }
 
 // The cell that an icon or cached icon at index icon names.
@@ -128,14 +140,19 @@ fn is_new(family: Family, flags: u32) -> bool
     }
 }
 
-// 9, 10, or the slot of the record that an order changes; slot near is looked at before a search.
-fn slot_for(index: &[u8], o: RecordOrder, near: usize) -> Place
-    requires { ⌜ soundIndex (now index) ≡ true ⌝ }
-    ensures { λ r. ⌜ r ≡ slotFor (now (index .entry)) o ⌝ }
+// 9, 10, or the slot that a search finds for the record of the ids: its own, or where it is fresh, the first free one.
+fn searched_slot(
+    index: &[u8],
+    family: Family,
+    window: WindowId,
+    notify: NotifyIconId,
+    fresh: bool,
+) -> Place
+    requires { ⌜ indexLength ≤ length (now index) ⌝ }
+    ensures { λ r. ⌜ r ≡ placeFor (now (index .entry)) family (window .id) (notify .id) fresh ⌝ }
 {
-    let family = o.family;
-    let fresh = is_new(family, o.flags);
-    let w = slots::find_near(index, family, o.window, o.notify, near);
+    let f = slots::find(index, family, window, notify);
+    let w = f.found;
     match w {
         Found::At(i) => {
             if fresh {
@@ -156,22 +173,45 @@ fn slot_for(index: &[u8], o: RecordOrder, near: usize) -> Place
     }
 }
 
-// The change of a record in slot i, its icon at a place.
-fn change_at(s: &[u8], o: RecordOrder, i: usize, place: usize) -> Change
+// Slot near has the record that an order changes.
+fn is_near(index: &[u8], o: RecordOrder, fresh: bool, near: usize) -> bool
+    requires { ⌜ indexLength ≤ length (now index) ⌝ }
+    ensures { λ r. ⌜ r ≡ both (not fresh) (both (isWithin (o .family) near) (isAt (now (index .entry)) (o .window .id) (o .notify .id) near)) ⌝ }
+{
+    if fresh {
+        return false;
+    }
+    let family = o.family;
+    slots::has_record(index, family, o.window, o.notify, near)
+}
+
+// The pointer of the icon of slot i that an order sets.
+fn pointer_of(i: usize, flags: u32) -> usize
     requires { ⌜ i < slotCount ⌝ }
-    ensures { λ r. ⌜ r ≡ changeOf (now (s .entry)) o i place ⌝ }
+    ensures { λ r. ⌜ (r ≡ pointerFor i flags) × (r < holderCount) ⌝ }
+{
+    let w = which(flags);
+    places::CELLS + places::ICONS_EACH * i + w
+}
+
+// The change of a record in slot i, with a cell, a pointer and a place for its icon.
+fn change_at(
+    o: RecordOrder,
+    fresh: bool,
+    i: usize,
+    cell: usize,
+    pointer: usize,
+    place: usize,
+) -> Change
+    requires { ⌜ fresh ≡ isNew (o .family) (o .flags) ⌝ }
+    ensures { λ r. ⌜ r ≡ changeWith o i cell pointer place ⌝ }
 {
     let family = o.family;
     let flags = o.flags;
-    let fresh = is_new(family, flags);
     let deleted = flags & protocol::DELETED != 0;
     let window = o.window;
     let notify = o.notify;
     let icon = o.icon;
-    let c = cell(s, icon);
-    let w = which(flags);
-    let pointer = places::CELLS + places::ICONS_EACH * i + w;
-    let held = beside(c, pointer);
     Change {
         family,
         slot: i,
@@ -181,30 +221,31 @@ fn change_at(s: &[u8], o: RecordOrder, i: usize, place: usize) -> Change
         notify,
         flags,
         icon,
-        cell: held,
+        cell,
         pointer,
         place,
     }
 }
 
-// 17, or the change of a record in slot i.
-fn plan_at(index: &[u8], s: &[u8], o: RecordOrder, i: usize) -> Plan
-    requires { ⌜ (soundIndex (now index) ≡ true) × (i < slotCount) ⌝ }
-    ensures { λ r. ⌜ r ≡ planAt (now (index .entry)) (now (s .entry)) o i ⌝ }
+// 11, 17, or the change of a record in slot i.
+fn plan_at(index: &[u8], s: &[u8], o: RecordOrder, fresh: bool, i: usize) -> Plan
+    requires { ⌜ (soundIndex (now index) ≡ true) × (i < slotCount) × (fresh ≡ isNew (o .family) (o .flags)) ⌝ }
+    ensures { λ r. ⌜ r ≡ planIn (now (index .entry)) (now (s .entry)) o i ⌝ }
 {
-    let flags = o.flags;
-    if flags & protocol::ICON == 0 {
-        return Plan::ChangeRecord(change_at(s, o, i, 0));
-    }
     let c = cell(s, o.icon);
-    let w = which(flags);
-    let pointer = places::CELLS + places::ICONS_EACH * i + w;
+    if lacks_picture(index, o.flags, c) {
+        return Plan::Refuse(11);
+    }
+    let pointer = pointer_of(i, o.flags);
     let held = beside(c, pointer);
+    if o.flags & protocol::ICON == 0 {
+        return Plan::ChangeRecord(change_at(o, fresh, i, held, pointer, 0));
+    }
     let f = places::free_place(index, held, pointer);
     let Found::At(p) = f else {
         return Plan::Refuse(17);
     };
-    Plan::ChangeRecord(change_at(s, o, i, p))
+    Plan::ChangeRecord(change_at(o, fresh, i, held, pointer, p))
 }
 
 // 9, 10, 11 and 17, or the change of a record.
@@ -212,16 +253,52 @@ fn plan_record(index: &[u8], s: &[u8], o: RecordOrder, near: usize) -> Plan
     requires { ⌜ soundIndex (now index) ≡ true ⌝ }
     ensures { λ r. ⌜ r ≡ planRecord (now (index .entry)) (now (s .entry)) o ⌝ }
 {
-    let p = slot_for(index, o, near);
+    let family = o.family;
+    let fresh = is_new(family, o.flags);
+    let p = if is_near(index, o, fresh, near) {
+        Place::Slot(near)
+    } else {
+        searched_slot(index, family, o.window, o.notify, fresh)
+    };
     match p {
         Place::Not(n) => Plan::Refuse(n),
-        Place::Slot(i) => {
-            let c = cell(s, o.icon);
-            if lacks_picture(index, o.flags, c) {
-                return Plan::Refuse(11);
-            }
-            plan_at(index, s, o, i)
-        }
+        Place::Slot(i) => plan_at(index, s, o, fresh, i),
+    }
+}
+
+// The order of a record: a window's.
+fn of_window(o: WindowOrder) -> RecordOrder
+    ensures { λ r. ⌜ r ≡ record { family = Windows; window = o .window; notify = record { id = 0 }; flags = o .flags; icon = o .icon } ⌝ }
+{
+    let family = Family::Windows;
+    let window = o.window;
+    let notify = NotifyIconId { id: 0 };
+    let flags = o.flags;
+    let icon = o.icon;
+    RecordOrder {
+        family,
+        window,
+        notify,
+        flags,
+        icon,
+    }
+}
+
+// And a notification icon's.
+fn of_notification(o: NotificationOrder) -> RecordOrder
+    ensures { λ r. ⌜ r ≡ record { family = Notifications; window = o .window; notify = o .notify; flags = o .flags; icon = o .icon } ⌝ }
+{
+    let family = Family::Notifications;
+    let window = o.window;
+    let notify = o.notify;
+    let flags = o.flags;
+    let icon = o.icon;
+    RecordOrder {
+        family,
+        window,
+        notify,
+        flags,
+        icon,
     }
 }
 
@@ -233,34 +310,8 @@ pub fn judge_near(index: &[u8], s: &[u8], near: usize) -> Plan
 {
     let j = order::judge(s);
     let r = match j {
-        Judged::Window(o) => {
-            let family = Family::Windows;
-            let window = o.window;
-            let notify = NotifyIconId { id: 0 };
-            let flags = o.flags;
-            let icon = o.icon;
-            RecordOrder {
-                family,
-                window,
-                notify,
-                flags,
-                icon,
-            }
-        }
-        Judged::Notification(o) => {
-            let family = Family::Notifications;
-            let window = o.window;
-            let notify = o.notify;
-            let flags = o.flags;
-            let icon = o.icon;
-            RecordOrder {
-                family,
-                window,
-                notify,
-                flags,
-                icon,
-            }
-        }
+        Judged::Window(o) => of_window(o),
+        Judged::Notification(o) => of_notification(o),
         Judged::Desktop(o) => {
             return Plan::ChangeDesktop(o.flags);
         }
@@ -301,13 +352,23 @@ pub fn slot(p: Plan) -> usize
     }
 }
 
-// Judges an order on the index and, where it is not refused, carries it out. Its number.
-pub fn step(index: &mut [u8], s: &[u8]) -> u8
+// Judges an order on the index and, unless it is refused or the history is full (12, the last of the numbers), carries it out.
+// Slot near is looked at for its record before a search. No plan is made of it: that takes as long again.
+pub fn step(index: &mut [u8], s: &[u8], near: usize, full: bool) -> Stepped
     requires { ⌜ soundIndex (now index) ≡ true ⌝ }
-    ensures { λ r. ⌜ r ≡ planNumber (planOf (now (index .entry)) (now (s .entry))) ⌝ }
-    ensures { λ r. ⌜ now (index .exit) ≡ appliedOf (now (index .entry)) (planOf (now (index .entry)) (now (s .entry))) ⌝ }
+    ensures { λ r. ⌜ r ≡ stepOf full (planOf (now (index .entry)) (now (s .entry))) ⌝ }
+    ensures { λ r. ⌜ now (index .exit) ≡ steppedOf full (now (index .entry)) (planOf (now (index .entry)) (now (s .entry))) ⌝ }
 {
-    let p = judge(index, s);
-    changes::apply(index, p);
-    number(p)
+    let j = order::judge(s);
+    let r = match j {
+        Judged::Window(o) => of_window(o),
+        Judged::Notification(o) => of_notification(o),
+        Judged::Desktop(o) => {
+            return steps::desktop(index, o.flags, full);
+        }
+        Judged::Refused(r) => {
+            return steps::refused(r.number);
+        }
+    };
+    steps::record(index, s, r, near, full)
 }

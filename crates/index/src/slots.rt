@@ -1,14 +1,12 @@
 // The slots of the index, 9 bytes each (used 1, window id 4, notify-icon id 4): 32 of windows, then 16 of notification icons.
 ghost use mathlib.Core.Path.{_≡_};
-ghost use mathlib.Core.Bool.{true};
 ghost use Prim.Native.Nat.{_+_, _<_, _≤_};
 ghost use lib.ListN.{length};
 ghost use Rattle.wire.specs.Tests.{both};
 ghost use Rattle.places.specs.Sizes.{slotCount};
 ghost use Rattle.index.specs.Families.{indexLength, isWithin};
 ghost use Rattle.places.specs.Counts.{firstFrom};
-ghost use Rattle.index.specs.Slots.{isFree, isAt, slotHas, slotOf, freeOf, searchFrom, searchOf};
-ghost use Rattle.index.specs.Sound.{soundIndex};
+ghost use Rattle.index.specs.Slots.{isFree, isAt, slotHas, freeOf, searchFrom, searchOf};
 use crate::Searched;
 use places::Family;
 use places::Found;
@@ -121,7 +119,7 @@ pub fn find(index: &[u8], family: Family, window: WindowId, notify: NotifyIconId
 }
 
 // Slot i is one of a family's and has the record of the ids.
-fn has_record(
+pub(crate) fn has_record(
     index: &[u8],
     family: Family,
     window: WindowId,
@@ -145,25 +143,6 @@ fn has_record(
             is_at(index, i, window.id, notify.id)
         }
     }
-}
-
-// The slot of a record whose slot may be known: near, where that has the ids, as no other slot of a sound index has them; else the
-// one that the search finds.
-pub fn find_near(
-    index: &[u8],
-    family: Family,
-    window: WindowId,
-    notify: NotifyIconId,
-    near: usize,
-) -> Found
-    requires { ⌜ soundIndex (now index) ≡ true ⌝ }
-    ensures { λ r. ⌜ r ≡ slotOf (now (index .entry)) family (window .id) (notify .id) ⌝ }
-{
-    if has_record(index, family, window, notify, near) {
-        return Found::At(near);
-    }
-    let f = find(index, family, window, notify);
-    f.found
 }
 
 // The first slot of a family that has no record.

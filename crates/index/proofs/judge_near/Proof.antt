@@ -1,5 +1,5 @@
 -- An order for a record of either family becomes one record of ids, flags and icon.
-use Rattle.index.proofs.Ways.{judged-window, judged-notification, judged-desktop, judged-refused}
+use Rattle.index.proofs.PlansMade.{judged-window, judged-notification, judged-desktop, judged-refused}
 use Rattle.index.specs.Plans.{planRecord}
 use denote.Ref.{now}
 use mathlib.Core.Path.{ap, _∙_}
@@ -14,7 +14,9 @@ judge-near-spec =
     (tie.spec
     (λ c κs. search needs)
     (λ c. search needs)
+    (λ c κs. search needs)
     (λ c. search needs)
+    (λ c κs. search needs)
     (λ c. search needs)
     (λ c.  -- returns
     let a = c .before .before .before .before .before .before .args in
@@ -28,5 +30,5 @@ judge-near-spec =
     let a = c .before .before .before .before .before .args in
     let e = c .before .before .judge .ensures .0 in
     let plan = planRecord (now (a .index)) (now (a .s)) in
-    ⊎-elim (λ w. judged-window (now (a .index)) (now (a .s)) e (w .1 .given .1) (c .plan-record .ensures ∙ ap plan (w .4)))
-    (λ w. judged-notification (now (a .index)) (now (a .s)) e (w .1 .given .1) (c .plan-record .ensures ∙ ap plan (w .5))) (c .before .match .came)))
+    ⊎-elim (λ w. judged-window (now (a .index)) (now (a .s)) e (w .1 .given .1) (c .plan-record .ensures ∙ ap plan (w .4 ∙ w .3 .ensures)))
+    (λ w. judged-notification (now (a .index)) (now (a .s)) e (w .1 .given .1) (c .plan-record .ensures ∙ ap plan (w .4 ∙ w .3 .ensures))) (c .before .match .came)))

@@ -1,30 +1,44 @@
--- 9 and 10 come from the slot, 11 from the cell of a cached icon; what is left asks for a place.
-use Rattle.index.proofs.Ways.{record-refused, record-lacks, record-plan, slot-small, sound-long}
+-- 9 and 10 come from the slot: the one near by, or what the search finds.
+use Rattle.index.proofs.Ways.{sound-long}
+use Rattle.index.proofs.PlansMade.{slot-near, slot-searched, slot-small, record-refused, record-in}
+use Rattle.index.specs.Plans.{slotFor}
+use mathlib.Core.Path.{_≡_, _∙_}
+use mathlib.Core.Logic.{⊎-elim}
 use denote.Ref.{now}
 use borrow.Author.Needs.{needs}
 use Rattle.index.proofs.plan_record.Statement.{statement}
 use Rattle.index.proofs.plan_record.Tie as tie
+
+abbrev start : tie.Joined1 → tie.Start
+start v = v .before .before .before .before .before
+
+placed : (v : tie.Joined1) → v .if1 .p ≡ slotFor (now (start v .args .index)) (start v .args .o)
+placed v =
+    let n = v .before in
+    let u = start v in
+    let x = now (u .args .index) in
+    let new = n .before .is-new .ensures in
+    ⊎-elim (λ w. w .1 ∙ slot-near x (u .args .o) new (u .pre) (u .args .near) (n .is-near .ensures) (w .0 .taken))
+    (λ w. w .2 ∙ slot-searched x (u .args .o) new (w .1 .ensures)) (v .if1 .came)
 
 pub plan-record-spec : {M : Type 1} → statement M
 plan-record-spec =
     tie.close
     (tie.spec
     (λ c κs. search needs)
+    (λ c κs. let u = c .before .before .before in sound-long (now (u .args .index)) (u .pre))  -- is-near-requires
+    (λ c κs. let u = c .before .before .before .before .before in sound-long (now (u .args .index)) (u .pre))  -- searched-slot-requires
     (λ c. search needs)
     (λ c. search needs)
-    (λ c κs. search needs)
-    (λ c κs.  -- lacks-picture-requires
-    sound-long (now (c .before .before .before .before .before .before .before .args .index)) (c .before .before .before .before .before .before .before .pre))
-    (λ c.  -- returns
-    let a = c .before .before .before .before .before .before .before .before .before .args in
-    record-lacks (now (a .index)) (now (a .s)) (a .o) (c .before .before .before .before .before .before .slot-for .ensures) (c .before .before .before .before .p2 .given .1) (c .before .before .cell .ensures .0) (c .before .lacks-picture .ensures) (c .if1 .taken))
     (λ c κs.  -- plan-at-requires
-    let s = c .before .before .before .before .before .before .before .before .before in
-    let a = s .args in
-    (s .pre, slot-small (now (a .index)) (a .o) (c .before .before .before .before .before .before .slot-for .ensures) (c .before .before .before .before .p2 .given .1)))
+    let v = c .before .before .before in
+    let u = start v in
+    (u .pre, slot-small (now (u .args .index)) (u .args .o) (placed v) (c .before .p2 .given .1), v .before .before .is-new .ensures))
+    (λ c.  -- returns
+    let v = c .before .before .before in
+    let a = start v .args in
+    record-refused (now (a .index)) (now (a .s)) (a .o) (placed v) (c .before .p .given .1))
     (λ c.  -- returns-2
-    let a = c .before .before .before .before .before .before .args in
-    record-refused (now (a .index)) (now (a .s)) (a .o) (c .before .before .before .slot-for .ensures) (c .before .p .given .1))
-    (λ c.  -- returns-3
-    let a = c .before .before .before .before .before .before .before .before .before .before .args in
-    record-plan (now (a .index)) (now (a .s)) (a .o) (c .before .before .before .before .before .before .before .slot-for .ensures) (c .before .before .before .before .before .p2 .given .1) (c .before .before .before .cell .ensures .0) (c .before .before .lacks-picture .ensures) (c .before .if1 .left) (c .plan-at .ensures)))
+    let v = c .before .before .before .before in
+    let a = start v .args in
+    c .plan-at .ensures ∙ record-in (now (a .index)) (now (a .s)) (a .o) (placed v) (c .before .before .p2 .given .1)))

@@ -1,0 +1,22 @@
+-- Where there is room, the change is that of the plan.
+use Rattle.index.proofs.Ways.{applied-record}
+use Rattle.index.proofs.StepsOfPlans.{steps-full, steps-done}
+use Rattle.index.specs.declared.Plan.the-variants.{ChangeRecord}
+use mathlib.Core.Path.{refl}
+use denote.Ref.{now}
+use borrow.Author.Needs.{needs}
+use Rattle.index.proofs.steps.carry_out.Statement.{statement}
+use Rattle.index.proofs.steps.carry_out.Tie as tie
+
+pub carry-out-spec : {M : Type 1} → statement M
+carry-out-spec =
+    tie.close
+    (tie.spec
+    (λ c.  -- returns
+    let a = c .before .before .args in
+    steps-full (a .full) (now (a .index)) (ChangeRecord (a .c)) refl (c .if1 .taken) refl)
+    (λ c κs. search needs)
+    (λ c. search needs)
+    (λ c.  -- returns-2
+    let a = c .before .before .before .before .before .before .args in
+    steps-done (a .full) (now (a .index)) (ChangeRecord (a .c)) refl (c .before .before .before .before .if1 .left) refl (applied-record (now (a .index)) refl (c .before .before .change .ensures))))

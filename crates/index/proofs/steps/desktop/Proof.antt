@@ -1,0 +1,30 @@
+-- Desktop none clears the index; any other desktop order leaves it.
+use Rattle.index.proofs.Ways.{applied-none, applied-desktop}
+use Rattle.index.proofs.StepsOfPlans.{steps-full, steps-done}
+use Rattle.index.specs.declared.Plan.the-variants.{ChangeDesktop}
+use mathlib.Core.Path.{refl}
+use denote.Ref.{now}
+use borrow.Author.Needs.{needs}
+use Rattle.index.proofs.steps.desktop.Statement.{statement}
+use Rattle.index.proofs.steps.desktop.Tie as tie
+
+pub desktop-spec : {M : Type 1} → statement M
+desktop-spec =
+    tie.close
+    (tie.spec
+    (λ c κs. search needs)
+    (λ c.  -- returns
+    let a = c .before .before .before .args in
+    steps-full (a .full) (now (a .index)) (ChangeDesktop (a .flags)) refl (c .before .if1 .taken) (c .refused .ensures))
+    (λ c κs. search needs)
+    (λ c κs. search needs)
+    (λ c. search needs)
+    (λ c.  -- returns-2
+    let k = c .before .before .before .before .before .before in
+    let a = k .before .before .args in
+    steps-done (a .full) (now (a .index)) (ChangeDesktop (a .flags)) refl (k .if1 .left) (c .refused2 .ensures) (applied-none (now (a .index)) refl (c .before .before .before .before .before .if2 .taken) (c .before .before .before .clear .ensures)))
+    (λ c κs. search needs)
+    (λ c.  -- returns-3
+    let k = c .before .before in
+    let a = k .before .before .args in
+    steps-done (a .full) (now (a .index)) (ChangeDesktop (a .flags)) refl (k .if1 .left) (c .refused3 .ensures) (applied-desktop (now (a .index)) refl (c .before .if2 .left))))
