@@ -8,3 +8,4 @@ pub mod Replays
 pub mod Validations
 pub mod LoopInvariants
 pub mod Indexed
+pub mod StepsWithRoom

@@ -17,6 +17,7 @@ ghost use Rattle.journal.specs.Journal.{endFrom, withinFrom};
 ghost use Rattle.journal.specs.View.{Memory, memory, InEachStore, shortOf, meetsRule};
 ghost use Rattle.journal.specs.Replay.{indexAfter, followedAfter, replayFrom, Replayed, fromMark, replayable, Validation, Applied};
 use follow::Want;
+use index::Stepped;
 
 // The history room: the most orders after a checkpoint, and the most bytes of theirs.
 pub const MOST_ORDERS: usize = 128;
@@ -44,15 +45,9 @@ pub fn too_short(index: &[u8], bodies: &[u8], lent: usize, journal: &[u8]) -> bo
         | (journal.len() < LENGTH)
 }
 
-// The number of an order that is replayed, and the slot of its record.
-struct Step {
-    number: u8,
-    slot: usize,
-}
-
 // Judges an order, which stands at index q of the journal, on an index, follows what is looked up and applies the order's plan to
 // the index. Slot near is looked at for its record before a search: many an order is for the record of the one before it.
-fn replay_order(d: &mut [u8], m: &mut [u8], s: &[u8], q: u16, want: Want, near: usize) -> Step
+fn follow_order(d: &mut [u8], m: &mut [u8], s: &[u8], q: u16, want: Want, near: usize) -> Stepped
     requires { ⌜ (soundIndex (now d) ≡ true) × (length (now m) ≡ roomFor want) ⌝ }
     ensures { λ r. ⌜ (r .number ≡ planNumber (planOf (now (d .entry)) (now (s .entry)))) × (r .slot ≡ planSlot (planOf (now (d .entry)) (now (s .entry)))) ⌝ }
     ensures { λ r. ⌜ now (d .exit) ≡ indexAfter (now (d .entry)) (now (s .entry)) ⌝ }
@@ -63,7 +58,20 @@ fn replay_order(d: &mut [u8], m: &mut [u8], s: &[u8], q: u16, want: Want, near: 
     index::changes::apply(d, p);
     let number = index::number(p);
     let slot = index::slot(p);
-    Step { number, slot }
+    Stepped { number, slot }
+}
+
+// The same in one step where nothing is looked up.
+fn replay_order(d: &mut [u8], m: &mut [u8], s: &[u8], q: u16, want: Want, near: usize) -> Stepped
+    requires { ⌜ (soundIndex (now d) ≡ true) × (length (now m) ≡ roomFor want) ⌝ }
+    ensures { λ r. ⌜ (r .number ≡ planNumber (planOf (now (d .entry)) (now (s .entry)))) × (r .slot ≡ planSlot (planOf (now (d .entry)) (now (s .entry)))) ⌝ }
+    ensures { λ r. ⌜ now (d .exit) ≡ indexAfter (now (d .entry)) (now (s .entry)) ⌝ }
+    ensures { λ r. ⌜ now (m .exit) ≡ followedAfter want q (now (d .entry)) (now (s .entry)) (now (m .entry)) ⌝ }
+{
+    let Want::Nothing = want else {
+        return follow_order(d, m, s, q, want, near);
+    };
+    index::step(d, s, near, false)
 }
 
 // Replays count orders of the journal. Where they end, or 0 where one is cut or refused.

@@ -1,40 +1,22 @@
-use native.Mathlib.Omega.{arith}
 use denote.Ref.{now}
-use Rattle.wire.proofs.Numbers.{Bytes}
-use Rattle.journal.proofs.LoopInvariants.{order-asks, change-asks, order-gives}
+use Rattle.journal.proofs.StepsWithRoom.{step-replays}
 use borrow.Author.Needs.{needs}
 use Rattle.journal.proofs.replay_order.Statement.{statement}
 use Rattle.journal.proofs.replay_order.Tie as tie
 
--- All three equations are the callees', with the plan that was judged.
-abbrev start : tie.After-shared-slice-known → tie.Start
-start v = v .before .before .before
-
-bytes : (v : tie.After-shared-slice-known) → Bytes (now (start v .args .s))
-bytes v = record { small = λ i. omega (arith, v .shared-slice-known .given i) }
-
+-- Where something is looked up, the callee's contract; else a step with room, and nothing to follow.
 pub replay-order-spec : {M : Type 1} → statement M
 replay-order-spec =
     tie.close
     (tie.spec
-    (λ c κs. search needs)
-    (λ c κs.  -- follow-requires
-    let v = c .before .before .before in
-    let u = start v in
-    order-asks (u .args .want) (u .args .q) (now (u .args .d)) (now (u .args .m)) (now (u .args .s)) (c .before .judge-near .ensures) (bytes v) (u .pre .0) (u .pre .1))
-    (λ c κs.  -- apply-requires
-    let j = c .before .before .before .before .before in
-    let v = j .before .before in
-    let u = start v in
-    change-asks (u .args .want) (u .args .q) (now (u .args .d)) (now (u .args .m)) (now (u .args .s)) (j .judge-near .ensures) (bytes v) (u .pre .0))
-    (λ c κs. search needs)
+    (λ c. search needs)
     (λ c κs. search needs)
     (λ c. search needs)
     (λ c. search needs)
-    (λ c.  -- returns
-    let n = c .before .before .before .before in
-    let f = n .before .before .before .before in
-    let j = f .before .before in
-    let u = start (j .before .before) in
-    order-gives (u .args .want) (u .args .q) (now (u .args .d)) (now (u .args .m)) (now (u .args .s)) (j .judge-near .ensures) (c .before .number .ensures) (c .slot .ensures) (n .apply .ensures)
-    (f .follow .ensures)))
+    (λ c. search needs)
+    (λ c κs. search needs)
+    (λ c. search needs)
+    (λ c.  -- returns-2
+    let t = c .before .before .before .before in
+    let u = t .before .before .before .before .before in
+    step-replays (t .enum-told .given .1) (u .args .q) (now (u .args .d)) (now (u .args .m)) (now (u .args .s)) (c .before .before .step .ensures .0) (c .before .before .step .ensures .1)))
