@@ -14,12 +14,12 @@ ghost use Rattle.session.specs.Outcome.{plain, replied, CallOutcome};
 ghost use Rattle.session.specs.Mark.{MarkSet};
 ghost use Rattle.session.specs.Delivery.{Ready, DeliveredOn};
 ghost use Rattle.session.specs.Standing.{Stands};
-use crate::Delivery;
 use crate::Reply;
 use crate::extents::extent;
 use crate::extents::extent_in;
 use crate::replies::granted;
 use crate::replies::refused;
+use index::Stepped;
 use journal::JournalExtent;
 
 // Makes a table that at the mark: stores its figures, and counts no order after it.
@@ -57,33 +57,24 @@ fn append(journal: &mut [u8], s: &[u8], count: usize, end: usize)
 }
 
 // Judges an order on the index d of a validated memory whose journal has the extent w and, where it is granted, appends it and
-// applies its plan to d: what was validated then stands for the next order.
-pub fn deliver_on(journal: &mut [u8], d: &mut [u8], s: &[u8], w: JournalExtent) -> Delivery
+// carries it out on d: what was validated then stands for the next order. Slot near is looked at for its record before a search.
+pub fn deliver_on(
+    journal: &mut [u8],
+    d: &mut [u8],
+    s: &[u8],
+    w: JournalExtent,
+    near: usize,
+) -> Stepped
     requires { ⌜ Ready (now d) (now journal) w ⌝ }
     ensures { λ r. ⌜ DeliveredOn (now (d .entry)) (now (journal .entry)) (now (s .entry)) w r (now (d .exit)) (now (journal .exit)) ⌝ }
 {
-    let p = index::judge(d, s);
-    let number = index::number(p);
-    if number != 0 {
-        return Delivery { number, extent: w };
+    let full = (journal::MOST_ORDERS < w.count + 1)
+        | (journal::MOST_BYTES < w.end - journal::START + s.len());
+    let r = index::step(d, s, near, full);
+    if r.number == 0 {
+        append(journal, s, w.count, w.end);
     }
-    if (journal::MOST_ORDERS < w.count + 1)
-        | (journal::MOST_BYTES < w.end - journal::START + s.len())
-    {
-        return Delivery {
-            number: 12,
-            extent: w,
-        };
-    }
-    append(journal, s, w.count, w.end);
-    index::changes::apply(d, p);
-    Delivery {
-        number: 0,
-        extent: JournalExtent {
-            count: w.count + 1,
-            end: w.end + s.len(),
-        },
-    }
+    r
 }
 
 pub fn deliver(index: &[u8], bodies: &[u8], lent: usize, journal: &mut [u8], s: &[u8]) -> Reply
@@ -94,11 +85,14 @@ pub fn deliver(index: &[u8], bodies: &[u8], lent: usize, journal: &mut [u8], s: 
     if w.end == 0 {
         return refused(1);
     }
-    let r = deliver_on(journal, &mut d, s, w);
+    let r = deliver_on(journal, &mut d, s, w, index::slots::COUNT);
     if r.number != 0 {
         return refused(r.number);
     }
-    granted(r.extent)
+    granted(JournalExtent {
+        count: w.count + 1,
+        end: w.end + s.len(),
+    })
 }
 
 // The checkpoint of a memory that is well formed and whose journal has the extent w: its orders are applied to the table at the mark.

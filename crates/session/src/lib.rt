@@ -1,7 +1,6 @@
 // The state calls: a table at the last checkpoint and a journal of the orders since, in lent memory: index, bodies, a store of
 // pictures in five parts, journal. A call that cannot change a memory takes it shared, and one that needs no picture is told how
 // many places are lent; bytes past the needed lengths stay as they were.
-use journal::JournalExtent;
 use protocol::NotifyIconId;
 use protocol::WindowId;
 
@@ -47,10 +46,4 @@ pub enum LookupTarget {
     Windows,
     Notifications,
     Shares(PictureHolder, PictureHolder),
-}
-
-// The number of an order that is delivered, and the extent of the journal after it.
-pub struct Delivery {
-    pub number: u8,
-    pub extent: JournalExtent,
 }

@@ -1,10 +1,12 @@
 use mathlib.Core.Path.{_≡_, refl}
 use mathlib.Core.List.{List}
-use Prim.Native.Nat.{ℕ}
+use Prim.Native.Nat.{ℕ, _+_, _≤_}
 use native.Mathlib.Omega.{arith}
+use lib.ListN.{length}
 use denote.Ref.{now}
 use Rattle.wire.proofs.Numbers.{Bytes}
 use Rattle.store.specs.Store.{placesIn}
+use Rattle.journal.specs.Limits.{mostOrders, logStart, journalLength}
 use Rattle.journal.specs.View.{Memory, memory}
 use Rattle.journal.proofs.Indexed.{Indexed, unmet, indexed}
 use Rattle.journal.specs.Journal.{logOf}
@@ -36,6 +38,16 @@ index-any : (v : tie.After-extent) → (v .extent .result .end ≡ 0 → ⊥)
     → Indexed (mem (start v) (a-store (start v .args .lent))) (v .extent .result) (v .extent .last .1 .1 .1 .1 .0) (logOf (now (start v .args .journal)))
 index-any v some = index-in v some (a-store (start v .args .lent)) (a-store-lends (start v .args .lent))
 
+-- the order is granted: what was delivered, the extent before it, and that one order more fits
+abbrev delivered : tie.Else2 → tie.After-deliver-on
+delivered t = t .before .before .before .before .before
+
+abbrev found : tie.Else2 → tie.After-extent
+found t = delivered t .before .before .before .before .before .before
+
+asks : (t : tie.Else2) → (found t .extent .result .count + 1 ≤ mostOrders) × (logStart ≤ found t .extent .result .end + length (now (start (found t) .args .s))) × (found t .extent .result .end + length (now (start (found t) .args .s)) ≤ journalLength)
+asks t = delivery-asks (index-any (found t) (delivered t .before .before .before .if1 .left)) (now (start (found t) .args .s)) (bytes (found t)) (delivered t .deliver-on .ensures) (t .if2 .left)
+
 pub deliver-spec : {M : Type 1} → statement M
 deliver-spec =
     tie.close
@@ -56,14 +68,11 @@ deliver-spec =
     let f = o .before .before .before in
     let x = f .before .before .before in
     delivery-refused (index-in x (f .if1 .left) p is) (now (start x .args .s)) (bytes x) (o .deliver-on .ensures) (c .before .if2 .taken) (c .refused2 .ensures))
-    (λ c κs.  -- granted-requires
-    let o = c .before .before .before .before .before in
-    let f = o .before .before .before in
-    let x = f .before .before .before in
-    delivery-asks (index-any x (f .if1 .left)) (now (start x .args .s)) (bytes x) (o .deliver-on .ensures) (c .if2 .left))
+    (λ c. omega (arith, asks (c .before) .0))  -- add-t18
+    (λ c. omega (arith, asks (c .before .before) .2))  -- add-t20
+    (λ c κs. asks (c .before .before))  -- granted-requires
     (λ c. search needs)
     (λ c p is.  -- returns-3
-    let o = c .before .before .before .before .before .before in
-    let f = o .before .before .before in
-    let x = f .before .before .before in
-    delivery-granted (index-in x (f .if1 .left) p is) (now (start x .args .s)) (bytes x) (o .deliver-on .ensures) (c .before .if2 .left) (c .granted .ensures)))
+    let t = c .before .before .before in
+    let x = found t in
+    delivery-granted (index-in x (delivered t .before .before .before .if1 .left) p is) (now (start x .args .s)) (bytes x) (delivered t .deliver-on .ensures) (t .if2 .left) (c .granted .ensures)))
