@@ -10,6 +10,7 @@ use borrow.Author.Tests.{eqb-true, ne-eqb, ltb-true, ltb-false}
 use Rattle.wire.specs.Tests.{pick, both}
 use Rattle.wire.specs.Parts.{slice}
 use Rattle.wire.proofs.Numbers.{Bytes, bytes-slice}
+use Rattle.index.specs.declared.Stepped.{Stepped}
 use Rattle.journal.specs.declared.JournalExtent.{JournalExtent}
 use Rattle.journal.specs.Limits.{logStart, mostOrders, journalLength}
 use Rattle.journal.specs.State.{State, bytesIn}
@@ -19,9 +20,8 @@ use Rattle.journal.proofs.Runs.{bytes-append}
 use Rattle.journal.proofs.Stored.{stored-reads}
 use Rattle.journal.proofs.Logged.{Logged, withJournal, logged-view, logged-bytes, logged-low, logged-high, past-more}
 use Rattle.journal.proofs.Indexed.{Indexed}
-use Rattle.session.specs.declared.Delivery.{Delivery}
 use Rattle.session.specs.Calls.{deliver, nothing, Answer, refuse, grant, answer, next}
-use Rattle.session.specs.Delivery.{Ready, numberOn, appended, DeliveredOn}
+use Rattle.session.specs.Delivery.{Ready, numberOn, appended, oneMore, DeliveredOn}
 use Rattle.session.proofs.Outcomes.{stateIn, same-past}
 use Rattle.session.proofs.Deliveries.{ready, answers, changes, delivery-again}
 use Rattle.update.specs.declared.Report.{Report}
@@ -258,7 +258,7 @@ module _ {m : Memory} (limit : ℕ) (s : List ℕ) {w : JournalExtent} {n at : �
           ∙ ap (λ (k : ℕ). deliverAll k (order ∷ cutFrom (length s - (n + 1)) (drop end s)) st) k
           ∙ deliver-first (limit - (n + 1)) order (cutFrom (length s - (n + 1)) (drop end s)) st
 
-      module _ (bytes : Bytes s) {r : Delivery} {d' j' : List ℕ} (done : DeliveredOn d j order (record { count = w .count + n; end = w .end + at }) r d' j') where
+      module _ (bytes : Bytes s) {r : Stepped} {d' j' : List ℕ} (done : DeliveredOn d j order (record { count = w .count + n; end = w .end + at }) r d' j') where
         order-bytes : Bytes order
         unfolding slice
         order-bytes = bytes-slice s at (end - at) bytes
@@ -284,20 +284,20 @@ module _ {m : Memory} (limit : ℕ) (s : List ℕ) {w : JournalExtent} {n at : �
           on-zero : numberOn d (record { count = w .count + n; end = w .end + at }) order ≡ 0
           on-zero = sym (done .number) ∙ zero
 
-          after : Indexed (withJournal m j') (r .extent) d' ((g .before ++ g .granted) ++ (order ∷ []))
+          after : Indexed (withJournal m j') (oneMore (record { count = w .count + n; end = w .end + at }) order) d' ((g .before ++ g .granted) ++ (order ∷ []))
           after = delivery-again (g .indexed) order order-bytes done zero
 
-          extent-is : r .extent ≡ record { count = w .count + (n + 1); end = w .end + end }
+          extent-is : oneMore (record { count = w .count + n; end = w .end + at }) order ≡ record { count = w .count + (n + 1); end = w .end + end }
           extent-is =
               let a : w .count + n + 1 ≡ w .count + (n + 1) = omega arith in
               let b : w .end + at + length order ≡ w .end + end = omega (arith, order-long, end-after) in
-              done .extent ∙ rw (on-zero, a, b)
+              rw (a, b)
 
           put-is : j' ≡ appended j (record { count = w .count + n; end = w .end + at }) order
           put-is = done .journal ∙ rw on-zero
 
           room : w .end + at + length order ≤ journalLength
-          room = let h = logged-high (after .logged) in let e = ap (λ (x : JournalExtent). x .end) extent-is in omega (arith, h, e, order-long, end-after)
+          room = logged-high (after .logged)
 
           lists : (g .before ++ g .granted) ++ (order ∷ []) ≡ g .before ++ (g .granted ++ (order ∷ []))
           lists = append-assoc (g .before) (g .granted) (order ∷ [])

@@ -56,7 +56,8 @@ fn reported(number: u8, n: u32, at: usize, w: JournalExtent) -> Report
     }
 }
 
-// Delivers the orders of the update until limit are granted, none is left or one is refused.
+// Delivers the orders of the update until limit are granted, none is left or one is refused. The record of each is looked for in the
+// slot of the one before it first.
 pub fn update(
     index: &[u8],
     bodies: &[u8],
@@ -80,18 +81,20 @@ pub fn update(
     }
     let mut n: u32 = 0;
     let mut at: usize = 0;
+    let mut near = index::slots::COUNT;
     while (n < limit) & (at < s.len()) {
         let end = cut(s, at);
         let extent = JournalExtent {
             count: w.count + (n as usize),
             end: w.end + at,
         };
-        let r = session::calls::deliver_on(journal, &mut d, &s[at..end], extent);
+        let r = session::calls::deliver_on(journal, &mut d, &s[at..end], extent, near);
         if r.number != 0 {
             return reported(r.number, n, at, w);
         }
         n += 1;
         at = end;
+        near = r.slot;
     }
     reported(0, n, at, w)
 }

@@ -17,11 +17,11 @@ use Rattle.update.proofs.update.Tie as tie
 
 -- in each store that lends so many places
 abbrev Inv-loop : tie.InvT-loop
-Inv-loop index bodies lent journal₀ limit s d₀ w n₀ at₀ journal d n at =
+Inv-loop index bodies lent journal₀ limit s d₀ w n₀ at₀ near₀ journal d n at near =
     (length journal ≡ length journal₀) × InEachStore lent (λ store. Going (memory index bodies store journal₀) limit s w n at d journal) × (length d ≡ indexLength)
 
 abbrev μ-loop : tie.MeasureT-loop
-μ-loop index bodies lent journal₀ limit s d₀ w n₀ at₀ journal d n at = length s - at
+μ-loop index bodies lent journal₀ limit s d₀ w n₀ at₀ near₀ journal d n at near = length s - at
 
 abbrev start : tie.After-extent Inv-loop μ-loop → tie.Start Inv-loop μ-loop
 start v = v .before .before .before .before .before .before .before
