@@ -18,6 +18,7 @@ use Rattle.order.specs.Judge.{numberOf, judgeOf}
 use Rattle.index.specs.Orders.{onJudged}
 use Rattle.index.specs.Index.{Index, recordNumber, numberIn}
 use Rattle.index.specs.Plans.{planOf, planNumber}
+use Rattle.index.specs.Steps.{stepNumber}
 use Rattle.index.specs.declared.Plan.{Plan}
 use Rattle.journal.specs.declared.JournalExtent.{JournalExtent}
 use Rattle.journal.specs.State.{run}
@@ -42,16 +43,16 @@ module _ (d s : List ℕ) (w : JournalExtent) {p : Plan} (is : p ≡ planOf d s)
   number-is = sym (told ∙ ap planNumber is)
 
   pub table-refused : (n ≡ 0 → ⊥) → explanation n 7 ≡ onTable d s w
-  unfolding onTable numberOn
+  unfolding onTable numberOn stepNumber
   table-refused h = let z = ne-eqb n 0 h in rw (number-is, z, z)
 
   module _ (zero : n ≡ 0) where
     pub table-full : isFull w s ≡ true → explanation 12 7 ≡ onTable d s w
-    unfolding onTable numberOn
+    unfolding onTable numberOn stepNumber
     table-full f = rw (number-is, zero, f)
 
     pub table-done : isFull w s ≡ false → explanation 0 0 ≡ onTable d s w
-    unfolding onTable numberOn
+    unfolding onTable numberOn stepNumber
     table-done f = rw (number-is, zero, f)
 
 module _ (d s : List ℕ) (w : JournalExtent) {j : Judged} (is : j ≡ judgeOf s) where
@@ -107,7 +108,7 @@ module _ {m : Memory} {w : JournalExtent} {d : List ℕ} {os : List (List ℕ)} 
 
   -- of an order that passes the bytes' rules the offset is 7
   seven : (j : Judged) → judgeOf s ≡ j → numberOf j ≡ 0 → pick (eqb (numberOn d w s) 0) 0 7 ≡ offsetOf (numberOn d w s) s
-  unfolding numberOn
+  unfolding numberOn stepNumber
   seven j e z = go (eqb (planNumber (planOf d s)) 0) (isFull w s) refl
     where
       passed : offsetOf (planNumber (planOf d s)) s ≡ pick (eqb (planNumber (planOf d s)) 0) 0 7
@@ -121,7 +122,7 @@ module _ {m : Memory} {w : JournalExtent} {d : List ℕ} {os : List (List ℕ)} 
 
   -- of a refusal by its bytes it is the one that judging tells
   refused-number : (j : Judged) → judgeOf s ≡ j → (numberOf j ≡ 0 → ⊥) → numberOn d w s ≡ numberOf j
-  unfolding numberOn planOf
+  unfolding numberOn stepNumber planOf
   refused-number (Window o) e h = absurd (h refl)
   refused-number (Notification o) e h = absurd (h refl)
   refused-number (Desktop o) e h = absurd (h refl)
