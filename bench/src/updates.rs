@@ -14,7 +14,7 @@ use second::update::{self, Report};
 
 use crate::callgrind;
 use crate::kinds::{self, Kind, Order};
-use crate::state::{listings, Job, Listing};
+use crate::state::{listings, with_rectangles, Job, Listing};
 use crate::table::Cost;
 
 /// Orders of a batch, and the bytes that the history has room for.
@@ -22,8 +22,11 @@ const BATCH: usize = 32;
 const ROOM: usize = 32_768;
 /// N: callgrind counts N and 2N calls. Both have as many digits.
 const CALLS: usize = 20;
-/// The listings, and what an order of each kind is to stay under with each.
-const LISTINGS: [&str; 2] = ["one", "full"];
+/// The listings, each with its column of the aims. The aims are older than the figures that
+/// every validation counts: so a full table is measured with one rectangle in each window
+/// too.
+const LISTINGS: [(&str, usize); 3] = [("one", 0), ("apart-1", 1), ("full", 1)];
+/// What an order of each kind is to stay under, with one window and with a full table.
 const AIMS: [[f64; 2]; 8] = [
     [700.0, 950.0],
     [950.0, 1_200.0],
@@ -47,50 +50,51 @@ fn batch(kind: &Kind) -> Vec<&Order> {
     .collect()
 }
 
-/// Prints the table, once both sides answer alike.
+/// A listing by its name, those with rectangles that are apart among them.
+fn named(name: &str) -> Result<Listing, String> {
+    let mut all = listings().into_iter().chain(with_rectangles());
+    let known = all.find(|known| known.name == name);
+    known.ok_or_else(|| format!("no listing `{name}`"))
+}
+
+/// Prints a table for each listing, once both sides answer alike.
 pub fn run() -> Result<(), String> {
-    let listings: Vec<Listing> = listings()
-        .into_iter()
-        .filter(|listing| LISTINGS.contains(&listing.name))
-        .collect();
-    let titles: Vec<String> = listings
-        .iter()
-        .map(|listing| {
-            format!(
-                "{}: validation | its own | with its share | aim",
-                listing.label
-            )
-        })
-        .collect();
-    println!("| Order | Bytes | Batch | {} |", titles.join(" | "));
-    println!("|---|{}", "---:|".repeat(2 + 4 * titles.len()));
-    for (kind, aims) in kinds::all().iter().zip(AIMS) {
-        let orders = batch(kind).len();
-        let mut cells = Vec::new();
-        for (listing, aim) in listings.iter().zip(aims) {
-            check(listing, kind)?;
-            let [proved, plain] = [0, 1].map(|side| costs(listing, kind, side));
-            let (proved, plain) = (proved?, plain?);
-            let share = |(validation, own): (f64, f64)| own + validation / orders as f64;
-            let pair = |proved, plain| Cost { proved, plain }.text();
-            let missed = if share(proved) > aim { ", missed" } else { "" };
-            cells.push(pair(proved.0, plain.0));
-            cells.push(pair(proved.1, plain.1));
-            cells.push(pair(share(proved), share(plain)));
-            cells.push(format!("{aim:.0}{missed}"));
+    for (name, column) in LISTINGS {
+        let listing = named(name)?;
+        let each = listing.apart().map(|count| format!(": {count} in each"));
+        println!("### {}{}", listing.label, each.unwrap_or_default());
+        println!();
+        println!("| Order | Bytes | Batch | Validation | Its own | With its share | Aim |");
+        println!("|---|{}", "---:|".repeat(6));
+        for (kind, aims) in kinds::all().iter().zip(AIMS) {
+            print_row(&listing, kind, aims[column])?;
         }
-        let bytes = kind.order().len();
-        println!(
-            "| {} | {bytes} | {orders} | {} |",
-            kind.label,
-            cells.join(" | ")
-        );
+        println!();
     }
-    println!();
     println!(
         "Instructions, proved / plain (ratio), of `rail_update` and of the second program's update on its book, with no order after the mark. Validation: \
          the call with limit 0. Its own: what an order adds, the mean over the batch; of a kind that comes in turn with another, what the last \
          one adds. With its share: its own and the validation divided by the orders of the batch. Counted by callgrind as under \"State calls\"."
+    );
+    Ok(())
+}
+
+/// Prints what an order of the kind takes with a listing, and whether it stays under the aim.
+fn print_row(listing: &Listing, kind: &Kind, aim: f64) -> Result<(), String> {
+    check(listing, kind)?;
+    let orders = batch(kind).len();
+    let [proved, plain] = [0, 1].map(|side| costs(listing, kind, side));
+    let (proved, plain) = (proved?, plain?);
+    let share = |(validation, own): (f64, f64)| own + validation / orders as f64;
+    let pair = |proved, plain| Cost { proved, plain }.text();
+    let missed = if share(proved) > aim { ", missed" } else { "" };
+    println!(
+        "| {} | {} | {orders} | {} | {} | {} | {aim:.0}{missed} |",
+        kind.label,
+        kind.order().len(),
+        pair(proved.0, plain.0),
+        pair(proved.1, plain.1),
+        pair(share(proved), share(plain)),
     );
     Ok(())
 }
@@ -176,8 +180,7 @@ pub fn one(listing: &str, kind: &str, limit: &str, side: &str, calls: &str) -> R
     let number = |text: &str| -> Result<u32, String> {
         text.parse().map_err(|_| format!("`{text}` is no number"))
     };
-    let known = listings().into_iter().find(|known| known.name == listing);
-    let listing = known.ok_or_else(|| format!("no listing `{listing}`"))?;
+    let listing = named(listing)?;
     let known = kinds::all().into_iter().find(|known| known.label == kind);
     let kind = known.ok_or_else(|| format!("no order `{kind}`"))?;
     let (limit, calls) = (number(limit)?, number(calls)?);
