@@ -367,7 +367,7 @@ pub fn step(index: &mut [u8], s: &[u8], near: usize, full: bool) -> Stepped
             return steps::desktop(index, o.flags, full);
         }
         Judged::Refused(r) => {
-            return steps::refused(r.number);
+            return steps::no_slot(r.number);
         }
     };
     steps::record(index, s, r, near, full)

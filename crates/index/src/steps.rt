@@ -19,8 +19,8 @@ use crate::changes;
 use crate::slots;
 use places::Found;
 
-// An order that changes nothing.
-pub(crate) fn refused(number: u8) -> Stepped
+// The answer of an order that changes no slot.
+pub(crate) fn no_slot(number: u8) -> Stepped
     ensures { λ r. ⌜ r ≡ record { number = number; slot = slotCount } ⌝ }
 {
     Stepped {
@@ -77,7 +77,7 @@ fn at(index: &mut [u8], s: &[u8], o: RecordOrder, fresh: bool, i: usize, full: b
     }
     let c = crate::cell(s, o.icon);
     if crate::lacks_picture(index, o.flags, c) {
-        return refused(11);
+        return no_slot(11);
     }
     let pointer = crate::pointer_of(i, o.flags);
     let held = crate::beside(c, pointer);
@@ -86,7 +86,7 @@ fn at(index: &mut [u8], s: &[u8], o: RecordOrder, fresh: bool, i: usize, full: b
     }
     let f = places::free_place(index, held, pointer);
     let Found::At(p) = f else {
-        return refused(17);
+        return no_slot(17);
     };
     carry_out(index, crate::change_at(o, fresh, i, held, pointer, p), full)
 }
@@ -104,7 +104,7 @@ pub(crate) fn record(index: &mut [u8], s: &[u8], o: RecordOrder, near: usize, fu
         crate::searched_slot(index, family, o.window, o.notify, fresh)
     };
     match p {
-        Place::Not(n) => refused(n),
+        Place::Not(n) => no_slot(n),
         Place::Slot(i) => at(index, s, o, fresh, i, full),
     }
 }
@@ -115,11 +115,11 @@ pub(crate) fn desktop(index: &mut [u8], flags: u32, full: bool) -> Stepped
     ensures { λ r. ⌜ StepOutcome full (now (index .entry)) (ChangeDesktop flags) r (now (index .exit)) ⌝ }
 {
     if full {
-        return refused(12);
+        return no_slot(12);
     }
     if flags & protocol::DESKTOP_NONE != 0 {
         changes::clear(index);
-        return refused(0);
+        return no_slot(0);
     }
-    refused(0)
+    no_slot(0)
 }

@@ -34,7 +34,7 @@ step-spec =
     let a = j .before .before .before .args in
     let e = j .judge .ensures .0 in
     let g = c .before .before .j4 .given .1 in
-    steps-refused (a .full) (now (a .index)) (refused-number (now (a .s)) e g) (c .refused .ensures) (judged-refused (now (a .index)) (now (a .s)) e g))
+    steps-refused (a .full) (now (a .index)) (refused-number (now (a .s)) e g) (c .no-slot .ensures) (judged-refused (now (a .index)) (now (a .s)) e g))
     (λ c κs. search needs)
     (λ c. search needs)
     (λ c.  -- returns-3

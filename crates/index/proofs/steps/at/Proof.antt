@@ -31,7 +31,7 @@ at-spec =
     (λ c.  -- returns-2
     let l = c .before .before in
     let a = start l .args in
-    steps-refused (a .full) (now (a .index)) (λ e. omega (arith, e)) (c .refused .ensures)
+    steps-refused (a .full) (now (a .index)) (λ e. omega (arith, e)) (c .no-slot .ensures)
     (in-lacks (now (a .index)) (now (a .s)) (a .o) (a .i) (l .before .before .cell .ensures .0) (l .lacks-picture .ensures) (c .before .if2 .taken)))
     (λ c κs. search needs)
     (λ c κs. search needs)
@@ -61,7 +61,7 @@ at-spec =
     let h = c .before .before .before .before .before .before .before in
     let l = lacked h in
     let a = start l .args in
-    steps-refused (a .full) (now (a .index)) (λ e. omega (arith, e)) (c .refused2 .ensures)
+    steps-refused (a .full) (now (a .index)) (λ e. omega (arith, e)) (c .no-slot2 .ensures)
     (in-full (now (a .index)) (now (a .s)) (a .o) (a .i) (l .before .before .cell .ensures .0) (l .lacks-picture .ensures) (h .before .before .if2 .left) (h .before .pointer-of .ensures .0) (h .beside .ensures .0)
     (c .before .before .before .before .before .if3 .left) (c .before .before .before .free-place .ensures) (c .before .enum-told .given .1)))
     (λ c κs. search needs)

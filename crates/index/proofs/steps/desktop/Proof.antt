@@ -15,16 +15,16 @@ desktop-spec =
     (λ c κs. search needs)
     (λ c.  -- returns
     let a = c .before .before .before .args in
-    steps-full (a .full) (now (a .index)) (ChangeDesktop (a .flags)) refl (c .before .if1 .taken) (c .refused .ensures))
+    steps-full (a .full) (now (a .index)) (ChangeDesktop (a .flags)) refl (c .before .if1 .taken) (c .no-slot .ensures))
     (λ c κs. search needs)
     (λ c κs. search needs)
     (λ c. search needs)
     (λ c.  -- returns-2
     let k = c .before .before .before .before .before .before in
     let a = k .before .before .args in
-    steps-done (a .full) (now (a .index)) (ChangeDesktop (a .flags)) refl (k .if1 .left) (c .refused2 .ensures) (applied-none (now (a .index)) refl (c .before .before .before .before .before .if2 .taken) (c .before .before .before .clear .ensures)))
+    steps-done (a .full) (now (a .index)) (ChangeDesktop (a .flags)) refl (k .if1 .left) (c .no-slot2 .ensures) (applied-none (now (a .index)) refl (c .before .before .before .before .before .if2 .taken) (c .before .before .before .clear .ensures)))
     (λ c κs. search needs)
     (λ c.  -- returns-3
     let k = c .before .before in
     let a = k .before .before .args in
-    steps-done (a .full) (now (a .index)) (ChangeDesktop (a .flags)) refl (k .if1 .left) (c .refused3 .ensures) (applied-desktop (now (a .index)) refl (c .before .if2 .left))))
+    steps-done (a .full) (now (a .index)) (ChangeDesktop (a .flags)) refl (k .if1 .left) (c .no-slot3 .ensures) (applied-desktop (now (a .index)) refl (c .before .if2 .left))))

@@ -40,7 +40,7 @@ record-spec =
     (λ c.  -- returns
     let v = c .before .before .before .before in
     let a = start v .args in
-    steps-refused (a .full) (now (a .index)) (not-zero (now (a .index)) (a .o) (placed v) (c .before .before .p .given .1)) (c .refused .ensures)
+    steps-refused (a .full) (now (a .index)) (not-zero (now (a .index)) (a .o) (placed v) (c .before .before .p .given .1)) (c .no-slot .ensures)
     (record-refused (now (a .index)) (now (a .s)) (a .o) (placed v) (c .before .before .p .given .1)))
     (λ c. search needs)
     (λ c.  -- returns-2
