@@ -8,15 +8,19 @@ use borrow.Author.Tests.{eq-eqb, ne-eqb}
 use Rattle.wire.specs.Tests.{pick}
 use Rattle.protocol.specs.Flags.{flagCachedIcon, flagDeleted, flagIcon, flagOverlayNone}
 use Rattle.order.proofs.Absent.{unmet}
+use Rattle.places.specs.declared.Family.the-variants.{Windows}
+use Rattle.places.specs.Changes.{shareOf}
 use Rattle.index.specs.declared.RecordOrder.{RecordOrder}
 use Rattle.index.specs.declared.Plan.{Plan}
-use Rattle.index.specs.declared.Plan.the-variants.{Refuse}
+use Rattle.index.specs.declared.Plan.the-variants.{ChangeRecord, Refuse}
 use Rattle.index.specs.declared.Stepped.{Stepped}
-use Rattle.index.specs.Orders.{isNew}
-use Rattle.index.specs.Plans.{lacksPicture, changeOf, planAt, planIn, planNumber, planSlot}
+use Rattle.index.specs.Orders.{isNew, cellAt}
+use Rattle.index.specs.Plans.{lacksPicture, pointerFor, besideOf, changeWith, changeOf, planAt, planIn, planNumber, planSlot}
 use Rattle.index.specs.Changes.{listedOf, removedOf, changedOf, appliedOf}
+use Rattle.index.specs.Short.{BringsCached}
 use Rattle.index.specs.Steps.{stepNumber, steppedOf, slotStepped, StepOutcome, SlotOutcome}
-use Rattle.index.proofs.Ways.{picture-none}
+use Rattle.index.proofs.Ways.{picture-none, picture-shared, changed-old, applied-record}
+use Rattle.index.proofs.PlansMade.{in-plain}
 
 -- ---- any plan
 
@@ -75,3 +79,25 @@ module _ (full : Bool) (x : List ℕ) (o : RecordOrder) (i : ℕ) where
           let c = changeOf s o i 0 in
           let l = pick (c .fresh) (listedOf x i (o .window .id) (o .notify .id)) x in
           ap (pick (c .deleted) (removedOf x i)) (picture-none l c icon cached overlay)
+
+pub slot-as : (full : Bool) (x : List ℕ) (i : ℕ) {o q : RecordOrder} {r : Stepped} {x' : List ℕ} → o ≡ q → SlotOutcome full x o i r x' → SlotOutcome full x q i r x'
+slot-as full x i e h = rw (← e) h
+
+-- ---- a cached icon alone
+
+module _ (full : Bool) (x s : List ℕ) (o : RecordOrder) (i : ℕ) (brings : BringsCached (o .flags)) {c : ℕ} (e : c ≡ cellAt s (o .icon)) {t : Bool}
+    (h : t ≡ lacksPicture x (o .flags) c) (k : t ≡ false) where
+  pub share-full : full ≡ true → StepOutcome full x (planIn x s o i) (record { number = 12; slot = i }) x
+  share-full f =
+      let pointer = pointerFor i (o .flags) in
+      let held = besideOf c pointer in
+      steps-as full x (in-plain x s o i e h k refl refl (brings .icon) refl) (steps-full full x (ChangeRecord (changeWith o i held pointer 0)) refl f refl)
+
+  pub share-done : {pointer held : ℕ} {x' : List ℕ} → full ≡ false → o .family ≡ Windows → pointer ≡ pointerFor i (o .flags) → held ≡ besideOf c pointer → x' ≡ shareOf x pointer held
+      → StepOutcome full x (planIn x s o i) (record { number = 0; slot = i }) x'
+  share-done {pointer} {held} f w g b y =
+      let r = changeWith o i held pointer 0 in
+      let deleted : r .deleted ≡ false = rw (eq-eqb (bitAnd (o .flags) flagDeleted) 0 (brings .deleted)) in
+      let fresh : r .fresh ≡ false = rw w (brings .old) in
+      steps-as full x (in-plain x s o i e h k g b (brings .icon) refl)
+      (steps-done full x (ChangeRecord r) refl f refl (applied-record x refl (changed-old x r deleted fresh (picture-shared x r (brings .icon) (brings .cached) y))))

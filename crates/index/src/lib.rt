@@ -12,7 +12,7 @@ ghost use Rattle.index.specs.Families.{indexLength, isWithin};
 ghost use Rattle.index.specs.Slots.{isAt};
 ghost use Rattle.index.specs.Orders.{isNew, cellAt, whichOf};
 ghost use Rattle.index.specs.Plans.{besideOf, pointerFor, lacksPicture, placeFor, changeWith, planIn, planRecord, planOf, planNumber, planSlot};
-ghost use Rattle.index.specs.Steps.{stepOf, steppedOf};
+ghost use Rattle.index.specs.Steps.{stepOf, steppedOf, StepOutcome};
 ghost use Rattle.index.specs.Sound.{soundIndex};
 use order::Judged;
 use order::NotificationOrder;
@@ -23,6 +23,7 @@ use protocol::NotifyIconId;
 use protocol::WindowId;
 
 pub mod changes;
+mod short;
 pub mod slots;
 pub mod sound;
 mod steps;
@@ -352,12 +353,10 @@ pub fn slot(p: Plan) -> usize
     }
 }
 
-// Judges an order on the index and, unless it is refused or the history is full (12, the last of the numbers), carries it out.
-// Slot near is looked at for its record before a search. No plan is made of it: that takes as long again.
-pub fn step(index: &mut [u8], s: &[u8], near: usize, full: bool) -> Stepped
+// Judges any order and carries it out.
+fn step_judged(index: &mut [u8], s: &[u8], near: usize, full: bool) -> Stepped
     requires { ⌜ soundIndex (now index) ≡ true ⌝ }
-    ensures { λ r. ⌜ r ≡ stepOf full (planOf (now (index .entry)) (now (s .entry))) ⌝ }
-    ensures { λ r. ⌜ now (index .exit) ≡ steppedOf full (now (index .entry)) (planOf (now (index .entry)) (now (s .entry))) ⌝ }
+    ensures { λ r. ⌜ StepOutcome full (now (index .entry)) (planOf (now (index .entry)) (now (s .entry))) r (now (index .exit)) ⌝ }
 {
     let j = order::judge(s);
     let r = match j {
@@ -371,4 +370,24 @@ pub fn step(index: &mut [u8], s: &[u8], near: usize, full: bool) -> Stepped
         }
     };
     steps::record(index, s, r, near, full)
+}
+
+// Judges an order on the index and, unless it is refused or the history is full (12, the last of the numbers), carries it
+// out. Slot near is looked at for its record before a search. No plan is made of it: that takes as long again; and an order that
+// says one thing is judged at a glance.
+pub fn step(index: &mut [u8], s: &[u8], near: usize, full: bool) -> Stepped
+    requires { ⌜ soundIndex (now index) ≡ true ⌝ }
+    ensures { λ r. ⌜ r ≡ stepOf full (planOf (now (index .entry)) (now (s .entry))) ⌝ }
+    ensures { λ r. ⌜ now (index .exit) ≡ steppedOf full (now (index .entry)) (planOf (now (index .entry)) (now (s .entry))) ⌝ }
+{
+    if short::is_delete(s) {
+        return steps::delete(index, s, near, full);
+    }
+    if short::is_cached(s) {
+        return steps::cached(index, s, near, full);
+    }
+    if short::is_list(s) {
+        return steps::desktop(index, short::LIST, full);
+    }
+    step_judged(index, s, near, full)
 }

@@ -1,23 +1,30 @@
 // A plan carried out as it is made: what each kind of order does to the index, and its number.
 ghost use mathlib.Core.Path.{_≡_};
-ghost use mathlib.Core.Bool.{true};
+ghost use mathlib.Core.Bool.{true, false};
 ghost use Prim.Native.Nat.{_<_, _≤_};
 ghost use lib.ListN.{length};
+ghost use Rattle.wire.specs.Numbers.{numAt};
 ghost use Rattle.places.specs.Sizes.{slotCount};
+ghost use Rattle.places.specs.declared.Family.the-variants.{Windows};
 ghost use Rattle.index.specs.declared.Plan.the-variants.{ChangeRecord, ChangeDesktop};
 ghost use Rattle.index.specs.Families.{indexLength};
 ghost use Rattle.index.specs.Orders.{isNew};
-ghost use Rattle.index.specs.Plans.{planIn, planRecord};
+ghost use Rattle.index.specs.Plans.{slotFor, planIn, planRecord};
 ghost use Rattle.index.specs.Changes.{Fits};
 ghost use Rattle.index.specs.Steps.{StepOutcome, SlotOutcome};
+ghost use Rattle.index.specs.Short.{deleteFlags, recordOf, BringsCached};
 ghost use Rattle.index.specs.Sound.{soundIndex};
 use crate::Change;
 use crate::Place;
 use crate::RecordOrder;
 use crate::Stepped;
 use crate::changes;
+use crate::short;
 use crate::slots;
+use places::Family;
 use places::Found;
+use protocol::NotifyIconId;
+use protocol::WindowId;
 
 // The answer of an order that changes no slot.
 pub(crate) fn no_slot(number: u8) -> Stepped
@@ -122,4 +129,79 @@ pub(crate) fn desktop(index: &mut [u8], flags: u32, full: bool) -> Stepped
         return no_slot(0);
     }
     no_slot(0)
+}
+
+// The order of a window that has no field, as one for a record.
+fn short_order(s: &[u8], flags: u32) -> RecordOrder
+    ensures { λ r. ⌜ r ≡ recordOf flags (now (s .entry)) ⌝ }
+{
+    let family = Family::Windows;
+    let id = wire::read_u32(s, short::ID_AT);
+    RecordOrder {
+        family,
+        window: WindowId { id },
+        notify: NotifyIconId { id: 0 },
+        flags,
+        icon: short::ICON_AT,
+    }
+}
+
+// 9, or the slot of a record that is listed; slot near is looked at before a search.
+fn own_slot(index: &[u8], o: RecordOrder, near: usize) -> Place
+    requires { ⌜ (soundIndex (now index) ≡ true) × (isNew (o .family) (o .flags) ≡ false) ⌝ }
+    ensures { λ r. ⌜ r ≡ slotFor (now (index .entry)) o ⌝ }
+{
+    if crate::is_near(index, o, false, near) {
+        return Place::Slot(near);
+    }
+    let family = o.family;
+    crate::searched_slot(index, family, o.window, o.notify, false)
+}
+
+// A window's delete, which says nothing else.
+pub(crate) fn delete(index: &mut [u8], s: &[u8], near: usize, full: bool) -> Stepped
+    requires { ⌜ soundIndex (now index) ≡ true ⌝ }
+    ensures { λ r. ⌜ StepOutcome full (now (index .entry)) (planRecord (now (index .entry)) (now (s .entry)) (recordOf deleteFlags (now (s .entry)))) r (now (index .exit)) ⌝ }
+{
+    let o = short_order(s, short::DELETE);
+    let p = own_slot(index, o, near);
+    match p {
+        Place::Not(n) => no_slot(n),
+        Place::Slot(i) => slot(index, o, false, i, full),
+    }
+}
+
+// 11, or a cached icon of the record in slot i, which says nothing else, shared unless the history is full.
+fn share_at(index: &mut [u8], s: &[u8], o: RecordOrder, i: usize, full: bool) -> Stepped
+    requires { ⌜ (soundIndex (now index) ≡ true) × (i < slotCount) × (o .family ≡ Windows) × BringsCached (o .flags) ⌝ }
+    ensures { λ r. ⌜ StepOutcome full (now (index .entry)) (planIn (now (index .entry)) (now (s .entry)) o i) r (now (index .exit)) ⌝ }
+{
+    let c = crate::cell(s, o.icon);
+    if crate::lacks_picture(index, o.flags, c) {
+        return no_slot(11);
+    }
+    if full {
+        return Stepped {
+            number: 12,
+            slot: i,
+        };
+    }
+    let pointer = crate::pointer_of(i, o.flags);
+    let held = crate::beside(c, pointer);
+    places::share(index, pointer, held);
+    Stepped { number: 0, slot: i }
+}
+
+// A window's cached icon, which says nothing else.
+pub(crate) fn cached(index: &mut [u8], s: &[u8], near: usize, full: bool) -> Stepped
+    requires { ⌜ (soundIndex (now index) ≡ true) × BringsCached (numAt 4 (now s) 3) ⌝ }
+    ensures { λ r. ⌜ StepOutcome full (now (index .entry)) (planRecord (now (index .entry)) (now (s .entry)) (recordOf (numAt 4 (now (s .entry)) 3) (now (s .entry)))) r (now (index .exit)) ⌝ }
+{
+    let flags = wire::read_u32(s, short::FLAGS_AT);
+    let o = short_order(s, flags);
+    let p = own_slot(index, o, near);
+    match p {
+        Place::Not(n) => no_slot(n),
+        Place::Slot(i) => share_at(index, s, o, i, full),
+    }
 }
