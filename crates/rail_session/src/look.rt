@@ -7,12 +7,12 @@ use crate::lending::JOURNAL;
 use crate::lending::Lending;
 use crate::lending::MEMORY;
 use crate::lending::STORE;
+use crate::lists;
+use crate::show;
 use protocol::NotifyIconId;
 use protocol::WindowId;
 use session::LookupTarget;
 use session::Reply;
-use session_lines::lists;
-use session_lines::show;
 
 fn look(memory: &[u8; MEMORY], l: Lending, target: LookupTarget, found: &mut [u8]) -> Reply {
     session::lookups::look(

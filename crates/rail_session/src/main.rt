@@ -3,21 +3,23 @@ mod batch;
 mod calls;
 mod dump;
 mod faults;
+mod fill;
 mod holders;
 mod item;
 mod lending;
+mod lists;
 mod look;
+mod pictures;
 mod records;
+mod show;
 mod turn;
-
-use session_lines::dump::LINE;
 
 // A proved loop has to end, and nothing says that the input does: the items are counted down from
 // a number that no run uses up.
 fn run(
     memory: &mut [u8; lending::MEMORY],
     payload: &mut [u8; item::PAYLOAD],
-    out: &mut [u8; LINE],
+    out: &mut [u8; dump::LINE],
 ) {
     let mut l = lending::first();
     calls::state_call(memory, b'E', l);
@@ -35,6 +37,6 @@ fn run(
 fn main() {
     let mut memory = [0xEEu8; lending::MEMORY];
     let mut payload = [0u8; item::PAYLOAD];
-    let mut out = [0u8; LINE];
+    let mut out = [0u8; dump::LINE];
     run(&mut memory, &mut payload, &mut out);
 }

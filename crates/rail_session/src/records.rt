@@ -1,11 +1,11 @@
 // The items of the session record: O writes it, V reads one.
+use crate::fill::numbers;
 use crate::lending;
 use crate::lending::Lending;
 use crate::lending::MEMORY;
+use crate::show;
 use libc::STDOUT_FILENO;
 use session::Reply;
-use session_lines::records::read_line;
-use session_lines::records::write_line;
 
 // The most bytes that an item lends.
 const LENT: usize = 65535;
@@ -35,6 +35,17 @@ fn written(r: Reply) -> usize {
     2 + 8 * (r.count as usize) + (r.bytes as usize)
 }
 
+// The line of a write; where it is granted with the record.
+fn write_line(out: &mut [u8], r: Reply, record: &[u8]) -> bool {
+    let n = show::reply(out, b'O', r);
+    if r.number != 0 {
+        return print::end_line(out, n);
+    }
+    let n = print::byte(out, n, b' ');
+    let n = print::hex(out, n, record);
+    print::end_line(out, n)
+}
+
 // The record of the state memory as it is lent, written to memory.
 fn write(state: &[u8; MEMORY], memory: &mut [u8], l: Lending) -> Reply {
     session::records::write(
@@ -56,8 +67,7 @@ fn write_to(state: &[u8; MEMORY], memory: &mut [u8], out: &mut [u8], l: Lending)
     if !is_kept(memory, n) {
         return memory_changed();
     }
-    let end = write_line(out, r, &memory[0..n]);
-    print::end_line(out, end)
+    write_line(out, r, &memory[0..n])
 }
 
 // O: a write to memory of the size that the payload names.
@@ -67,8 +77,39 @@ pub(crate) fn write_call(state: &[u8; MEMORY], s: &[u8], out: &mut [u8], l: Lend
     write_to(state, &mut memory[0..size], out, l)
 }
 
+// The comma between bodies.
+fn parting(out: &mut [u8], at: usize, i: usize) -> usize {
+    if i == 0 {
+        return at;
+    }
+    print::byte(out, at, b',')
+}
+
+// Bodies as hex, parted by commas.
+fn bodies(out: &mut [u8], at: usize, record: &[u8], count: usize) -> usize {
+    let mut n = at;
+    let mut i = 0;
+    while i < count {
+        n = parting(out, n, i);
+        n = print::hex(out, n, record::body(record, i));
+        i += 1;
+    }
+    n
+}
+
+// The number of a record, and where that is 0 its bodies.
+fn contents(s: &[u8], out: &mut [u8]) -> usize {
+    let c = record::inspect(s);
+    let n = print::field(out, 0, b"V ", c.number as u64);
+    if c.number != 0 {
+        return n;
+    }
+    let n = numbers(out, n, b" # bodies=", &[c.count as u64]);
+    bodies(out, n, s, c.count)
+}
+
 // V: a record read.
 pub(crate) fn read_call(s: &[u8], out: &mut [u8]) -> bool {
-    let n = read_line(out, s);
+    let n = contents(s, out);
     print::end_line(out, n)
 }

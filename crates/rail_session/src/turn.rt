@@ -10,7 +10,7 @@ use crate::lending::Lending;
 use crate::lending::MEMORY;
 use crate::look;
 use crate::records;
-use session_lines::show;
+use crate::show;
 
 // Whether the run goes on, and what the next call is lent.
 pub(crate) struct Turn {

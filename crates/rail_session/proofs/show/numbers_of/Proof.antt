@@ -2,8 +2,8 @@
 use Prim.Native.Nat.{_-_, _≤_}
 use native.Mathlib.Omega.{arith}
 use borrow.Author.Needs.{needs}
-use Rattle.session_lines.proofs.show.numbers_of.Statement.{statement}
-use Rattle.session_lines.proofs.show.numbers_of.Tie as tie
+use Rattle.rail_session.proofs.show.numbers_of.Statement.{statement}
+use Rattle.rail_session.proofs.show.numbers_of.Tie as tie
 
 abbrev Inv-loop : tie.InvT-loop
 Inv-loop ids ns₀ i₀ ns i = i ≤ 64

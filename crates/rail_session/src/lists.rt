@@ -38,7 +38,7 @@ fn entries(out: &mut [u8], at: usize, bytes: &[u8], icons: bool) -> usize {
 }
 
 // The line of the two lists.
-pub fn found(out: &mut [u8], kind: u8, r: Reply, windows: &[u8], icons: &[u8]) -> usize {
+pub(crate) fn found(out: &mut [u8], kind: u8, r: Reply, windows: &[u8], icons: &[u8]) -> usize {
     let n = show::reply(out, kind, r);
     if r.number != 0 {
         return n;

@@ -40,7 +40,7 @@ const PIXELS_HIGH: usize = PIXELS_LOW + 4;
 const HALF: u64 = 4294967296;
 
 // The most bytes that a lookup hands out.
-pub const FOUND: usize = session::lookups::WINDOW;
+pub(crate) const FOUND: usize = session::lookups::WINDOW;
 
 fn words(out: &mut [u8], at: usize, name: &[u8], t: Text) -> usize {
     let bytes = t.bytes;
@@ -234,7 +234,7 @@ fn desktop_record(out: &mut [u8], at: usize, bytes: &[u8; FOUND]) -> usize {
 }
 
 // The kind and the number, and for a granted call the count and the bytes.
-pub fn reply(out: &mut [u8], kind: u8, r: Reply) -> usize {
+pub(crate) fn reply(out: &mut [u8], kind: u8, r: Reply) -> usize {
     let n = field(out, 0, &[kind, b' '], r.number as u64);
     if r.number != 0 {
         return n;
@@ -255,7 +255,7 @@ fn record(out: &mut [u8], at: usize, target: LookupTarget, bytes: &[u8; FOUND]) 
 }
 
 // The line of a lookup.
-pub fn found(
+pub(crate) fn found(
     out: &mut [u8],
     kind: u8,
     r: Reply,

@@ -3,8 +3,8 @@ use lib.ListN.{length}
 use borrow.Author.Needs.{needs}
 use Prim.Native.Nat.{_-_}
 use mathlib.Core.Path.{_≡_}
-use Rattle.session_lines.proofs.fill.fill.Statement.{statement}
-use Rattle.session_lines.proofs.fill.fill.Tie as tie
+use Rattle.rail_session.proofs.fill.fill.Statement.{statement}
+use Rattle.rail_session.proofs.fill.fill.Tie as tie
 
 abbrev Inv-loop : tie.InvT-loop
 Inv-loop out₀ at template ns zs n₀ k₀ j₀ i₀ out n k j i = length out ≡ length out₀

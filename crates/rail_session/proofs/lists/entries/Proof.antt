@@ -4,8 +4,8 @@ use mathlib.Core.Path.{_≡_}
 use native.Mathlib.Omega.{arith}
 use lib.ListN.{length}
 use borrow.Author.Needs.{needs}
-use Rattle.session_lines.proofs.lists.entries.Statement.{statement}
-use Rattle.session_lines.proofs.lists.entries.Tie as tie
+use Rattle.rail_session.proofs.lists.entries.Statement.{statement}
+use Rattle.rail_session.proofs.lists.entries.Tie as tie
 
 abbrev Inv-loop : tie.InvT-loop
 Inv-loop out₀ at bytes icons n₀ i₀ out n i = (i ≤ 32) × (length out ≡ length out₀)

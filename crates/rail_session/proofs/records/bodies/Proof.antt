@@ -3,8 +3,8 @@ use lib.ListN.{length}
 use mathlib.Core.Path.{_≡_}
 use borrow.Author.Needs.{needs}
 use Prim.Native.Nat.{_-_}
-use Rattle.session_lines.proofs.records.bodies.Statement.{statement}
-use Rattle.session_lines.proofs.records.bodies.Tie as tie
+use Rattle.rail_session.proofs.records.bodies.Statement.{statement}
+use Rattle.rail_session.proofs.records.bodies.Tie as tie
 
 abbrev Inv-loop : tie.InvT-loop
 Inv-loop out₀ at «record» count n₀ i₀ out n i = length out ≡ length out₀
