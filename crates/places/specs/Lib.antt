@@ -2,6 +2,7 @@ pub mod Sizes
 pub mod Counts
 pub mod Sharing
 pub mod Memory
+pub mod Held
 pub mod Changes
 pub mod Marks
 pub mod Keyed

@@ -3,16 +3,17 @@
 ghost use mathlib.Core.Path.{_≡_};
 ghost use mathlib.Core.Bool.{true};
 ghost use mathlib.Core.List.{_∷_, []};
-ghost use Prim.Native.Nat.{ℕ, _+_, _<_, _≤_};
+ghost use Prim.Native.Nat.{ℕ, _+_, _-_, _<_, _≤_};
 ghost use lib.Dec.{eqb, ltb};
 ghost use lib.ListN.{length, getD};
 ghost use Rattle.places.specs.Sizes.{holderCount, holdersLength, groupSize, mostPlaces, pointerCount};
 ghost use Rattle.places.specs.Counts.{firstFrom};
 ghost use Rattle.places.specs.Sharing.{full};
 ghost use Rattle.wire.specs.Tests.{pick};
-ghost use Rattle.places.specs.Memory.{pointerAt, decode, cellsApart, valid};
+ghost use Rattle.places.specs.Memory.{pointerAt, countAt, isFree, decode, cellsApart, valid};
+ghost use Rattle.places.specs.Held.{HeldBelow};
 ghost use Rattle.places.specs.Marks.{noneOf, Marked, Most};
-ghost use Rattle.places.specs.Changes.{pointAll, freePlace, takeOf, shareOf, releaseOf, releaseRecordsOf};
+ghost use Rattle.places.specs.Changes.{letGo, pointAll, freePlace, takeOf, shareOf, releaseOf, releaseRecordsOf};
 
 // Cells of the icon cache.
 pub const CELLS: usize = 12;
@@ -129,6 +130,12 @@ fn larger(a: u8, b: u8) -> u8
     if a < b { b } else { a }
 }
 
+fn smaller(a: u8, b: u8) -> u8
+    ensures { λ r. ⌜ r ≡ pick (ltb a b) a b ⌝ }
+{
+    if a < b { a } else { b }
+}
+
 // The largest pointer.
 fn most(bytes: &[u8]) -> u8
     requires { ⌜ holdersLength ≤ length (now bytes) ⌝ }
@@ -192,6 +199,62 @@ pub fn free_place(bytes: &[u8], cell: usize, pointer: usize) -> Found
     left[pointer] = 0;
     let marks = marks_of(&left);
     first_unmarked(&marks, bytes[0])
+}
+
+// How many holders have a pointer.
+fn users(bytes: &[u8], v: u8) -> u8
+    requires { ⌜ holdersLength ≤ length (now bytes) ⌝ }
+    ensures { λ r. ⌜ r ≡ countAt holderCount (pointerAt (now (bytes .entry))) v ⌝ }
+{
+    let mut n: u8 = 0;
+    let mut h = 0;
+    while h < HOLDERS {
+        n += (bytes[h + 1] == v) as u8;
+        h += 1;
+    }
+    n
+}
+
+// Nobody but these two has a pointer, which is not none.
+fn is_theirs(bytes: &[u8], cell: usize, pointer: usize, v: u8) -> bool
+    requires { ⌜ (holdersLength ≤ length (now bytes)) × (cell < holderCount) × (pointer < holderCount) × (0 < v) ⌝ }
+    ensures { λ r. ⌜ r ≡ isFree holderCount (letGo (cell ∷ pointer ∷ []) (pointerAt (now (bytes .entry)))) (v - 1) ⌝ }
+{
+    let own = (bytes[cell + 1] == v) as u8;
+    let other = ((bytes[pointer + 1] == v) & (cell != pointer)) as u8;
+    users(bytes, v) == own + other
+}
+
+// The first place that nobody but these two points at, where the first `held` places are all pointed at: of those only the
+// two's own are looked at, the lower one first, then the next place; all pointers are marked only where none of these is free.
+pub fn free_place_from(bytes: &[u8], cell: usize, pointer: usize, held: u8) -> Found
+    requires { ⌜ (valid (now bytes) ≡ true) × (cell < holderCount) × (pointer < holderCount) ⌝ }
+    requires { ⌜ HeldBelow (now bytes) held ⌝ }
+    ensures { λ r. ⌜ r ≡ freePlace (now (bytes .entry)) (cell ∷ pointer ∷ []) ⌝ }
+{
+    if held == 0 {
+        return free_place(bytes, cell, pointer);
+    }
+    let a = bytes[cell + 1];
+    let b = bytes[pointer + 1];
+    let x = smaller(a, b);
+    let y = larger(a, b);
+    if (x != 0) & (x <= held) {
+        if is_theirs(bytes, cell, pointer, x) {
+            return Found::At(x as usize - 1);
+        }
+    }
+    if (x != y) & (y <= held) {
+        if is_theirs(bytes, cell, pointer, y) {
+            return Found::At(y as usize - 1);
+        }
+    }
+    if held < bytes[0] {
+        if is_theirs(bytes, cell, pointer, held + 1) {
+            return Found::At(held as usize);
+        }
+    }
+    free_place(bytes, cell, pointer)
 }
 
 // Refusal 17 of an icon: every place is still pointed at once its cell and its pointer have let go.
