@@ -16,3 +16,4 @@ pub mod Once
 pub mod StepsOfPlans
 pub mod JudgedNumbers
 pub mod ShortJudged
+pub mod StepsHeld

@@ -130,6 +130,33 @@ pub record Listed (x y : List ℕ) (i a b : ℕ) : Type 0 where
   pub first : firstId y i ≡ a
   pub second : secondId y i ≡ b
 
+-- the ids stand behind the holders' bytes
+pub listed-still : (x : List ℕ) (i a b : ℕ) → 589 ≤ length x → i < 48 → Still x (listedOf x i a b)
+unfolding listedOf
+listed-still x i a b long below =
+    let l1 = length-bytes 1 1 in
+    let l4 = length-bytes 4 a in
+    let l5 = length-bytes 4 b in
+    let y = splice x (157 + 9 * i) (bytesOf 1 1) in
+    let z = splice y (157 + 9 * i + 1) (bytesOf 4 a) in
+    let ly = length-splice x (157 + 9 * i) (bytesOf 1 1) (omega arith) in
+    let lz = length-splice y (157 + 9 * i + 1) (bytesOf 4 a) (omega arith) in
+    still-trans x z (splice z (157 + 9 * i + 5) (bytesOf 4 b))
+    (still-trans x y z (still-after x (157 + 9 * i) (bytesOf 1 1) (omega arith) (omega arith)) (still-after y (157 + 9 * i + 1) (bytesOf 4 a) (omega arith) (omega arith)))
+    (still-after z (157 + 9 * i + 5) (bytesOf 4 b) (omega arith) (omega arith))
+
+pub listed-long : (x : List ℕ) (i a b : ℕ) → 589 ≤ length x → i < 48 → length (listedOf x i a b) ≡ length x
+unfolding listedOf
+listed-long x i a b long below =
+    let l1 = length-bytes 1 1 in
+    let l4 = length-bytes 4 a in
+    let l5 = length-bytes 4 b in
+    let y = splice x (157 + 9 * i) (bytesOf 1 1) in
+    let z = splice y (157 + 9 * i + 1) (bytesOf 4 a) in
+    let ly = length-splice x (157 + 9 * i) (bytesOf 1 1) (omega arith) in
+    let lz = length-splice y (157 + 9 * i + 1) (bytesOf 4 a) (omega arith) in
+    length-splice z (157 + 9 * i + 5) (bytesOf 4 b) (omega arith) ∙ lz ∙ ly
+
 pub listed-is : (x : List ℕ) (i a b : ℕ) → 589 ≤ length x → i < 48 → a < 4294967296 → b < 4294967296 → Listed x (listedOf x i a b) i a b
 unfolding listedOf usedAt firstId secondId
 listed-is x i a b long below sa sb =
@@ -147,10 +174,7 @@ listed-is x i a b long below sa sb =
     let k3 : Kept z w i = kept-splice z i lz below (157 + 9 * i + 5) (bytesOf 4 b) (omega arith) (omega arith) in
     record {
       kept = kept-trans x z w i (kept-trans x y z i k1 k2) k3;
-      still =
-          still-trans x z w
-          (still-trans x y z (still-after x (157 + 9 * i) (bytesOf 1 1) (omega arith) (omega arith)) (still-after y (157 + 9 * i + 1) (bytesOf 4 a) (omega arith) (omega arith)))
-          (still-after z (157 + 9 * i + 5) (bytesOf 4 b) (omega arith) (omega arith));
+      still = listed-still x i a b long below;
       used =
           num-before 1 z (157 + 9 * i + 5) (bytesOf 4 b) (omega arith) (157 + 9 * i) (omega arith)
           ∙ num-before 1 y (157 + 9 * i + 1) (bytesOf 4 a) (omega arith) (157 + 9 * i) (omega arith)

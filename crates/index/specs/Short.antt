@@ -38,3 +38,10 @@ pub record BringsCached (flags : ℕ) : Type 0 where
   pub cached : bitAnd flags flagCachedIcon ≡ 0 → ⊥
   pub deleted : bitAnd flags flagDeleted ≡ 0
   pub old : isNew Windows flags ≡ false
+
+-- an icon and nothing else is brought
+pub record BringsIcon (flags : ℕ) : Type 0 where
+  pub icon : bitAnd flags flagIcon ≡ 0 → ⊥
+  pub cached : bitAnd flags flagCachedIcon ≡ 0
+  pub deleted : bitAnd flags flagDeleted ≡ 0
+  pub old : isNew Windows flags ≡ false

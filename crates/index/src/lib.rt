@@ -7,6 +7,7 @@ ghost use Prim.Native.Nat.{_<_, _≤_};
 ghost use lib.ListN.{length};
 ghost use Rattle.wire.specs.Tests.{both};
 ghost use Rattle.places.specs.Sizes.{holderCount, slotCount};
+ghost use Rattle.places.specs.Held.{HeldBelow};
 ghost use Rattle.places.specs.declared.Family.the-variants.{Windows, Notifications};
 ghost use Rattle.index.specs.Families.{indexLength, isWithin};
 ghost use Rattle.index.specs.Slots.{isAt};
@@ -77,10 +78,12 @@ pub enum Plan {
     Refuse(u8),
 }
 
-// The number of an order, and the slot of its record: past the last where it changes none.
+// The number of an order; the slot of its record, past the last where it changes none; and how many places, from the first on, are
+// then pointed at, as far as the order tells: an icon takes the first that is free.
 pub struct Stepped {
     pub number: u8,
     pub slot: usize,
+    pub held: u8,
 }
 
 // The cell that an icon or cached icon at index icon names.
@@ -354,8 +357,8 @@ pub fn slot(p: Plan) -> usize
 }
 
 // Judges any order and carries it out.
-fn step_judged(index: &mut [u8], s: &[u8], near: usize, full: bool) -> Stepped
-    requires { ⌜ soundIndex (now index) ≡ true ⌝ }
+fn step_judged(index: &mut [u8], s: &[u8], near: usize, held: u8, full: bool) -> Stepped
+    requires { ⌜ (soundIndex (now index) ≡ true) × HeldBelow (now index) held ⌝ }
     ensures { λ r. ⌜ StepOutcome full (now (index .entry)) (planOf (now (index .entry)) (now (s .entry))) r (now (index .exit)) ⌝ }
 {
     let j = order::judge(s);
@@ -369,16 +372,17 @@ fn step_judged(index: &mut [u8], s: &[u8], near: usize, full: bool) -> Stepped
             return steps::no_slot(r.number);
         }
     };
-    steps::record(index, s, r, near, full)
+    steps::record(index, s, r, near, held, full)
 }
 
 // Judges an order on the index and, unless it is refused or the history is full (12, the last of the numbers), carries it
-// out. Slot near is looked at for its record before a search. No plan is made of it: that takes as long again; and an order that
-// says one thing is judged at a glance.
-pub fn step(index: &mut [u8], s: &[u8], near: usize, full: bool) -> Stepped
-    requires { ⌜ soundIndex (now index) ≡ true ⌝ }
+// out. Slot near is looked at for its record before a search, and the first held places are known to be pointed at. No plan is made
+// of it: that takes as long again; and an order that says one thing is judged at a glance.
+pub fn step(index: &mut [u8], s: &[u8], near: usize, held: u8, full: bool) -> Stepped
+    requires { ⌜ (soundIndex (now index) ≡ true) × HeldBelow (now index) held ⌝ }
     ensures { λ r. ⌜ r ≡ stepOf full (planOf (now (index .entry)) (now (s .entry))) ⌝ }
     ensures { λ r. ⌜ now (index .exit) ≡ steppedOf full (now (index .entry)) (planOf (now (index .entry)) (now (s .entry))) ⌝ }
+    ensures { λ r. ⌜ HeldBelow (now (index .exit)) (r .held) ⌝ }
 {
     if short::is_delete(s) {
         return steps::delete(index, s, near, full);
@@ -386,8 +390,11 @@ pub fn step(index: &mut [u8], s: &[u8], near: usize, full: bool) -> Stepped
     if short::is_cached(s) {
         return steps::cached(index, s, near, full);
     }
+    if short::is_icon(s) {
+        return steps::icon(index, s, near, held, full);
+    }
     if short::is_list(s) {
         return steps::desktop(index, short::LIST, full);
     }
-    step_judged(index, s, near, full)
+    step_judged(index, s, near, held, full)
 }

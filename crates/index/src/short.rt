@@ -5,7 +5,7 @@ ghost use mathlib.Core.Bool.{true};
 ghost use Rattle.wire.specs.Numbers.{numAt};
 ghost use Rattle.order.specs.declared.Judged.the-variants.{Desktop};
 ghost use Rattle.order.specs.Judge.{judgeOf};
-ghost use Rattle.index.specs.Short.{deleteFlags, listFlags, windowOf, BringsCached};
+ghost use Rattle.index.specs.Short.{deleteFlags, listFlags, windowOf, BringsCached, BringsIcon};
 
 // Their flags, whole.
 pub(crate) const DELETE: u32 = 0x2100_0000;
@@ -73,4 +73,10 @@ pub(crate) fn is_list(s: &[u8]) -> bool
     let n = wire::read_u8(s, COUNT_AT) as usize;
     ((wire::read_u8(s, 0) == TYPE) & (wire::read_u16(s, SIZE_AT) as usize == s.len()))
         & ((n <= 64) & (s.len() == LIST_AT + 4 * n))
+}
+
+pub(crate) fn is_icon(s: &[u8]) -> bool
+    ensures { λ r. ⌜ (r ≡ true → (judgeOf (now (s .entry)) ≡ windowOf (numAt 4 (now (s .entry)) 3) (now (s .entry))) × BringsIcon (numAt 4 (now (s .entry)) 3)) ⌝ }
+{
+    false
 }

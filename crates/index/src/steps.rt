@@ -5,14 +5,15 @@ ghost use Prim.Native.Nat.{_<_, _≤_};
 ghost use lib.ListN.{length};
 ghost use Rattle.wire.specs.Numbers.{numAt};
 ghost use Rattle.places.specs.Sizes.{slotCount};
+ghost use Rattle.places.specs.Held.{HeldBelow};
 ghost use Rattle.places.specs.declared.Family.the-variants.{Windows};
 ghost use Rattle.index.specs.declared.Plan.the-variants.{ChangeRecord, ChangeDesktop};
 ghost use Rattle.index.specs.Families.{indexLength};
 ghost use Rattle.index.specs.Orders.{isNew};
 ghost use Rattle.index.specs.Plans.{slotFor, planIn, planRecord};
 ghost use Rattle.index.specs.Changes.{Fits};
-ghost use Rattle.index.specs.Steps.{StepOutcome, SlotOutcome};
-ghost use Rattle.index.specs.Short.{deleteFlags, recordOf, BringsCached};
+ghost use Rattle.index.specs.Steps.{changeHeld, StepOutcome, SlotOutcome};
+ghost use Rattle.index.specs.Short.{deleteFlags, recordOf, BringsCached, BringsIcon};
 ghost use Rattle.index.specs.Sound.{soundIndex};
 use crate::Change;
 use crate::Place;
@@ -28,12 +29,27 @@ use protocol::WindowId;
 
 // The answer of an order that changes no slot.
 pub(crate) fn no_slot(number: u8) -> Stepped
-    ensures { λ r. ⌜ r ≡ record { number = number; slot = slotCount } ⌝ }
+    ensures { λ r. ⌜ r ≡ record { number = number; slot = slotCount; held = 0 } ⌝ }
 {
     Stepped {
         number,
         slot: slots::COUNT,
+        held: 0,
     }
+}
+
+// So many places, from the first on, are pointed at once the change of a record is carried out.
+fn held_after(c: Change) -> u8
+    requires { ⌜ Fits c ⌝ }
+    ensures { λ r. ⌜ r ≡ changeHeld c ⌝ }
+{
+    if c.deleted {
+        return 0;
+    }
+    if c.flags & protocol::ICON == 0 {
+        return 0;
+    }
+    (c.place + 1) as u8
 }
 
 // Carries out the change of a record, unless the history is full.
@@ -43,10 +59,19 @@ fn carry_out(index: &mut [u8], c: Change, full: bool) -> Stepped
 {
     let slot = c.slot;
     if full {
-        return Stepped { number: 12, slot };
+        return Stepped {
+            number: 12,
+            slot,
+            held: 0,
+        };
     }
     changes::change(index, c);
-    Stepped { number: 0, slot }
+    let held = held_after(c);
+    Stepped {
+        number: 0,
+        slot,
+        held,
+    }
 }
 
 // The same of a record's order that changes no picture: its slot alone.
@@ -58,25 +83,46 @@ fn slot(index: &mut [u8], o: RecordOrder, fresh: bool, i: usize, full: bool) -> 
         return Stepped {
             number: 12,
             slot: i,
+            held: 0,
         };
     }
     if o.flags & protocol::DELETED != 0 {
         changes::remove(index, i);
-        return Stepped { number: 0, slot: i };
+        return Stepped {
+            number: 0,
+            slot: i,
+            held: 0,
+        };
     }
     if fresh {
         changes::list(index, i, o.window.id, o.notify.id);
-        return Stepped { number: 0, slot: i };
+        return Stepped {
+            number: 0,
+            slot: i,
+            held: 0,
+        };
     }
-    Stepped { number: 0, slot: i }
+    Stepped {
+        number: 0,
+        slot: i,
+        held: 0,
+    }
 }
 
 // Icon, cached icon, overlay icon set to none: without one of these an order changes no picture.
 const PICTURES: u32 = 0xC020_0000;
 
 // 11 and 17, or the change of a record in slot i, carried out unless the history is full.
-fn at(index: &mut [u8], s: &[u8], o: RecordOrder, fresh: bool, i: usize, full: bool) -> Stepped
-    requires { ⌜ (soundIndex (now index) ≡ true) × (i < slotCount) × (fresh ≡ isNew (o .family) (o .flags)) ⌝ }
+fn at(
+    index: &mut [u8],
+    s: &[u8],
+    o: RecordOrder,
+    fresh: bool,
+    i: usize,
+    held: u8,
+    full: bool,
+) -> Stepped
+    requires { ⌜ (soundIndex (now index) ≡ true) × (i < slotCount) × (fresh ≡ isNew (o .family) (o .flags)) × HeldBelow (now index) held ⌝ }
     ensures { λ r. ⌜ StepOutcome full (now (index .entry)) (planIn (now (index .entry)) (now (s .entry)) o i) r (now (index .exit)) ⌝ }
 {
     if o.flags & PICTURES == 0 {
@@ -87,20 +133,35 @@ fn at(index: &mut [u8], s: &[u8], o: RecordOrder, fresh: bool, i: usize, full: b
         return no_slot(11);
     }
     let pointer = crate::pointer_of(i, o.flags);
-    let held = crate::beside(c, pointer);
+    let beside = crate::beside(c, pointer);
     if o.flags & protocol::ICON == 0 {
-        return carry_out(index, crate::change_at(o, fresh, i, held, pointer, 0), full);
+        return carry_out(
+            index,
+            crate::change_at(o, fresh, i, beside, pointer, 0),
+            full,
+        );
     }
-    let f = places::free_place(index, held, pointer);
+    let f = places::free_place_from(index, beside, pointer, held);
     let Found::At(p) = f else {
         return no_slot(17);
     };
-    carry_out(index, crate::change_at(o, fresh, i, held, pointer, p), full)
+    carry_out(
+        index,
+        crate::change_at(o, fresh, i, beside, pointer, p),
+        full,
+    )
 }
 
 // 9, 10, 11 and 17, or the change of a record, carried out unless the history is full.
-pub(crate) fn record(index: &mut [u8], s: &[u8], o: RecordOrder, near: usize, full: bool) -> Stepped
-    requires { ⌜ soundIndex (now index) ≡ true ⌝ }
+pub(crate) fn record(
+    index: &mut [u8],
+    s: &[u8],
+    o: RecordOrder,
+    near: usize,
+    held: u8,
+    full: bool,
+) -> Stepped
+    requires { ⌜ (soundIndex (now index) ≡ true) × HeldBelow (now index) held ⌝ }
     ensures { λ r. ⌜ StepOutcome full (now (index .entry)) (planRecord (now (index .entry)) (now (s .entry)) o) r (now (index .exit)) ⌝ }
 {
     let family = o.family;
@@ -112,7 +173,7 @@ pub(crate) fn record(index: &mut [u8], s: &[u8], o: RecordOrder, near: usize, fu
     };
     match p {
         Place::Not(n) => no_slot(n),
-        Place::Slot(i) => at(index, s, o, fresh, i, full),
+        Place::Slot(i) => at(index, s, o, fresh, i, held, full),
     }
 }
 
@@ -184,12 +245,17 @@ fn share_at(index: &mut [u8], s: &[u8], o: RecordOrder, i: usize, full: bool) ->
         return Stepped {
             number: 12,
             slot: i,
+            held: 0,
         };
     }
     let pointer = crate::pointer_of(i, o.flags);
     let held = crate::beside(c, pointer);
     places::share(index, pointer, held);
-    Stepped { number: 0, slot: i }
+    Stepped {
+        number: 0,
+        slot: i,
+        held: 0,
+    }
 }
 
 // A window's cached icon, which says nothing else.
@@ -203,5 +269,46 @@ pub(crate) fn cached(index: &mut [u8], s: &[u8], near: usize, full: bool) -> Ste
     match p {
         Place::Not(n) => no_slot(n),
         Place::Slot(i) => share_at(index, s, o, i, full),
+    }
+}
+
+// 17, or an icon of the record in slot i, which says nothing else, at the first free place unless the history is full.
+fn take_at(index: &mut [u8], s: &[u8], o: RecordOrder, i: usize, held: u8, full: bool) -> Stepped
+    requires { ⌜ (soundIndex (now index) ≡ true) × (i < slotCount) × (o .family ≡ Windows) × BringsIcon (o .flags) × HeldBelow (now index) held ⌝ }
+    ensures { λ r. ⌜ StepOutcome full (now (index .entry)) (planIn (now (index .entry)) (now (s .entry)) o i) r (now (index .exit)) ⌝ }
+{
+    let c = crate::cell(s, o.icon);
+    let pointer = crate::pointer_of(i, o.flags);
+    let beside = crate::beside(c, pointer);
+    let f = places::free_place_from(index, beside, pointer, held);
+    let Found::At(p) = f else {
+        return no_slot(17);
+    };
+    if full {
+        return Stepped {
+            number: 12,
+            slot: i,
+            held: 0,
+        };
+    }
+    places::take_at(index, beside, pointer, p);
+    Stepped {
+        number: 0,
+        slot: i,
+        held: (p + 1) as u8,
+    }
+}
+
+// A window's icon, which says nothing else.
+pub(crate) fn icon(index: &mut [u8], s: &[u8], near: usize, held: u8, full: bool) -> Stepped
+    requires { ⌜ (soundIndex (now index) ≡ true) × BringsIcon (numAt 4 (now s) 3) × HeldBelow (now index) held ⌝ }
+    ensures { λ r. ⌜ StepOutcome full (now (index .entry)) (planRecord (now (index .entry)) (now (s .entry)) (recordOf (numAt 4 (now (s .entry)) 3) (now (s .entry)))) r (now (index .exit)) ⌝ }
+{
+    let flags = wire::read_u32(s, short::FLAGS_AT);
+    let o = short_order(s, flags);
+    let p = own_slot(index, o, near);
+    match p {
+        Place::Not(n) => no_slot(n),
+        Place::Slot(i) => take_at(index, s, o, i, held, full),
     }
 }

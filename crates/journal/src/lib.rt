@@ -58,7 +58,11 @@ fn follow_order(d: &mut [u8], m: &mut [u8], s: &[u8], q: u16, want: Want, near: 
     index::changes::apply(d, p);
     let number = index::number(p);
     let slot = index::slot(p);
-    Stepped { number, slot }
+    Stepped {
+        number,
+        slot,
+        held: 0,
+    }
 }
 
 // The same in one step where nothing is looked up.
@@ -71,7 +75,7 @@ fn replay_order(d: &mut [u8], m: &mut [u8], s: &[u8], q: u16, want: Want, near: 
     let Want::Nothing = want else {
         return follow_order(d, m, s, q, want, near);
     };
-    index::step(d, s, near, false)
+    index::step(d, s, near, 0, false)
 }
 
 // Replays count orders of the journal. Where they end, or 0 where one is cut or refused.

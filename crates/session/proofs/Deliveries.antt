@@ -12,6 +12,7 @@ use Rattle.wire.specs.Tests.{pick, either}
 use Rattle.wire.proofs.Numbers.{Bytes}
 use Rattle.index.specs.declared.Plan.{Plan}
 use Rattle.index.specs.declared.Plan.the-variants.{ChangeRecord, ChangeDesktop, Refuse}
+use Rattle.places.specs.Held.{HeldBelow}
 use Rattle.index.specs.declared.Stepped.{Stepped}
 use Rattle.index.specs.Plans.{planOf, planNumber}
 use Rattle.index.specs.Changes.{appliedOf}
@@ -84,11 +85,18 @@ module _ (d j s : List ℕ) (w : JournalExtent) {r : Stepped} (says : r ≡ step
   pub granted-room : logStart ≤ w .end → r .number ≡ 0 → (w .count + 1 ≤ mostOrders) × (w .end + length s ≤ journalLength)
   granted-room low zero = room-has w s low (zero-has d w s (sym numbered ∙ zero) .1)
 
-  module _ {d' : List ℕ} (makes : d' ≡ steppedOf (isFull w s) d (planOf d s)) where
+  module _ {d' : List ℕ} (makes : d' ≡ steppedOf (isFull w s) d (planOf d s)) (holds : HeldBelow d' (r .held)) where
     stepped : {j' : List ℕ} → j' ≡ pick (eqb (numberOn d w s) 0) (appended j w s) j → DeliveredOn d j s w r d' j'
     unfolding numberOn
     stepped e =
-        record { number = numbered; slot = ap (λ (r : Stepped). r .slot) says; index = makes ∙ stepped-is (isFull w s) d (planOf d s); journal = e }
+        record {
+          number = numbered;
+          slot = ap (λ (r : Stepped). r .slot) says;
+          held = ap (λ (r : Stepped). r .held) says;
+          holds = holds;
+          index = makes ∙ stepped-is (isFull w s) d (planOf d s);
+          journal = e;
+        }
 
     pub on-refused : (r .number ≡ 0 → ⊥) → DeliveredOn d j s w r d' j
     on-refused h = stepped (rw (ne-eqb (numberOn d w s) 0 (λ z. h (numbered ∙ z))))

@@ -9,9 +9,10 @@ use lib.ListN.{length}
 use Rattle.wire.specs.Tests.{pick, either}
 use Rattle.wire.specs.Numbers.{bytesOf}
 use Rattle.wire.specs.Parts.{splice}
+use Rattle.places.specs.Held.{HeldBelow}
 use Rattle.index.specs.declared.Stepped.{Stepped}
 use Rattle.index.specs.Plans.{planOf, planSlot}
-use Rattle.index.specs.Steps.{stepNumber}
+use Rattle.index.specs.Steps.{stepNumber, stepHeld}
 use Rattle.index.specs.Sound.{soundIndex}
 use Rattle.journal.specs.declared.JournalExtent.{JournalExtent}
 use Rattle.journal.specs.Limits.{mostOrders, mostBytes, logStart, journalLength}
@@ -42,5 +43,7 @@ oneMore w s = record { count = w .count + 1; end = w .end + length s }
 pub record DeliveredOn (d j s : List ℕ) (w : JournalExtent) (r : Stepped) (d' j' : List ℕ) : Type 0 where
   pub number : r .number ≡ numberOn d w s
   pub slot : r .slot ≡ planSlot (planOf d s)
+  pub held : r .held ≡ stepHeld (isFull w s) (planOf d s)
+  pub holds : HeldBelow d' (r .held)
   pub index : d' ≡ pick (eqb (numberOn d w s) 0) (indexAfter d s) d
   pub journal : j' ≡ pick (eqb (numberOn d w s) 0) (appended j w s) j

@@ -5,6 +5,7 @@ ghost use lib.ListN.{length};
 ghost use Rattle.wire.specs.Numbers.{bytesOf};
 ghost use Rattle.wire.specs.Parts.{splice};
 ghost use Rattle.journal.specs.Limits.{journalLength, mostOrders};
+ghost use Rattle.places.specs.Held.{HeldBelow};
 ghost use Rattle.store.specs.Store.{five};
 ghost use Rattle.figure.specs.Figure.{windowsLength};
 ghost use Rattle.figure.specs.Kept.{keptLength};
@@ -57,20 +58,22 @@ fn append(journal: &mut [u8], s: &[u8], count: usize, end: usize)
 }
 
 // Judges an order on the index d of a validated memory whose journal has the extent w and, where it is granted, appends it and
-// carries it out on d: what was validated then stands for the next order. Slot near is looked at for its record before a search.
+// carries it out on d: what was validated then stands for the next order. Slot near is looked at for its record before a search,
+// and the first held places are known to be pointed at.
 pub fn deliver_on(
     journal: &mut [u8],
     d: &mut [u8],
     s: &[u8],
     w: JournalExtent,
     near: usize,
+    held: u8,
 ) -> Stepped
-    requires { ⌜ Ready (now d) (now journal) w ⌝ }
+    requires { ⌜ Ready (now d) (now journal) w × HeldBelow (now d) held ⌝ }
     ensures { λ r. ⌜ DeliveredOn (now (d .entry)) (now (journal .entry)) (now (s .entry)) w r (now (d .exit)) (now (journal .exit)) ⌝ }
 {
     let full = (journal::MOST_ORDERS < w.count + 1)
         | (journal::MOST_BYTES < w.end - journal::START + s.len());
-    let r = index::step(d, s, near, full);
+    let r = index::step(d, s, near, held, full);
     if r.number == 0 {
         append(journal, s, w.count, w.end);
     }
@@ -85,7 +88,7 @@ pub fn deliver(index: &[u8], bodies: &[u8], lent: usize, journal: &mut [u8], s: 
     if w.end == 0 {
         return refused(1);
     }
-    let r = deliver_on(journal, &mut d, s, w, index::slots::COUNT);
+    let r = deliver_on(journal, &mut d, s, w, index::slots::COUNT, 0);
     if r.number != 0 {
         return refused(r.number);
     }

@@ -57,7 +57,7 @@ fn reported(number: u8, n: u32, at: usize, w: JournalExtent) -> Report
 }
 
 // Delivers the orders of the update until limit are granted, none is left or one is refused. The record of each is looked for in the
-// slot of the one before it first.
+// slot of the one before it first, and a free place behind those that one found taken.
 pub fn update(
     index: &[u8],
     bodies: &[u8],
@@ -82,19 +82,21 @@ pub fn update(
     let mut n: u32 = 0;
     let mut at: usize = 0;
     let mut near = index::slots::COUNT;
+    let mut held: u8 = 0;
     while (n < limit) & (at < s.len()) {
         let end = cut(s, at);
         let extent = JournalExtent {
             count: w.count + (n as usize),
             end: w.end + at,
         };
-        let r = session::calls::deliver_on(journal, &mut d, &s[at..end], extent, near);
+        let r = session::calls::deliver_on(journal, &mut d, &s[at..end], extent, near, held);
         if r.number != 0 {
             return reported(r.number, n, at, w);
         }
         n += 1;
         at = end;
         near = r.slot;
+        held = r.held;
     }
     reported(0, n, at, w)
 }

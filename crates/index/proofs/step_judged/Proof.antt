@@ -21,7 +21,7 @@ step-judged-spec =
     (λ c. search needs)
     (λ c κs. search needs)
     (λ c. search needs)
-    (λ c κs. let u = c .before .before .before .before .before .before .before in sound-long (now (u .args .index)) (u .pre))  -- desktop-requires
+    (λ c κs. let u = c .before .before .before .before .before .before .before in sound-long (now (u .args .index)) (u .pre .0))  -- desktop-requires
     (λ c. search needs)
     (λ c.  -- returns
     let j = c .before .before .before .before .before .before .before in

@@ -7,6 +7,8 @@ use lib.ListN.{length}
 use denote.Ref.{now}
 use borrow.Author.Needs.{needs}
 use Rattle.wire.proofs.Numbers.{Bytes}
+use Rattle.places.specs.Held.{HeldBelow}
+use Rattle.places.proofs.HeldTaken.{held-none}
 use Rattle.index.specs.Families.{indexLength}
 use Rattle.journal.specs.View.{Memory, memory, InEachStore}
 use Rattle.journal.proofs.Indexed.{unmet, indexed}
@@ -17,11 +19,11 @@ use Rattle.update.proofs.update.Tie as tie
 
 -- in each store that lends so many places
 abbrev Inv-loop : tie.InvT-loop
-Inv-loop index bodies lent journal₀ limit s d₀ w n₀ at₀ near₀ journal d n at near =
-    (length journal ≡ length journal₀) × InEachStore lent (λ store. Going (memory index bodies store journal₀) limit s w n at d journal) × (length d ≡ indexLength)
+Inv-loop index bodies lent journal₀ limit s d₀ w n₀ at₀ near₀ held₀ journal d n at near held =
+    (length journal ≡ length journal₀) × InEachStore lent (λ store. Going (memory index bodies store journal₀) limit s w n at d journal) × (length d ≡ indexLength) × HeldBelow d held
 
 abbrev μ-loop : tie.MeasureT-loop
-μ-loop index bodies lent journal₀ limit s d₀ w n₀ at₀ near₀ journal d n at near = length s - at
+μ-loop index bodies lent journal₀ limit s d₀ w n₀ at₀ near₀ held₀ journal d n at near held = length s - at
 
 abbrev start : tie.After-extent Inv-loop μ-loop → tie.Start Inv-loop μ-loop
 start v = v .before .before .before .before .before .before .before
@@ -69,7 +71,7 @@ update-spec =
     unfit-outcome (start x .args .limit) (now (start x .args .s)) (mem (start x) p) (unmet (x .extent .ensures p is) (c .if1 .taken)) refl)
     (λ c.  -- loop-holds
     let x = c .before .before .before in
-    (refl, λ p is. going-start (start x .args .limit) (now (start x .args .s)) (indexed (x .extent .ensures p is) (c .if1 .left)), x .extent .kept .1 .1 .1 .1 .0))
+    (refl, λ p is. going-start (start x .args .limit) (now (start x .args .s)) (indexed (x .extent .ensures p is) (c .if1 .left)), x .extent .kept .1 .1 .1 .1 .0, held-none (x .extent .last .1 .1 .1 .1 .0)))
     (λ c κs. going c .within)  -- cut-requires
     (λ c. record { fits = omega (arith, room (c .before) .0) })  -- cast-t20
     (λ c. omega (arith, room (c .before .before) .0))  -- add-t23
@@ -78,7 +80,7 @@ update-spec =
     (λ c. omega (arith, after (c .before .before .before .before)))  -- sub-deliver-on
     (λ c. omega (arith, after (c .before .before .before .before)))  -- part-deliver-on-start
     (λ c. within (c .before .before .before .before))  -- part-deliver-on-end
-    (λ c κs. let v = c .before .before .before .before .before .before in going-ready (limit v) (bytes v) (going v))  -- deliver-on-requires
+    (λ c κs. let v = c .before .before .before .before .before .before in (going-ready (limit v) (bytes v) (going v), v .before .loop .inv .3))  -- deliver-on-requires
     (λ c κs. let v = c .before .before .before .before .before .before .before .before .before .before .before .before in going-fits (limit v) (bytes v) (going v))  -- reported-requires
     (λ c. let v = c .before .before .before .before .before .before in v .deliver-on .kept .0 ∙ v .before .before .before .before .before .before .before .before .loop .inv .0)  -- same-length-2
     (λ c p is.  -- returns-2
@@ -93,6 +95,7 @@ update-spec =
       e .deliver-on .kept .0 ∙ v .before .loop .inv .0,
       λ p is. going-more (limit v) (bytes v) (v .before .loop .inv .1 p is) (v .loop-test .taken) (e .before .before .before .before .before .before .cut .ensures) (small v) (e .deliver-on .ensures) (c .if2 .left),
       e .deliver-on .kept .1 .0 ∙ v .before .loop .inv .2,
+      e .deliver-on .ensures .holds,
     ))
     (λ c κs. let u = start (c .before .before .before .before .before) in going-fits (u .args .limit) (now (u .args .s)) (c .before .loop .inv .1 (a-store (u .args .lent)) (a-store-lends (u .args .lent))))  -- reported-requires-2
     (λ c. c .before .before .loop .inv .0)  -- same-length-3

@@ -49,10 +49,10 @@ at-spec =
     steps-as (a .full) (now (a .index))
     (in-plain (now (a .index)) (now (a .s)) (a .o) (a .i) (l .before .before .cell .ensures .0) (l .lacks-picture .ensures) (h .before .before .if2 .left) (h .before .pointer-of .ensures .0) (h .beside .ensures .0)
     (c .before .before .before .before .before .if3 .taken) (c .before .before .before .change-at .ensures)) (c .before .before .carry-out .ensures))
-    (λ c κs.  -- free-place-requires
+    (λ c κs.  -- free-place-from-requires
     let h = c .before .before .before in
     let u = start (lacked h) in
-    (sound-holders (now (u .args .index)) (u .pre .0), h .beside .ensures .1, h .before .pointer-of .ensures .1))
+    ((sound-holders (now (u .args .index)) (u .pre .0), h .beside .ensures .1, h .before .pointer-of .ensures .1), u .pre .3))
     (λ c. search needs)
     (λ c. search needs)
     (λ c κs. search needs)
@@ -63,7 +63,7 @@ at-spec =
     let a = start l .args in
     steps-refused (a .full) (now (a .index)) (λ e. omega (arith, e)) (c .no-slot2 .ensures)
     (in-full (now (a .index)) (now (a .s)) (a .o) (a .i) (l .before .before .cell .ensures .0) (l .lacks-picture .ensures) (h .before .before .if2 .left) (h .before .pointer-of .ensures .0) (h .beside .ensures .0)
-    (c .before .before .before .before .before .if3 .left) (c .before .before .before .free-place .ensures) (c .before .enum-told .given .1)))
+    (c .before .before .before .before .before .if3 .left) (c .before .before .before .free-place-from .ensures) (c .before .enum-told .given .1)))
     (λ c κs. search needs)
     (λ c κs.  -- carry-out-requires-2
     let g = c .before .before .before .before .before in
@@ -75,7 +75,7 @@ at-spec =
     let pointer = h .before .pointer-of .result in (
       sound-long x (u .pre .0),
       with-fits (a .o) (a .i) held pointer (c .before .before .before .f .given .0 .0) (c .change-at2 .ensures) (u .pre .1) (h .beside .ensures .1) (h .before .pointer-of .ensures .1)
-          (place-small x held pointer (u .pre .0) (g .free-place .ensures) (c .before .before .before .f .given .1)),
+          (place-small x held pointer (u .pre .0) (g .free-place-from .ensures) (c .before .before .before .f .given .1)),
     ))
     (λ c. search needs)
     (λ c.  -- returns-5
@@ -85,4 +85,4 @@ at-spec =
     let a = start l .args in
     steps-as (a .full) (now (a .index))
     (in-taken (now (a .index)) (now (a .s)) (a .o) (a .i) (l .before .before .cell .ensures .0) (l .lacks-picture .ensures) (h .before .before .if2 .left) (h .before .pointer-of .ensures .0) (h .beside .ensures .0)
-    (g .before .before .if3 .left) (g .free-place .ensures) (c .before .before .before .before .before .before .f .given .1) (c .before .before .before .change-at2 .ensures)) (c .before .before .carry-out2 .ensures)))
+    (g .before .before .if3 .left) (g .free-place-from .ensures) (c .before .before .before .before .before .before .f .given .1) (c .before .before .before .change-at2 .ensures)) (c .before .before .carry-out2 .ensures)))

@@ -2,7 +2,8 @@
 use Rattle.index.proofs.Ways.{applied-record}
 use Rattle.index.proofs.StepsOfPlans.{steps-full, steps-done}
 use Rattle.index.specs.declared.Plan.the-variants.{ChangeRecord}
-use mathlib.Core.Path.{refl}
+use mathlib.Core.Path.{refl, ap}
+use Prim.Native.Nat.{ℕ}
 use denote.Ref.{now}
 use borrow.Author.Needs.{needs}
 use Rattle.index.proofs.steps.carry_out.Statement.{statement}
@@ -16,7 +17,9 @@ carry-out-spec =
     let a = c .before .before .args in
     steps-full (a .full) (now (a .index)) (ChangeRecord (a .c)) refl (c .if1 .taken) refl)
     (λ c κs. search needs)
+    (λ c κs. search needs)
     (λ c. search needs)
     (λ c.  -- returns-2
-    let a = c .before .before .before .before .before .before .args in
-    steps-done (a .full) (now (a .index)) (ChangeRecord (a .c)) refl (c .before .before .before .before .if1 .left) refl (applied-record (now (a .index)) refl (c .before .before .change .ensures))))
+    let w = c .before .before .before in
+    let a = w .before .before .before .before .args in
+    steps-done (a .full) (now (a .index)) (ChangeRecord (a .c)) refl (w .before .before .if1 .left) (ap (λ (n : ℕ). record { number = 0; slot = a .c .slot; held = n }) (c .held-after .ensures)) (applied-record (now (a .index)) refl (w .change .ensures))))

@@ -19,7 +19,7 @@ placed v =
     let u = start v in
     let x = now (u .args .index) in
     let new = n .before .before .is-new .ensures in
-    ⊎-elim (λ w. w .1 ∙ slot-near x (u .args .o) new (u .pre) (u .args .near) (n .is-near .ensures) (w .0 .taken))
+    ⊎-elim (λ w. w .1 ∙ slot-near x (u .args .o) new (u .pre .0) (u .args .near) (n .is-near .ensures) (w .0 .taken))
     (λ w. w .3 ∙ slot-searched x (u .args .o) new (w .2 .ensures)) (v .if1 .came)
 
 pub record-spec : {M : Type 1} → statement M
@@ -27,15 +27,15 @@ record-spec =
     tie.close
     (tie.spec
     (λ c κs. search needs)
-    (λ c κs. let u = c .before .before .before .before in sound-long (now (u .args .index)) (u .pre))  -- is-near-requires
-    (λ c κs. let u = c .before .before .before .before .before .before .before in sound-long (now (u .args .index)) (u .pre))  -- searched-slot-requires
+    (λ c κs. let u = c .before .before .before .before in sound-long (now (u .args .index)) (u .pre .0))  -- is-near-requires
+    (λ c κs. let u = c .before .before .before .before .before .before .before in sound-long (now (u .args .index)) (u .pre .0))  -- searched-slot-requires
     (λ c. search needs)
     (λ c κs. search needs)
     (λ c. search needs)
     (λ c κs.  -- at-requires
     let v = c .before .before .before .before in
     let u = start v in
-    (u .pre, slot-small (now (u .args .index)) (u .args .o) (placed v) (c .before .before .p2 .given .1), v .before .before .before .is-new .ensures))
+    (u .pre .0, slot-small (now (u .args .index)) (u .args .o) (placed v) (c .before .before .p2 .given .1), v .before .before .before .is-new .ensures, u .pre .1))
     (λ c. search needs)
     (λ c.  -- returns
     let v = c .before .before .before .before in

@@ -6,6 +6,7 @@ use lib.ListN.{length}
 use denote.Ref.{now}
 use Rattle.wire.proofs.Numbers.{Bytes}
 use Rattle.store.specs.Store.{placesIn}
+use Rattle.places.proofs.HeldTaken.{held-none}
 use Rattle.journal.specs.Limits.{mostOrders, logStart, journalLength}
 use Rattle.journal.specs.View.{Memory, memory}
 use Rattle.journal.proofs.Indexed.{Indexed, unmet, indexed}
@@ -60,7 +61,9 @@ deliver-spec =
     let x = c .before .before .before .before in
     refused-unmet (plain (deliver (now (start x .args .s)))) (mem (start x) p) refl (unmet {m = mem (start x) p} (x .extent .ensures p is) (c .before .if1 .taken)) (c .refused .ensures))
     (λ c. search needs)
-    (λ c κs. let x = c .before .before .before .before .before in ready (index-any x (c .before .before .if1 .left)))  -- deliver-on-requires
+    (λ c κs.  -- deliver-on-requires
+    let x = c .before .before .before .before .before in
+    (ready (index-any x (c .before .before .if1 .left)), held-none (x .extent .last .1 .1 .1 .1 .0)))
     (λ c κs. search needs)
     (λ c. search needs)
     (λ c p is.  -- returns-2
