@@ -15,6 +15,7 @@ use Rattle.order.specs.declared.Row.{Row}
 use Rattle.order.specs.declared.Fit.{Fit}
 use Rattle.order.specs.declared.Fit.the-variants.{Ends, Short}
 use Rattle.order.specs.Rows.{allRows, noRow, rowsFrom, firstOf, lenOf, numberOk, okOf, cutOf, firstBad, fieldOf, stepOf, onFit, walkOf, roomOf}
+use Rattle.order.specs.Ends.{pastOf, endsOf}
 use Rattle.order.proofs.Fields.{part-next}
 
 -- ---- no offset at fault is taken back
@@ -94,6 +95,34 @@ module _ (r : Row) (flags : ℕ) (s : List ℕ) (at p : ℕ) where
   pub not-carried : hasAll flags (r .flag) ≡ false → stepOf r flags s at 0 ≡ Ends p 0 → p ≡ at
   unfolding stepOf
   not-carried t e = let x : Ends at 0 ≡ Ends p 0 = rw t at e in cc
+
+-- ---- a walk that ends well ends within the order, where the fields do
+
+record Past (r : Row) (flags : ℕ) (s : List ℕ) (at p : ℕ) : Type 0 where
+  pub past : pastOf r flags s at ≡ p
+  pub on : at ≤ p
+  pub within : p ≤ length s
+
+past-one : (r : Row) (flags : ℕ) (s : List ℕ) (at p : ℕ) → 1 ≤ at → at ≤ length s → stepOf r flags s at 0 ≡ Ends p 0 → Past r flags s at p
+unfolding pastOf
+past-one r flags s at p g h e = go (hasAll flags (r .flag)) refl
+  where
+    go : (t : Bool) → hasAll flags (r .flag) ≡ t → Past r flags s at p
+    go true t =
+        let c = carried r flags s at p g h t e in
+        record { past = rw (t, c .ok) (sym (c .ends)); on = omega (arith, c .ends); within = c .within }
+    go false t =
+        let n = not-carried r flags s at p t e in
+        record { past = rw t (sym n); on = omega (arith, n); within = omega (arith, n) }
+
+pub walk-ends : (rs : List Row) (flags : ℕ) (s : List ℕ) (at q : ℕ) → 1 ≤ at → at ≤ length s → walkOf rs flags s at 0 ≡ Ends q 0 → (endsOf rs flags s at ≡ q) × (q ≤ length s)
+unfolding walkOf endsOf
+walk-ends [] flags s at q g h e = let x : at ≡ q = cc in (x, omega (arith, x))
+walk-ends (r ∷ rs) flags s at q g h e =
+    let x = stepped r rs flags s at q e in
+    let y = past-one r flags s at (x .next) g h (x .here) in
+    let z = walk-ends rs flags s (x .next) q (omega (arith, y .on)) (y .within) (x .then) in
+    (ap (endsOf rs flags s) (y .past) ∙ z .0, z .1)
 
 -- ---- the room of a field in its set
 

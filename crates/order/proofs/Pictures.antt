@@ -4,17 +4,17 @@ use mathlib.Core.Bool.{Bool, true, false, not}
 use mathlib.Core.List.{List}
 use Prim.Native.Nat.{ℕ, _+_, _*_, _/_, _-_, _≤_, _<_}
 use native.Mathlib.Omega.{arith}
-use lib.Dec.{leb, ltb}
+use lib.Dec.{eqb, leb, ltb}
 use lib.Bits.{bitAnd}
 use lib.ListN.{length}
-use borrow.Author.Tests.{le-leb, lt-leb, leb-true, ne-eqb, eq-eqb, lt-ltb, le-ltb, ltb-false}
-use Rattle.wire.specs.Tests.{pick, has}
+use borrow.Author.Tests.{le-leb, lt-leb, leb-true, leb-false, ne-eqb, eq-eqb, lt-ltb, le-ltb, ltb-false}
+use Rattle.wire.specs.Tests.{pick, both, has}
 use Rattle.wire.specs.Numbers.{numAt}
 use Rattle.order.specs.declared.IconParts.{IconParts}
 use Rattle.order.specs.declared.Fit.{Fit}
 use Rattle.order.specs.declared.Fit.the-variants.{Ends, Short}
 use Rattle.order.specs.Rows.{firstBad, Within}
-use Rattle.order.specs.Icons.{tabled, partsFrom, partsOf, entryOk, cacheOk, bitsOk, sideOk, iconNumbersBad, iconBad, cachedNumbersBad, cachedBad, headCut, partsCut, iconFit, cachedFit, pictureFit}
+use Rattle.order.specs.Icons.{tabled, partsFrom, partsOf, entryOk, cacheOk, bitsOk, sideOk, iconNumbersBad, iconBad, cachedNumbersBad, cachedBad, headCut, partsCut, iconFit, cachedFit, pictureFit, endsGood, iconWhole, cachedWhole}
 use Rattle.order.proofs.Fields.{bad-within}
 use Rattle.protocol.specs.Flags.{flagCachedIcon, flagIcon}
 
@@ -140,6 +140,29 @@ module _ (s : List ℕ) (at bad : ℕ) where
   pub picture-none : (flags : ℕ) → bitAnd flags flagIcon ≡ 0 → bitAnd flags flagCachedIcon ≡ 0 → Ends at bad ≡ pictureFit flags s at bad
   unfolding pictureFit
   picture-none flags g h = rw (eq-eqb (bitAnd flags flagIcon) 0 g, eq-eqb (bitAnd flags flagCachedIcon) 0 h)
+
+-- ---- what fills the order
+
+-- one that ends past the order does not end with it
+filled : (n end bad cut : ℕ) (t : Bool) → leb end n ≡ t → both (eqb end n) (eqb bad 0) ≡ endsGood n (pick t (Ends end bad) (Short cut))
+filled n end bad cut true e = refl
+filled n end bad cut false e = let h : end ≡ n → ⊥ = λ x. omega (arith, x, leb-false end n e) in rw (ne-eqb end n h)
+
+module _ (s : List ℕ) (at : ℕ) where
+  pub icon-whole : {p : IconParts} {bad : ℕ} → p ≡ partsOf s at → bad ≡ iconBad s at → both (eqb (p .end) (length s)) (eqb bad 0) ≡ iconWhole s at
+  unfolding iconWhole iconFit
+  icon-whole {p} {bad} e f = rw (← e, ← f) (filled (length s) (p .end) bad (partsCut at (length s) p) (leb (p .end) (length s)) refl)
+
+  pub cached-whole : {bad : ℕ} → at ≤ length s → bad ≡ cachedBad s at → both (eqb (at + 3) (length s)) (eqb bad 0) ≡ cachedWhole s at
+  unfolding cachedWhole cachedFit
+  cached-whole {bad} l f = rw (← f, room) (filled (length s) (at + 3) bad (at + headCut (length s - at)) (leb (at + 3) (length s)) refl)
+    where
+      room : leb 3 (length s - at) ≡ leb (at + 3) (length s)
+      room = go (leb (at + 3) (length s)) refl
+        where
+          go : (t : Bool) → leb (at + 3) (length s) ≡ t → leb 3 (length s - at) ≡ t
+          go true e = le-leb 3 (length s - at) (omega (arith, leb-true (at + 3) (length s) e))
+          go false e = lt-leb 3 (length s - at) (omega (arith, leb-false (at + 3) (length s) e))
 
 -- ---- every offset lies within the order
 

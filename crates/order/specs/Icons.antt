@@ -1,6 +1,6 @@
 -- An icon (IconInfo) and a cached icon (CachedIcon) at index at, after the other fields of an order. Assumes nothing.
 use Prim.Native.Nat.{ℕ, _+_, _*_, _/_, _-_}
-use mathlib.Core.Bool.{Bool, not}
+use mathlib.Core.Bool.{Bool, false, not}
 use mathlib.Core.List.{List, [], _∷_}
 use lib.ListN.{length}
 use lib.Dec.{leb, ltb, eqb}
@@ -9,7 +9,7 @@ use Rattle.wire.specs.Numbers.{numAt}
 use Rattle.order.specs.declared.IconParts.{IconParts}
 use Rattle.order.specs.declared.Fit.{Fit}
 use Rattle.order.specs.declared.Fit.the-variants.{Ends, Short}
-use Rattle.order.specs.Rows.{firstBad}
+use Rattle.order.specs.Rows.{firstBad, onFit}
 use Rattle.protocol.specs.Flags.{flagCachedIcon, flagIcon}
 
 -- the bits per pixel that have a color table
@@ -97,3 +97,19 @@ pictureFit flags s at bad =
     pick (has flags flagIcon) (iconFit s at bad)
     (pick (has flags flagCachedIcon) (cachedFit s at bad)
     (Ends at bad))
+
+-- ---- an icon or cached icon that fills the order from index at on
+
+-- what fits ends at n, with no number outside its set
+abbrev pub endsGood : ℕ → Fit → Bool
+endsGood n f = onFit f (λ cut. false) (λ end first. both (eqb end n) (eqb first 0))
+
+unfoldable pub iconWhole : List ℕ → ℕ → Bool
+iconWhole s at = endsGood (length s) (iconFit s at 0)
+
+unfoldable pub cachedWhole : List ℕ → ℕ → Bool
+cachedWhole s at = endsGood (length s) (cachedFit s at 0)
+
+-- the same of what the flags name
+unfoldable pub pictureWhole : ℕ → List ℕ → ℕ → Bool
+pictureWhole flags s at = endsGood (length s) (pictureFit flags s at 0)

@@ -2,7 +2,7 @@
 ghost use mathlib.Core.Path.{_≡_};
 ghost use Prim.Native.Nat.{_+_, _≤_};
 ghost use lib.ListN.{length};
-ghost use Rattle.order.specs.Icons.{tabled, partsFrom, partsOf, iconNumbersBad, iconBad, cachedNumbersBad, cachedBad, headCut, partsCut, iconFit, cachedFit, pictureFit};
+ghost use Rattle.order.specs.Icons.{tabled, partsFrom, partsOf, iconNumbersBad, iconBad, cachedNumbersBad, cachedBad, headCut, partsCut, iconFit, cachedFit, pictureFit, iconWhole, cachedWhole};
 ghost use Rattle.order.specs.Rows.{Within};
 use crate::Fit;
 use crate::IconParts;
@@ -159,15 +159,18 @@ fn cached_bad(s: &[u8], at: usize) -> usize
     cached_numbers_bad(at, entry, cache)
 }
 
+// The bytes of a cached icon: entry and cache id.
+const CACHED_LENGTH: usize = 3;
+
 fn cached_fit(s: &[u8], at: usize, bad: usize) -> Fit
     requires { ⌜ at ≤ length (now s) ⌝ }
     ensures { λ r. ⌜ r ≡ cachedFit (now (s .entry)) at bad ⌝ }
 {
     let a = s.len() - at;
-    if 3 <= a {
+    if CACHED_LENGTH <= a {
         let more = cached_bad(s, at);
         let b = first_bad(bad, more);
-        return Fit::Ends(at + 3, b);
+        return Fit::Ends(at + CACHED_LENGTH, b);
     }
     let n = head_cut(a);
     Fit::Short(at + n)
@@ -185,4 +188,23 @@ pub fn picture(s: &[u8], flags: u32, at: usize, bad: usize) -> Fit
         return cached_fit(s, at, bad);
     }
     Fit::Ends(at, bad)
+}
+
+// Whether a good icon fills the order from index at on.
+pub fn is_whole(s: &[u8], at: usize) -> bool
+    requires { ⌜ at ≤ length (now s) ⌝ }
+    ensures { λ r. ⌜ r ≡ iconWhole (now (s .entry)) at ⌝ }
+{
+    let p = icon_parts(s, at);
+    let bad = icon_bad(s, at, p);
+    (p.end == s.len()) & (bad == 0)
+}
+
+// The same of a good cached icon.
+pub fn is_whole_cached(s: &[u8], at: usize) -> bool
+    requires { ⌜ at ≤ length (now s) ⌝ }
+    ensures { λ r. ⌜ r ≡ cachedWhole (now (s .entry)) at ⌝ }
+{
+    let bad = cached_bad(s, at);
+    (at + CACHED_LENGTH == s.len()) & (bad == 0)
 }

@@ -1,0 +1,14 @@
+-- The cached icon ends where the order does, and no number lies outside its set.
+use Rattle.order.proofs.Pictures.{cached-whole}
+use denote.Ref.{now}
+use borrow.Author.Needs.{needs}
+use Rattle.order.proofs.icon.is_whole_cached.Statement.{statement}
+use Rattle.order.proofs.icon.is_whole_cached.Tie as tie
+
+pub is-whole-cached-spec : {M : Type 1} → statement M
+is-whole-cached-spec =
+    tie.close
+    (tie.spec
+    (λ c κs. search needs)
+    (λ c. search needs)
+    (λ c. let u = c .before .before in let a = u .args in cached-whole (now (a .s)) (a .at) (u .pre) (c .cached-bad .ensures)))  -- returns

@@ -1,0 +1,2 @@
+pub mod SingleJudged
+pub mod SingleTests
