@@ -15,5 +15,4 @@ pub mod PlansMade
 pub mod Once
 pub mod StepsOfPlans
 pub mod JudgedNumbers
-pub mod ShortJudged
 pub mod StepsHeld

@@ -7,7 +7,7 @@ use native.Mathlib.Omega.{arith}
 use lib.Bits.{bitAnd}
 use borrow.Author.Tests.{eq-eqb, ne-eqb}
 use Rattle.wire.specs.Tests.{pick}
-use Rattle.protocol.specs.Flags.{flagCachedIcon, flagDeleted, flagIcon, flagOverlayNone}
+use Rattle.protocol.specs.Flags.{flagCachedIcon, flagDeleted, flagIcon, flagNew, flagOverlayNone}
 use Rattle.order.proofs.Absent.{unmet}
 use Rattle.places.specs.declared.Family.the-variants.{Windows}
 use Rattle.places.specs.declared.Found.{Found}
@@ -21,7 +21,7 @@ use Rattle.index.specs.declared.Stepped.{Stepped}
 use Rattle.index.specs.Orders.{isNew, isDelete, cellAt}
 use Rattle.index.specs.Plans.{lacksPicture, pointerFor, besideOf, changeWith, changeOf, planIn, planNumber, planSlot}
 use Rattle.index.specs.Changes.{listedOf, removedOf, changedOf, appliedOf}
-use Rattle.index.specs.Short.{BringsCached, BringsIcon}
+use Rattle.single.specs.Single.{BringsCached, BringsIcon}
 use Rattle.index.specs.Steps.{stepNumber, changeHeld, stepHeld, steppedOf, slotStepped, StepOutcome, SlotOutcome}
 use Rattle.index.proofs.Ways.{lacks-none, picture-none, picture-shared, picture-taken, changed-old, applied-record}
 use Rattle.index.proofs.PlansMade.{in-plain, in-full, in-taken}
@@ -102,6 +102,10 @@ module _ (full : Bool) (x : List ℕ) (o : RecordOrder) (i : ℕ) where
 pub slot-as : (full : Bool) (x : List ℕ) (i : ℕ) {o q : RecordOrder} {r : Stepped} {x' : List ℕ} → o ≡ q → SlotOutcome full x o i r x' → SlotOutcome full x q i r x'
 slot-as full x i e h = rw (← e) h
 
+-- without the new bit no window is new
+pub old-window : (flags : ℕ) → bitAnd flags flagNew ≡ 0 → isNew Windows flags ≡ false
+old-window flags h = rw (eq-eqb (bitAnd flags flagNew) 0 h)
+
 -- ---- a cached icon alone
 
 module _ (full : Bool) (x s : List ℕ) (o : RecordOrder) (i : ℕ) (brings : BringsCached (o .flags)) {c : ℕ} (e : c ≡ cellAt s (o .icon)) {t : Bool}
@@ -117,7 +121,7 @@ module _ (full : Bool) (x s : List ℕ) (o : RecordOrder) (i : ℕ) (brings : Br
   share-done {pointer} {held} f w g b y =
       let r = changeWith o i held pointer 0 in
       let deleted : r .deleted ≡ false = rw (eq-eqb (bitAnd (o .flags) flagDeleted) 0 (brings .deleted)) in
-      let fresh : r .fresh ≡ false = rw w (brings .old) in
+      let fresh : r .fresh ≡ false = rw w (old-window (o .flags) (brings .new)) in
       steps-as full x (in-plain x s o i e h k g b (brings .icon) refl)
       (steps-done full x (ChangeRecord r) refl f (rw (deleted, eq-eqb (bitAnd (o .flags) flagIcon) 0 (brings .icon))) (applied-record x refl (changed-old x r deleted fresh (picture-shared x r (brings .icon) (brings .cached) y))))
 
@@ -148,6 +152,6 @@ module _ (full : Bool) (x s : List ℕ) (o : RecordOrder) (i : ℕ) (brings : Br
     take-done y w z =
         let r = changeWith o i beside pointer p in
         let deleted : r .deleted ≡ false = rw (eq-eqb (bitAnd (o .flags) flagDeleted) 0 (brings .deleted)) in
-        let fresh : r .fresh ≡ false = rw w (brings .old) in
+        let fresh : r .fresh ≡ false = rw w (old-window (o .flags) (brings .new)) in
         steps-as full x (in-taken x s o i e (lacks-none x (o .flags) c (brings .cached)) refl g b (brings .icon) m q refl)
         (steps-done full x (ChangeRecord r) refl y (rw (deleted, ne-eqb (bitAnd (o .flags) flagIcon) 0 (brings .icon))) (applied-record x refl (changed-old x r deleted fresh (picture-taken x r (brings .icon) z))))

@@ -6,6 +6,5 @@ pub mod Memory
 pub mod Plans
 pub mod Changes
 pub mod Steps
-pub mod Short
 pub mod Sound
 pub mod Promises

@@ -58,3 +58,7 @@ pointerOf o = icon (o .family) (o .window .id) (o .notify .id) (whichOf (o .flag
 -- the holders of the picture that an icon brings: its cell and its pointer, or its pointer alone
 abbrev pub holdersOf : List ℕ → RecordOrder → List Holder
 holdersOf s o = pick (sentOnce s (o .icon)) (pointerOf o ∷ []) (cell (cellAt s (o .icon)) ∷ pointerOf o ∷ [])
+
+-- a window's order with these flags that has no field, as one for a record
+abbrev pub recordOf : ℕ → List ℕ → RecordOrder
+recordOf flags s = record { family = Windows; window = record { id = numAt 4 s 7 }; notify = record { id = 0 }; flags = flags; icon = 11 }

@@ -24,7 +24,6 @@ use protocol::NotifyIconId;
 use protocol::WindowId;
 
 pub mod changes;
-mod short;
 pub mod slots;
 pub mod sound;
 mod steps;
@@ -384,17 +383,17 @@ pub fn step(index: &mut [u8], s: &[u8], near: usize, held: u8, full: bool) -> St
     ensures { λ r. ⌜ now (index .exit) ≡ steppedOf full (now (index .entry)) (planOf (now (index .entry)) (now (s .entry))) ⌝ }
     ensures { λ r. ⌜ HeldBelow (now (index .exit)) (r .held) ⌝ }
 {
-    if short::is_delete(s) {
+    if single::is_delete(s) {
         return steps::delete(index, s, near, full);
     }
-    if short::is_cached(s) {
+    if single::is_cached(s) {
         return steps::cached(index, s, near, full);
     }
-    if short::is_icon(s) {
+    if single::is_icon(s) {
         return steps::icon(index, s, near, held, full);
     }
-    if short::is_list(s) {
-        return steps::desktop(index, short::LIST, full);
+    if single::is_list(s) {
+        return steps::desktop(index, single::LIST, full);
     }
     step_judged(index, s, near, held, full)
 }

@@ -4,23 +4,22 @@ ghost use mathlib.Core.Bool.{true, false};
 ghost use Prim.Native.Nat.{_<_, _≤_};
 ghost use lib.ListN.{length};
 ghost use Rattle.wire.specs.Numbers.{numAt};
+ghost use Rattle.single.specs.Single.{deleteFlags, BringsCached, BringsIcon};
 ghost use Rattle.places.specs.Sizes.{slotCount};
 ghost use Rattle.places.specs.Held.{HeldBelow};
 ghost use Rattle.places.specs.declared.Family.the-variants.{Windows};
 ghost use Rattle.index.specs.declared.Plan.the-variants.{ChangeRecord, ChangeDesktop};
 ghost use Rattle.index.specs.Families.{indexLength};
-ghost use Rattle.index.specs.Orders.{isNew};
+ghost use Rattle.index.specs.Orders.{isNew, recordOf};
 ghost use Rattle.index.specs.Plans.{slotFor, planIn, planRecord};
 ghost use Rattle.index.specs.Changes.{Fits};
 ghost use Rattle.index.specs.Steps.{changeHeld, StepOutcome, SlotOutcome};
-ghost use Rattle.index.specs.Short.{deleteFlags, recordOf, BringsCached, BringsIcon};
 ghost use Rattle.index.specs.Sound.{soundIndex};
 use crate::Change;
 use crate::Place;
 use crate::RecordOrder;
 use crate::Stepped;
 use crate::changes;
-use crate::short;
 use crate::slots;
 use places::Family;
 use places::Found;
@@ -197,13 +196,13 @@ fn short_order(s: &[u8], flags: u32) -> RecordOrder
     ensures { λ r. ⌜ r ≡ recordOf flags (now (s .entry)) ⌝ }
 {
     let family = Family::Windows;
-    let id = wire::read_u32(s, short::ID_AT);
+    let id = wire::read_u32(s, single::ID_AT);
     RecordOrder {
         family,
         window: WindowId { id },
         notify: NotifyIconId { id: 0 },
         flags,
-        icon: short::ICON_AT,
+        icon: single::ICON_AT,
     }
 }
 
@@ -224,7 +223,7 @@ pub(crate) fn delete(index: &mut [u8], s: &[u8], near: usize, full: bool) -> Ste
     requires { ⌜ soundIndex (now index) ≡ true ⌝ }
     ensures { λ r. ⌜ StepOutcome full (now (index .entry)) (planRecord (now (index .entry)) (now (s .entry)) (recordOf deleteFlags (now (s .entry)))) r (now (index .exit)) ⌝ }
 {
-    let o = short_order(s, short::DELETE);
+    let o = short_order(s, single::DELETE);
     let p = own_slot(index, o, near);
     match p {
         Place::Not(n) => no_slot(n),
@@ -263,7 +262,7 @@ pub(crate) fn cached(index: &mut [u8], s: &[u8], near: usize, full: bool) -> Ste
     requires { ⌜ (soundIndex (now index) ≡ true) × BringsCached (numAt 4 (now s) 3) ⌝ }
     ensures { λ r. ⌜ StepOutcome full (now (index .entry)) (planRecord (now (index .entry)) (now (s .entry)) (recordOf (numAt 4 (now (s .entry)) 3) (now (s .entry)))) r (now (index .exit)) ⌝ }
 {
-    let flags = wire::read_u32(s, short::FLAGS_AT);
+    let flags = wire::read_u32(s, single::FLAGS_AT);
     let o = short_order(s, flags);
     let p = own_slot(index, o, near);
     match p {
@@ -304,7 +303,7 @@ pub(crate) fn icon(index: &mut [u8], s: &[u8], near: usize, held: u8, full: bool
     requires { ⌜ (soundIndex (now index) ≡ true) × BringsIcon (numAt 4 (now s) 3) × HeldBelow (now index) held ⌝ }
     ensures { λ r. ⌜ StepOutcome full (now (index .entry)) (planRecord (now (index .entry)) (now (s .entry)) (recordOf (numAt 4 (now (s .entry)) 3) (now (s .entry)))) r (now (index .exit)) ⌝ }
 {
-    let flags = wire::read_u32(s, short::FLAGS_AT);
+    let flags = wire::read_u32(s, single::FLAGS_AT);
     let o = short_order(s, flags);
     let p = own_slot(index, o, near);
     match p {

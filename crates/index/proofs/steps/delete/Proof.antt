@@ -3,7 +3,8 @@ use Rattle.index.proofs.Ways.{sound-long}
 use Rattle.index.proofs.PlansMade.{slot-small, not-zero, record-refused, record-in}
 use Rattle.index.proofs.StepsOfPlans.{steps-as, steps-refused, slot-steps, slot-as}
 use Rattle.index.specs.Plans.{slotFor}
-use Rattle.index.specs.Short.{deleteFlags, recordOf}
+use Rattle.single.specs.Single.{deleteFlags}
+use Rattle.index.specs.Orders.{recordOf}
 use mathlib.Core.Path.{_≡_, refl, ap, _∙_}
 use mathlib.Core.List.{List}
 use Prim.Native.Nat.{ℕ}
