@@ -1,3 +1,4 @@
 pub mod Laid
 pub mod Texts
 pub mod Signs
+pub mod Templates

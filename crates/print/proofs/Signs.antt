@@ -6,7 +6,7 @@ use Prim.Native.Nat.{ℕ, suc, _<_}
 use native.Mathlib.Nat.{zero-add}
 use native.Mathlib.Omega.{arith}
 use lib.IntN.{ℤ, pos, negsuc, _-ℤ_, natAbs}
-use lib.Signed.{ltZ, nonNeg}
+use lib.Signed.{ltZ, nonNeg, mag}
 use lib.Dec.{T}
 use borrow.Author.Tests.{ltb-true}
 use mir.Syntax.{w32, w64}
@@ -45,6 +45,10 @@ text-above : (z : ℤ) → ltZ z (pos 0) ≡ false → decimalText (natAbs z) �
 unfolding signedText
 text-above (pos n) t = refl
 text-above (negsuc n) t = let e : _≡_ {A = ℕ} 0 1 = cc in absurd (omega arith)
+
+-- a number of 32 bits, read back from its bits
+pub read-back : (z : ℤ) → mag z < 2147483648 → toZ w32 (ofZ w32 z) ≡ z
+read-back z h = toZ-ofZ w32 z (record { sfits = h })
 
 -- as the machine has it: each number is read back from its bits
 module _ (z : ℤ) (h : SFits w32 z) where

@@ -64,10 +64,16 @@ module _ {d x y : List ℕ} {at n m : ℕ} where
   number-next part ns from i e l k =
       as-text (rw (add-one i, e)) (then l k)
 
+-- entry i of a list, with the byte that parts it from the one before it
+pub list-next : {d x y z : List ℕ} {at n m k : ℕ} (part : ℕ) (f : ℕ → List ℕ) (i : ℕ) → Laid d at (listText part f i) x n → Laid x n (pick (eqb i 0) [] (part ∷ [])) y m
+    → Laid y m (f i) z k → Laid d at (listText part f (i + 1)) z k
+unfolding listText
+list-next part f i l p q = as-text (rw (add-one i)) (then l (then p q))
+
 pub rectangle-next : {d x y z : List ℕ} {at n m k : ℕ} (ns : List ℕ) (i : ℕ) → Laid d at (rectanglesText ns i) x n → Laid x n (pick (eqb i 0) [] (59 ∷ [])) y m
     → Laid y m (numbersText 44 ns (4 * i) 4) z k → Laid d at (rectanglesText ns (i + 1)) z k
-unfolding rectanglesText listText
-rectangle-next ns i l p q = as-text (rw (add-one i)) (then l (then p q))
+unfolding rectanglesText
+rectangle-next ns i l p q = list-next 59 (λ j. numbersText 44 ns (4 * j) 4) i l p q
 
 -- ---- a part of a string
 

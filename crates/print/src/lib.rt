@@ -12,6 +12,8 @@ ghost use Rattle.print.specs.Laid.{Laid, laid};
 ghost use Rattle.print.specs.Texts.{hexDigit, hexText, decimalText, signedText, numbersText, rectanglesText};
 use libc::STDOUT_FILENO;
 
+pub mod fill;
+
 fn least(a: usize, b: usize) -> usize
     ensures { λ r. ⌜ (r ≡ min a b) × (r ≤ a) × (r ≤ b) ⌝ }
 {
@@ -126,7 +128,7 @@ pub fn string(out: &mut [u8], at: usize, name: &[u8], s: &[u8], from: usize, len
 }
 
 // The byte that parts entry i of a list from the one before it.
-fn parting(out: &mut [u8], at: usize, i: usize, part: u8) -> usize
+pub fn parting(out: &mut [u8], at: usize, i: usize, part: u8) -> usize
     ensures { λ r. ⌜ Laid (now (out .entry)) at (pick (eqb i 0) [] (part ∷ [])) (now (out .exit)) r ⌝ }
 {
     if i == 0 {
