@@ -1,10 +1,10 @@
 // U: a whole update, its limit before its bytes.
 use crate::calls;
-use crate::fill::numbers;
 use crate::lending;
 use crate::lending::Lending;
 use crate::lending::MEMORY;
 use print::field;
+use print::fill::numbers;
 use update::Report;
 
 // The bytes of the limit.

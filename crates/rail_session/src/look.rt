@@ -7,8 +7,6 @@ use crate::lending::JOURNAL;
 use crate::lending::Lending;
 use crate::lending::MEMORY;
 use crate::lending::STORE;
-use crate::lists;
-use crate::show;
 use protocol::NotifyIconId;
 use protocol::WindowId;
 use session::LookupTarget;
@@ -56,9 +54,9 @@ pub(crate) fn is_lookup(kind: u8) -> bool {
 // W, N, C, S, H.
 pub(crate) fn call(memory: &[u8; MEMORY], kind: u8, s: &[u8], out: &mut [u8], l: Lending) -> usize {
     let target = target_of(kind, s);
-    let mut found = [0u8; show::FOUND];
+    let mut found = [0u8; lines::FOUND];
     let r = look(memory, l, target, &mut found);
-    show::found(out, kind, r, target, &found)
+    lines::found(out, kind, r, target, &found)
 }
 
 // I: the two lists of ids.
@@ -67,5 +65,5 @@ pub(crate) fn list_call(memory: &[u8; MEMORY], kind: u8, out: &mut [u8], l: Lend
     let mut icons = [0u8; ids::LENGTH];
     let r = look(memory, l, LookupTarget::Windows, &mut windows);
     look(memory, l, LookupTarget::Notifications, &mut icons);
-    lists::found(out, kind, r, &windows, &icons)
+    lines::listed(out, kind, r, &windows, &icons)
 }

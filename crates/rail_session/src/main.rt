@@ -3,15 +3,11 @@ mod batch;
 mod calls;
 mod dump;
 mod faults;
-mod fill;
 mod holders;
 mod item;
 mod lending;
-mod lists;
 mod look;
-mod pictures;
 mod records;
-mod show;
 mod turn;
 
 // A proved loop has to end, and nothing says that the input does: the items are counted down from

@@ -1,10 +1,9 @@
 // The items of the session record: O writes it, V reads one.
-use crate::fill::numbers;
 use crate::lending;
 use crate::lending::Lending;
 use crate::lending::MEMORY;
-use crate::show;
 use libc::STDOUT_FILENO;
+use print::fill::numbers;
 use session::Reply;
 
 // The most bytes that an item lends.
@@ -37,7 +36,7 @@ fn written(r: Reply) -> usize {
 
 // The line of a write; where it is granted with the record.
 fn write_line(out: &mut [u8], r: Reply, record: &[u8]) -> bool {
-    let n = show::reply(out, b'O', r);
+    let n = lines::reply(out, b'O', r);
     if r.number != 0 {
         return print::end_line(out, n);
     }
@@ -77,20 +76,12 @@ pub(crate) fn write_call(state: &[u8; MEMORY], s: &[u8], out: &mut [u8], l: Lend
     write_to(state, &mut memory[0..size], out, l)
 }
 
-// The comma between bodies.
-fn parting(out: &mut [u8], at: usize, i: usize) -> usize {
-    if i == 0 {
-        return at;
-    }
-    print::byte(out, at, b',')
-}
-
 // Bodies as hex, parted by commas.
 fn bodies(out: &mut [u8], at: usize, record: &[u8], count: usize) -> usize {
     let mut n = at;
     let mut i = 0;
     while i < count {
-        n = parting(out, n, i);
+        n = print::parting(out, n, i, b',');
         n = print::hex(out, n, record::body(record, i));
         i += 1;
     }

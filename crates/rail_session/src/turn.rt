@@ -10,7 +10,6 @@ use crate::lending::Lending;
 use crate::lending::MEMORY;
 use crate::look;
 use crate::records;
-use crate::show;
 
 // Whether the run goes on, and what the next call is lent.
 pub(crate) struct Turn {
@@ -33,7 +32,7 @@ fn call(memory: &mut [u8; MEMORY], kind: u8, s: &[u8], out: &mut [u8], l: Lendin
         b'U' => batch::call(memory, s, out, l),
         _ => {
             let r = calls::call(memory, kind, s, l);
-            show::reply(out, kind, r)
+            lines::reply(out, kind, r)
         }
     }
 }

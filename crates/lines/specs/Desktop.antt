@@ -1,0 +1,26 @@
+-- The desktop as text. Assumes nothing.
+use Prim.Native.Nat.{ℕ, _+_, _*_}
+use mathlib.Core.List.{List, [], _∷_, _++_}
+use Rattle.wire.specs.Tests.{pick}
+use Rattle.wire.specs.Numbers.{numAt}
+use Rattle.body.specs.Bodies.{desktopFields, bodyOf}
+use Rattle.layout.specs.Layouts.{desktopSize}
+use Rattle.print.specs.Templates.{ascii, fillText}
+use Rattle.protocol.specs.declared.WindowId.{WindowId}
+use Rattle.view.specs.declared.DesktopRecord.{DesktopRecord}
+use Rattle.view.specs.Views.{desktopOf}
+use Rattle.lines.specs.Fields.{stackText}
+
+unfoldable pub modesText : WindowId → ℕ → ℕ → List ℕ
+modesText active hooked syncing = fillText (ascii " active=# hooked=# syncing=#") (active .id ∷ hooked ∷ syncing ∷ []) []
+
+unfoldable pub fieldsText : DesktopRecord → List ℕ
+fieldsText d = modesText (d .active) (pick (d .hooked) 1 0) (pick (d .syncing) 1 0) ++ stackText (d .stack)
+
+-- after the record: the windows that are shown, and the lower and the upper half of their pixels
+unfoldable pub figureText : List ℕ → List ℕ
+figureText s =
+    fillText (ascii " shown=# pixels=#") (numAt 4 s desktopSize ∷ (numAt 4 s (desktopSize + 4) + 4294967296 * numAt 4 s (desktopSize + 8)) ∷ []) []
+
+unfoldable pub desktopText : List ℕ → List ℕ
+desktopText s = fieldsText (desktopOf (bodyOf desktopFields s)) ++ figureText s

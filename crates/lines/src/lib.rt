@@ -1,0 +1,73 @@
+// The lines of a call script's answers: what a call answers, and the record that a lookup hands out, a name=value for each field.
+ghost use mathlib.Core.Path.{_≡_};
+ghost use Rattle.print.specs.Laid.{Laid};
+ghost use Rattle.lines.specs.Lines.{replyText, sharedText, recordText, foundText, listsText};
+use print::field;
+use print::fill;
+use session::LookupTarget;
+use session::Reply;
+
+mod desktop;
+mod fields;
+mod lists;
+mod notifications;
+mod pictures;
+mod windows;
+
+// The most bytes that a lookup hands out.
+pub const FOUND: usize = session::lookups::WINDOW;
+
+// The kind and the number, and for a granted call the count and the bytes.
+pub fn reply(out: &mut [u8], kind: u8, r: Reply) -> usize
+    ensures { λ n. ⌜ Laid (now (out .entry)) 0 (replyText kind r) (now (out .exit)) n ⌝ }
+{
+    let n = field(out, 0, &[kind, b' '], r.number as u64);
+    if r.number != 0 {
+        return n;
+    }
+    fill::numbers(out, n, b" # #", &[r.count as u64, r.bytes as u64])
+}
+
+// Whether two holders share a picture.
+fn shared(out: &mut [u8], at: usize, bytes: &[u8; FOUND]) -> usize
+    ensures { λ n. ⌜ Laid (now (out .entry)) at (sharedText (now (bytes .entry))) (now (out .exit)) n ⌝ }
+{
+    field(out, at, b" shared=", wire::read_u8(bytes, 0) as u64)
+}
+
+// The record in the bytes that were handed out.
+fn handed_out(out: &mut [u8], at: usize, target: LookupTarget, bytes: &[u8; FOUND]) -> usize
+    ensures { λ n. ⌜ Laid (now (out .entry)) at (recordText target (now (bytes .entry))) (now (out .exit)) n ⌝ }
+{
+    match target {
+        LookupTarget::Window(w) => windows::line(out, at, w, bytes),
+        LookupTarget::Notification(w, n) => notifications::line(out, at, w, n, bytes),
+        LookupTarget::Cell(_, _) => pictures::cell(out, at, bytes),
+        LookupTarget::Desktop => desktop::line(out, at, bytes),
+        LookupTarget::Windows => at,
+        LookupTarget::Notifications => at,
+        LookupTarget::Shares(_, _) => shared(out, at, bytes),
+    }
+}
+
+// The line of a lookup.
+pub fn found(out: &mut [u8], kind: u8, r: Reply, target: LookupTarget, bytes: &[u8; FOUND]) -> usize
+    ensures { λ n. ⌜ Laid (now (out .entry)) 0 (foundText kind r target (now (bytes .entry))) (now (out .exit)) n ⌝ }
+{
+    let n = reply(out, kind, r);
+    if r.number != 0 {
+        return n;
+    }
+    handed_out(out, n, target, bytes)
+}
+
+// The line of the two lists of ids.
+pub fn listed(out: &mut [u8], kind: u8, r: Reply, windows: &[u8], icons: &[u8]) -> usize
+    ensures { λ n. ⌜ Laid (now (out .entry)) 0 (listsText kind r (now (windows .entry)) (now (icons .entry))) (now (out .exit)) n ⌝ }
+{
+    let n = reply(out, kind, r);
+    if r.number != 0 {
+        return n;
+    }
+    lists::both(out, n, windows, icons)
+}
