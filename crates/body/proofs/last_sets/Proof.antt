@@ -4,6 +4,7 @@ use borrow.Author.Needs.{needs}
 use Rattle.body.proofs.last_sets.Statement.{statement}
 use Rattle.body.proofs.last_sets.Tie as tie
 
+-- The overlay description and the bytes after it are the last rows.
 pub last-sets-spec : {M : Type 1} → statement M
 last-sets-spec =
     tie.close
@@ -12,20 +13,5 @@ last-sets-spec =
     (λ c. search needs)
     (λ c. search needs)
     (λ c κs. search needs)
-    (λ c. search needs)
-    (λ c. search needs)
-    (λ c. search needs)
     (λ c κs. search needs)
-    (λ c. search needs)
-    (λ c. search needs)
-    (λ c. search needs)
-    (λ c κs. search needs)
-    (λ c. search needs)
-    (λ c. search needs)
-    (λ c. search needs)
-    (λ c κs. search needs)
-    (λ c. search needs)
-    (λ c. search needs)
-    (λ c. search needs)
-    (λ c κs. search needs)
-    (λ c. last-sets (now (c .before .before .before .before .before .before .args .slot)) (c .before .before .before .before .in-set .ensures) (c .before .before .before .in-set2 .ensures) (c .before .before .in-set3 .ensures) (c .before .in-set4 .ensures) (c .in-set5 .ensures)))  -- returns
+    (λ c. last-sets (now (c .before .before .before .args .slot)) (c .before .in-set .ensures) (c .last-bytes .ensures)))  -- returns

@@ -1,7 +1,9 @@
-use Rattle.body.proofs.Ways.{first-over, second-over, both-within}
+-- The marks, and the fields.
+use Rattle.body.proofs.Ways.{marks-over, marks-within}
 use Rattle.order.specs.Rows.{rowsFrom}
 use denote.Ref.{now}
 use borrow.Author.Needs.{needs}
+use borrow.Author.Tests.{not-true, not-false}
 use Rattle.body.proofs.sound.Statement.{statement}
 use Rattle.body.proofs.sound.Tie as tie
 
@@ -11,13 +13,11 @@ sound-spec =
     (tie.spec
     (λ c κs. search needs)
     (λ c.  -- returns
-    let a = c .before .before .before .args in
-    first-over (rowsFrom (a .low) (a .high)) (a .m) (a .n) (now (a .slot)) (c .before .read-u8 .ensures) (c .if1 .taken))
+    let s = c .before in
+    let a = s .before .before .args in
+    marks-over (rowsFrom (a .low) (a .high)) (a .m) (a .n) (now (a .slot)) (s .marks-ok .ensures) (not-true (s .marks-ok .result) (c .if1 .taken)))
     (λ c κs. search needs)
     (λ c.  -- returns-2
-    let a = c .before .before .before .before .before .args in
-    second-over (rowsFrom (a .low) (a .high)) (a .m) (a .n) (now (a .slot)) (c .before .before .before .read-u8 .ensures) (c .before .before .if1 .left) (c .before .read-u82 .ensures) (c .if2 .taken))
-    (λ c κs. search needs)
-    (λ c.  -- returns-3
-    let a = c .before .before .before .before .before .before .args in
-    both-within (rowsFrom (a .low) (a .high)) (a .m) (a .n) (now (a .slot)) (c .before .before .before .before .read-u8 .ensures) (c .before .before .before .if1 .left) (c .before .before .read-u82 .ensures) (c .before .if2 .left) (c .fields-ok .ensures)))
+    let s = c .before .before in
+    let a = s .before .before .args in
+    marks-within (rowsFrom (a .low) (a .high)) (a .m) (a .n) (now (a .slot)) (s .marks-ok .ensures) (not-false (s .marks-ok .result) (c .before .if1 .left)) (c .fields-ok .ensures)))

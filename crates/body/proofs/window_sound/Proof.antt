@@ -1,8 +1,9 @@
 -- As `sound`, of a window's rows and marks of 0.
-use Rattle.body.proofs.Ways.{first-over, second-over, both-within}
+use Rattle.body.proofs.Ways.{marks-over, marks-within}
 use Rattle.order.specs.Rows.{rowsFrom}
 use denote.Ref.{now}
 use borrow.Author.Needs.{needs}
+use borrow.Author.Tests.{not-true, not-false}
 use Rattle.body.proofs.window_sound.Statement.{statement}
 use Rattle.body.proofs.window_sound.Tie as tie
 
@@ -12,13 +13,9 @@ window-sound-spec =
     (tie.spec
     (λ c κs. search needs)
     (λ c.  -- returns
-    let a = c .before .before .before .args in
-    first-over (rowsFrom 1 22) 0 0 (now (a .slot)) (c .before .read-u8 .ensures) (c .if1 .taken))
+    let s = c .before in
+    marks-over (rowsFrom 1 22) 0 0 (now (s .before .before .args .slot)) (s .marks-ok .ensures) (not-true (s .marks-ok .result) (c .if1 .taken)))
     (λ c κs. search needs)
     (λ c.  -- returns-2
-    let a = c .before .before .before .before .before .args in
-    second-over (rowsFrom 1 22) 0 0 (now (a .slot)) (c .before .before .before .read-u8 .ensures) (c .before .before .if1 .left) (c .before .read-u82 .ensures) (c .if2 .taken))
-    (λ c κs. search needs)
-    (λ c.  -- returns-3
-    let a = c .before .before .before .before .before .before .args in
-    both-within (rowsFrom 1 22) 0 0 (now (a .slot)) (c .before .before .before .before .read-u8 .ensures) (c .before .before .before .if1 .left) (c .before .before .read-u82 .ensures) (c .before .if2 .left) (c .window-ok .ensures)))
+    let s = c .before .before in
+    marks-within (rowsFrom 1 22) 0 0 (now (s .before .before .args .slot)) (s .marks-ok .ensures) (not-false (s .marks-ok .result) (c .before .if1 .left)) (c .window-ok .ensures)))
