@@ -14,7 +14,6 @@ use denote.Enum.Declared.{tagOf}
 use types.Run.{OneOf}
 use Rattle.wire.specs.Tests.{pick, both, has}
 use Rattle.wire.specs.Parts.{splice}
-use Rattle.wire.proofs.Tests.{both-left, both-right}
 use Rattle.wire.proofs.Numbers.{num1-is}
 use Rattle.wire.proofs.Parts.{part-back}
 use Rattle.order.specs.declared.Row.{Row}
@@ -258,20 +257,6 @@ body-lent rows m b i base k at all e = e ∙ ap (bodyOk rows m m) (slot-lent b b
 pub window-lent : (b : List ℕ) (i base k : ℕ) {r : Bool} → i < 32 → base ≡ 1392 * i → k ≡ 1392 → r ≡ bodyOk windowFields 0 0 (take k (drop base b))
     → r ≡ bodyOk windowFields 0 0 (slotOf b i)
 window-lent b i base k h at all e = body-lent windowFields 0 b i base k (at ∙ sym (window-start i h)) (all ∙ sym (window-length i h)) e
-
--- the rows of windows, known by their ends, in a slot that windows have
-pub window-known : (b : List ℕ) (i low high : ℕ) {r : Bool} → both (both (eqb low 1) (eqb high 22)) (ltb i 32) ≡ true → r ≡ bodyOk windowFields 0 0 (slotOf b i)
-    → r ≡ bodyOk (rowsFrom low high) 0 0 (slotOf b i)
-window-known b i low high t e =
-    let ends : both (eqb low 1) (eqb high 22) ≡ true = both-left (both (eqb low 1) (eqb high 22)) (ltb i 32) t in
-    let l : low ≡ 1 = eqb-true low 1 (both-left (eqb low 1) (eqb high 22) ends) in
-    let h : high ≡ 22 = eqb-true high 22 (both-right (eqb low 1) (eqb high 22) ends) in
-    let same : windowFields ≡ rowsFrom low high = rw (l, h) in
-    e ∙ ap (λ (rs : List Row). bodyOk rs 0 0 (slotOf b i)) same
-
--- so its slot is one of theirs
-pub window-below : (i low high : ℕ) → both (both (eqb low 1) (eqb high 22)) (ltb i 32) ≡ true → i < 32
-window-below i low high t = ltb-true i 32 (both-right (both (eqb low 1) (eqb high 22)) (ltb i 32) t)
 
 module _ (rows : List Row) (x b : List ℕ) (i : ℕ) {n : ℕ} (e : n ≡ getD x (157 + 9 * i) 0) where
   used-is : (t : Bool) → eqb n 1 ≡ t → isUsed x i ≡ t

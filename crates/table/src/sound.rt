@@ -38,6 +38,32 @@ fn window_ok(bodies: &[u8], i: usize) -> bool
     body::window_sound(&bodies[base..end])
 }
 
+// Whether slot i of the windows is free or holds one.
+fn window_record_ok(index: &[u8], bodies: &[u8], i: usize) -> bool
+    requires { ⌜ (indexLength ≤ length (now index)) × (bodiesLength ≤ length (now bodies)) × (i < capacity Windows) ⌝ }
+    ensures { λ r. ⌜ r ≡ recordOk (rowsFrom 1 22) (now (index .entry)) (now (bodies .entry)) i ⌝ }
+{
+    if index[places::LENGTH + slots::SLOT * i] != 1 {
+        return true;
+    }
+    window_ok(bodies, i)
+}
+
+// Each of the slots of windows is.
+fn windows_ok(index: &[u8], bodies: &[u8]) -> bool
+    requires { ⌜ (indexLength ≤ length (now index)) × (bodiesLength ≤ length (now bodies)) ⌝ }
+    ensures { λ r. ⌜ r ≡ eachFrom (capacity Windows) 0 (recordOk (rowsFrom 1 22) (now (index .entry)) (now (bodies .entry))) ⌝ }
+{
+    let mut i = 0;
+    while i < slots::WINDOWS {
+        if !window_record_ok(index, bodies, i) {
+            return false;
+        }
+        i += 1;
+    }
+    true
+}
+
 // Whether slot i is free or holds a body of rows low to high.
 fn record_ok(index: &[u8], bodies: &[u8], i: usize, low: usize, high: usize) -> bool
     requires { ⌜ (indexLength ≤ length (now index)) × (bodiesLength ≤ length (now bodies)) × (i < slotCount) × (low ≤ high) × (high ≤ 31) ⌝ }
@@ -45,9 +71,6 @@ fn record_ok(index: &[u8], bodies: &[u8], i: usize, low: usize, high: usize) -> 
 {
     if index[places::LENGTH + slots::SLOT * i] != 1 {
         return true;
-    }
-    if (low == 1) & (high == 22) & (i < slots::WINDOWS) {
-        return window_ok(bodies, i);
     }
     body_ok(bodies, i, low, high, 0)
 }
@@ -155,7 +178,7 @@ pub fn is_sound(index: &[u8], bodies: &[u8], lent: usize) -> bool
     if lent < (index[0] as usize) {
         return false;
     }
-    if !records_ok(index, bodies, 0, slots::WINDOWS, 1, 22) {
+    if !windows_ok(index, bodies) {
         return false;
     }
     if !records_ok(index, bodies, slots::WINDOWS, slots::NOTIFICATIONS, 23, 29) {

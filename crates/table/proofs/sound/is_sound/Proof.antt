@@ -37,7 +37,7 @@ is-sound-spec =
     let q = c .before .before in
     let a = start q .args in
     sound-lent (now (a .index)) (now (a .bodies)) (a .lent) (q .before .before .if1 .left) (q .before .is-sound .ensures) (not-false (q .before .is-sound .result) (q .if2 .left)) (c .if3 .taken))
-    (λ c κs.  -- records-ok-requires
+    (λ c κs.  -- windows-ok-requires
     let q = c .before .before in
     let l = sound-long (now (start q .args .index)) (index-ok q) in
     search needs)
@@ -46,8 +46,8 @@ is-sound-spec =
     let q = w .before .before in
     let a = start q .args in
     sound-windows (now (a .index)) (now (a .bodies)) (a .lent) (q .before .before .if1 .left) (q .before .is-sound .ensures) (not-false (q .before .is-sound .result) (q .if2 .left)) (w .if3 .left)
-    (c .before .records-ok .ensures) (not-true (c .before .records-ok .result) (c .if4 .taken)))
-    (λ c κs.  -- records-ok-requires-2
+    (c .before .windows-ok .ensures) (not-true (c .before .windows-ok .result) (c .if4 .taken)))
+    (λ c κs.  -- records-ok-requires
     let q = c .before .before .before .before in
     let l = sound-long (now (start q .args .index)) (index-ok q) in
     search needs)
@@ -57,8 +57,8 @@ is-sound-spec =
     let q = w .before .before in
     let a = start q .args in
     sound-notifications (now (a .index)) (now (a .bodies)) (a .lent) (q .before .before .if1 .left) (q .before .is-sound .ensures) (not-false (q .before .is-sound .result) (q .if2 .left)) (w .if3 .left)
-    (n .before .records-ok .ensures) (not-false (n .before .records-ok .result) (n .if4 .left))
-    (c .before .records-ok2 .ensures) (not-true (c .before .records-ok2 .result) (c .if5 .taken)))
+    (n .before .windows-ok .ensures) (not-false (n .before .windows-ok .result) (n .if4 .left))
+    (c .before .records-ok .ensures) (not-true (c .before .records-ok .result) (c .if5 .taken)))
     (λ c κs. search needs)
     (λ c.  -- returns-6
     let d = c .before .before in
@@ -67,8 +67,8 @@ is-sound-spec =
     let q = w .before .before in
     let a = start q .args in
     sound-desktop (now (a .index)) (now (a .bodies)) (a .lent) (q .before .before .if1 .left) (q .before .is-sound .ensures) (not-false (q .before .is-sound .result) (q .if2 .left)) (w .if3 .left)
-    (n .before .records-ok .ensures) (not-false (n .before .records-ok .result) (n .if4 .left))
-    (d .before .records-ok2 .ensures) (not-false (d .before .records-ok2 .result) (d .if5 .left))
+    (n .before .windows-ok .ensures) (not-false (n .before .windows-ok .result) (n .if4 .left))
+    (d .before .records-ok .ensures) (not-false (d .before .records-ok .result) (d .if5 .left))
     (c .before .body-ok .ensures) (not-true (c .before .body-ok .result) (c .if6 .taken)))
     (λ c κs.  -- holders-ok-requires
     let q = c .before .before .before .before .before .before .before .before in
@@ -81,7 +81,7 @@ is-sound-spec =
     let q = w .before .before in
     let a = start q .args in
     sound-holders (now (a .index)) (now (a .bodies)) (a .lent) (q .before .before .if1 .left) (q .before .is-sound .ensures) (not-false (q .before .is-sound .result) (q .if2 .left)) (w .if3 .left)
-    (n .before .records-ok .ensures) (not-false (n .before .records-ok .result) (n .if4 .left))
-    (d .before .records-ok2 .ensures) (not-false (d .before .records-ok2 .result) (d .if5 .left))
+    (n .before .windows-ok .ensures) (not-false (n .before .windows-ok .result) (n .if4 .left))
+    (d .before .records-ok .ensures) (not-false (d .before .records-ok .result) (d .if5 .left))
     (h .before .body-ok .ensures) (not-false (h .before .body-ok .result) (h .if6 .left))
     (c .holders-ok .ensures)))

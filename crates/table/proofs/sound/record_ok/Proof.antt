@@ -1,5 +1,5 @@
 -- A slot is used where its first byte is 1.
-use Rattle.table.proofs.Ways.{record-free, record-held, window-below, window-known}
+use Rattle.table.proofs.Ways.{record-free, record-held}
 use Rattle.order.specs.Rows.{rowsFrom}
 use mathlib.Core.Path.{refl}
 use denote.Ref.{now}
@@ -17,14 +17,7 @@ record-ok-spec =
     (λ c.  -- returns
     let a = c .before .before .before .before .args in
     record-free (rowsFrom (a .low) (a .high)) (now (a .index)) (now (a .bodies)) (a .i) refl (c .if1 .taken))
-    (λ c κs.  -- window-ok-requires
-    let a = c .before .before .before .before .before .args in
-    (c .before .before .before .before .before .pre .1, window-below (a .i) (a .low) (a .high) (c .if2 .taken)))
-    (λ c.  -- returns-2
-    let a = c .before .before .before .before .before .before .args in
-    record-held (rowsFrom (a .low) (a .high)) (now (a .index)) (now (a .bodies)) (a .i) refl (c .before .before .if1 .left)
-    (window-known (now (a .bodies)) (a .i) (a .low) (a .high) (c .before .if2 .taken) (c .window-ok .ensures)))
     (λ c κs. search needs)
-    (λ c.  -- returns-3
-    let a = c .before .before .before .before .before .before .args in
-    record-held (rowsFrom (a .low) (a .high)) (now (a .index)) (now (a .bodies)) (a .i) refl (c .before .before .if1 .left) (c .body-ok .ensures)))
+    (λ c.  -- returns-2
+    let a = c .before .before .before .before .before .args in
+    record-held (rowsFrom (a .low) (a .high)) (now (a .index)) (now (a .bodies)) (a .i) refl (c .before .if1 .left) (c .body-ok .ensures)))
