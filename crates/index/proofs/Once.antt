@@ -8,6 +8,8 @@ use lib.Dec.{eqb, leb}
 use lib.ListN.{length, getD, set, take, drop, replicate, length-set, length-replicate}
 use lib.Seq.{getD-set-same, getD-set-other}
 use borrow.Author.Tests.{eqb-true, eqb-false, eq-eqb, ne-eqb, leb-true, leb-false, le-ltb, lt-ltb}
+use Rattle.wire.specs.Tests.{both}
+use Rattle.wire.proofs.Tests.{both-left}
 use Rattle.wire.specs.Numbers.{numAt}
 use Rattle.wire.specs.Parts.{slice}
 use Rattle.wire.proofs.Numbers.{num1-is, num-slice, num-zeros}
@@ -187,15 +189,26 @@ module _ (seen x : List ℕ) (first i : ℕ) (s : Seen seen x first i) where
 -- ---- the other ways through a slot
 
 module _ (x : List ℕ) (first count top i : ℕ) {u : ℕ} (e : u ≡ usedAt x i) where
-  pub slot-empty : u ≡ 0 → {r : Bool} → r ≡ noPointers x i → r ≡ slotOk x first count top i
+  slot-empty : u ≡ 0 → {r : Bool} → r ≡ noPointers x i → r ≡ slotOk x first count top i
   unfolding slotOk
   slot-empty h g = rw (← e, eq-eqb u 0 h) g
 
-  module _ (h : u ≡ 0 → ⊥) where
-    pub slot-unmarked : (u ≡ 1 → ⊥) → false ≡ slotOk x first count top i
-    unfolding slotOk
-    slot-unmarked g = rw (← e, ne-eqb u 0 h, ne-eqb u 1 g)
+  slot-unmarked : (u ≡ 0 → ⊥) → (u ≡ 1 → ⊥) → false ≡ slotOk x first count top i
+  unfolding slotOk
+  slot-unmarked h g = rw (← e, ne-eqb u 0 h, ne-eqb u 1 g)
 
-    pub slot-high : u ≡ 1 → {b : ℕ} → b ≡ secondId x i → top < b → false ≡ slotOk x first count top i
-    unfolding slotOk
-    slot-high g {b} l m = rw (← e, ne-eqb u 0 h, eq-eqb u 1 g, ← l, lt-ltb top b m)
+  pub slot-high : u ≡ 1 → {b : ℕ} → b ≡ secondId x i → top < b → false ≡ slotOk x first count top i
+  unfolding slotOk
+  slot-high g {b} l m = rw (← e, ne-eqb u 0 (λ z. omega (arith, g, z)), eq-eqb u 1 g, ← l, lt-ltb top b m)
+
+  -- no record, so no pointers either; and the marks serve the next slot too
+  module _ {r : Bool} (f : r ≡ both (eqb u 0) (noPointers x i)) where
+    pub slot-free : (u ≡ 1 → ⊥) → r ≡ slotOk x first count top i
+    slot-free g = go (eqb u 0) refl f
+      where
+        go : (t : Bool) → eqb u 0 ≡ t → r ≡ both t (noPointers x i) → r ≡ slotOk x first count top i
+        go true q k = slot-empty (eqb-true u 0 q) k
+        go false q k = k ∙ slot-unmarked (eqb-false u 0 q) g
+
+    pub none-used : r ≡ true → usedAt x i ≡ 0
+    none-used t = sym e ∙ eqb-true u 0 (both-left (eqb u 0) (noPointers x i) (sym f ∙ t))

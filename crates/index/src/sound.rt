@@ -3,7 +3,9 @@
 ghost use mathlib.Core.Path.{_≡_};
 ghost use mathlib.Core.Bool.{true};
 ghost use Prim.Native.Nat.{_+_, _≤_, _<_};
+ghost use lib.Dec.{eqb};
 ghost use lib.ListN.{length};
+ghost use Rattle.wire.specs.Tests.{both};
 ghost use Rattle.places.specs.Sizes.{slotCount};
 ghost use Rattle.index.specs.Families.{indexLength};
 ghost use Rattle.index.specs.Sound.{noPointers, slotOk, eachFrom, soundIndex, markOf, Seen};
@@ -27,6 +29,16 @@ fn no_pointers(index: &[u8], i: usize) -> bool
     (index[at] == 0) & ((index[at + 1] == 0) & (index[at + 2] == 0))
 }
 
+// Slot i, whose first byte is this, has no record and no pointers. Both are read before either is judged: a slot with a record is
+// then told by one test.
+fn is_free(index: &[u8], used: u8, i: usize) -> bool
+    requires { ⌜ (indexLength ≤ length (now index)) × (i < slotCount) ⌝ }
+    ensures { λ r. ⌜ r ≡ both (eqb used 0) (noPointers (now (index .entry)) i) ⌝ }
+{
+    let none = no_pointers(index, i);
+    (used == 0) & none
+}
+
 // Slot i has no record and no pointers, or is the first with its ids, of which the second is at most top. The ids of the slots
 // before it have marks in seen: only slots from the first with the same mark on are compared.
 fn slot_ok(
@@ -44,11 +56,8 @@ fn slot_ok(
 {
     let base = places::LENGTH + slots::SLOT * i;
     let used = index[base];
-    if used == 0 {
-        return no_pointers(index, i);
-    }
     if used != 1 {
-        return false;
+        return is_free(index, used, i);
     }
     let past = base + slots::SLOT;
     let a = wire::read_u32(&index[base..past], 1);
