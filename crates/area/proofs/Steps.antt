@@ -134,3 +134,11 @@ pub alone : (s : List ℕ) {z : ℕ} {p : Rect} → listed s ≡ 1 → p ≡ rec
 alone s {z} e ep ez =
     let g : 0 + z ≡ areaBy s 1 = grown s 0 ep (sym (area-none s)) (ez .0) in
     (omega (arith, whole s (sym e) g), ez .1)
+
+-- which has the points between its sides
+pub alone-between : (s : List ℕ) {p : Rect} {u v : ℕ} → listed s ≡ 1 → p ≡ rectAt s 0 → p .right < side → p .bottom < side → u ≡ max (p .left) (p .right) → v ≡ max (p .top) (p .bottom)
+    → Points ((u - p .left) * (v - p .top)) (areaOf s)
+alone-between s {p} {u} {v} e ep right bottom eu ev =
+    let w : u - p .left ≡ p .right - p .left = omega (arith, eu) in
+    let h : v - p .top ≡ p .bottom - p .top = omega (arith, ev) in
+    alone s e ep (few s 0 p (rw (w, h) (left-all s p (omega arith) (omega arith))))

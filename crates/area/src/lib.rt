@@ -194,10 +194,13 @@ pub fn area(s: &[u8]) -> u64
     sum
 }
 
-// The points of a list that has one rectangle.
+// The points of a list that has one rectangle: none where its right or bottom does not pass its left or top, without a branch.
 pub fn single(s: &[u8]) -> u64
     requires { ⌜ Area·listed (now s) ≡ 1 ⌝ }
     ensures { λ r. ⌜ (r ≡ areaOf (now (s .entry))) × (r ≤ mostPoints) ⌝ }
 {
-    piece(s, 0, rect_at(s, 0))
+    let q = rect_at(s, 0);
+    let wide = larger(q.left, q.right) - q.left;
+    let high = larger(q.top, q.bottom) - q.top;
+    wide as u64 * high as u64
 }
