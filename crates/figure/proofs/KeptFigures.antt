@@ -125,7 +125,7 @@ nothing-kept index bodies free zeros =
 
 -- ---- figures fit their bytes
 
-pixels-small : (index bodies : List ℕ) (i : ℕ) → Bytes bodies → pixelsAt index bodies i < mostPoints
+pub pixels-small : (index bodies : List ℕ) (i : ℕ) → Bytes bodies → pixelsAt index bodies i < mostPoints
 unfolding slotOf
 pixels-small index bodies i b = go (isUsed index i)
   where

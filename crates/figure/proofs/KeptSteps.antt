@@ -10,7 +10,7 @@ use lib.Dec.{eqb}
 use lib.ListN.{length, take, drop}
 use borrow.Author.Tests.{eq-eqb}
 use Rattle.wire.specs.Tests.{both}
-use Rattle.wire.specs.Numbers.{numAt, bytesOf}
+use Rattle.wire.specs.Numbers.{numAt, bytesOf, Bytes}
 use Rattle.wire.specs.Parts.{slice, splice}
 use Rattle.wire.proofs.Numbers.{num-slice}
 use Rattle.places.specs.Counts.{eachBelow}
@@ -20,7 +20,7 @@ use Rattle.figure.specs.Figure.{shownAt, pixelsAt, figureOf, figureBytes
 use Rattle.figure.specs.Kept.{totalsStart, keptLength, pixelsPlace, keptPixels, keptFigure, figuresOk, pixelsKept, keptOf}
 use Rattle.figure.proofs.FigureBytes.{half, lower-half}
 use Rattle.figure.proofs.FigureSums.{whole-figure}
-use Rattle.figure.proofs.KeptFigures.{kept-pixels, shown-same, pixels-same, pixels-length, pixels-front}
+use Rattle.figure.proofs.KeptFigures.{kept-pixels, pixels-small, shown-same, pixels-same, pixels-length, pixels-front}
 
 -- ---- read
 
@@ -46,6 +46,10 @@ pub stored-is : (index : List ℕ) (i at n : ℕ) → at ≡ pixelsPlace i → n
 stored-is index i at n ea en e =
     let part : numAt 4 (take n (drop at index)) 0 ≡ numAt 4 (slice index (pixelsPlace i) 4) 0 = unfold slice in rw (ea, en) in
     e ∙ part ∙ num-slice 4 index (pixelsPlace i) 4 0 (omega arith) ∙ ap (numAt 4 index) (add-zero (pixelsPlace i))
+
+-- pixels fit 4 bytes
+pub pixels-whole : (index bodies : List ℕ) (i : ℕ) {p : ℕ} → Bytes bodies → p ≡ pixelsAt index bodies i → p % half ≡ p
+pixels-whole index bodies i b e = omega (arith, pixels-small index bodies i b, e)
 
 module _ (index bodies : List ℕ) (i : ℕ) {stored p : ℕ} (es : stored ≡ keptPixels index i) (ep : p ≡ pixelsAt index bodies i) where
   pub same-more : eachBelow i (isSame index bodies) ≡ true → stored ≡ p → eachBelow (i + 1) (isSame index bodies) ≡ true

@@ -138,7 +138,7 @@ pub fn is_kept(index: &[u8], bodies: &[u8]) -> bool
         let p = pixels_at(index, bodies, i, shown);
         let at = index::LENGTH + 4 * i;
         let end = at + 4;
-        if wire::read_u32(&index[at..end], 0) as u64 != p {
+        if wire::read_u32(&index[at..end], 0) != (p % HALF) as u32 {
             return false;
         }
         windows += shown as u32;

@@ -1,9 +1,10 @@
 -- `is_kept`: both sums go from slot to slot while the pixels are the stored ones, then the totals are compared. Assumes nothing.
-use mathlib.Core.Path.{_≡_, refl}
+use mathlib.Core.Path.{_≡_, refl, sym, _∙_}
 use mathlib.Core.Bool.{true}
 use Prim.Native.Nat.{_+_, _*_, _-_, _≤_}
 use native.Mathlib.Omega.{arith}
 use lib.Dec.{eqb}
+use Rattle.wire.specs.Numbers.{Bytes}
 use denote.Ref.{now}
 use borrow.Author.Needs.{needs}
 use Rattle.places.specs.Counts.{eachBelow}
@@ -12,7 +13,7 @@ use Rattle.area.specs.Cutting.{mostPoints}
 use Rattle.figure.specs.Figure.{shownAt, pixelsAt}
 use Rattle.figure.specs.Kept.{pixelsPlace, keptPixels}
 use Rattle.figure.proofs.FigureSums.{counts, window-more, sum-more, sum-zero}
-use Rattle.figure.proofs.KeptSteps.{none-other, stored-is, same-more, other, all-same}
+use Rattle.figure.proofs.KeptSteps.{none-other, pixels-whole, stored-is, same-more, other, all-same}
 use Rattle.figure.proofs.is_kept.Statement.{statement}
 use Rattle.figure.proofs.is_kept.Tie as tie
 
@@ -23,6 +24,9 @@ Inv-loop index bodies windows₀ pixels₀ i₀ windows pixels i =
 
 abbrev μ-loop : tie.MeasureT-loop
 μ-loop index bodies windows₀ pixels₀ i₀ windows pixels i = 32 - i
+
+bytes : (l : tie.In-loop Inv-loop μ-loop) → Bytes (now (l .before .before .before .before .args .bodies))
+bytes l = record { small = λ i. omega (arith, l .before .before .shared-slice-known2 .given i) }
 
 pub is-kept-spec : {M : Type 1} → statement M
 is-kept-spec =
@@ -50,7 +54,9 @@ is-kept-spec =
     let w = r .before .before .before .before .before in
     let a = w .before .before .before .args in
     let i = w .loop .i in
-    other (now (a .index)) (now (a .bodies)) i (stored-is (now (a .index)) i (pixelsPlace i) (pixelsPlace i + 4 - pixelsPlace i) refl (omega arith) (r .read-u32 .ensures)) (r .before .before .pixels-at .ensures .0) (r .before .before .before .before .loop-test .taken) (c .if1 .taken))
+    let p = r .before .before .pixels-at .ensures .0 in
+    let whole = pixels-whole (now (a .index)) (now (a .bodies)) i (bytes (r .before .before .before .before)) p in
+    other (now (a .index)) (now (a .bodies)) i (stored-is (now (a .index)) i (pixelsPlace i) (pixelsPlace i + 4 - pixelsPlace i) refl (omega arith) (r .read-u32 .ensures)) p (r .before .before .before .before .loop-test .taken) (λ z. c .if1 .taken (z ∙ sym whole)))
     (λ c. search needs)
     (λ c. let h = counts (c .before .before .before .before .is-shown .result) in omega arith)  -- add-windows
     (λ c. search needs)
@@ -67,7 +73,7 @@ is-kept-spec =
     let p = r .before .before .pixels-at .ensures in
     let h = counts (shown .result) in
     let stored = stored-is index i (pixelsPlace i) (pixelsPlace i + 4 - pixelsPlace i) refl (omega arith) (r .read-u32 .ensures) in
-    (omega arith, omega arith, omega arith, window-more index bodies i (w .loop .inv .3) (shown .ensures), sum-more i (pixelsAt index bodies) (w .loop .inv .4) (p .0), same-more index bodies i stored (p .0) (w .loop .inv .5) (c .if1 .left)))
+    (omega arith, omega arith, omega arith, window-more index bodies i (w .loop .inv .3) (shown .ensures), sum-more i (pixelsAt index bodies) (w .loop .inv .4) (p .0), same-more index bodies i stored (p .0) (w .loop .inv .5) (c .if1 .left ∙ pixels-whole index bodies i (bytes (r .before .before .before .before)) (p .0))))
     (λ c κs. search needs)
     (λ c.  -- returns-2
     let w = c .before .before .before .before in
