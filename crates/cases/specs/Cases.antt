@@ -14,7 +14,7 @@ use Rattle.order.specs.declared.Judged.the-variants.{Window, Desktop}
 use Rattle.order.specs.Judge.{refuse, judgeOf}
 use Rattle.places.specs.declared.Family.the-variants as family
 use Rattle.places.specs.Holder.{sameFamily}
-use Rattle.index.specs.Families.{sameRecord}
+use Rattle.slots.specs.Families.{sameRecord}
 use Rattle.index.specs.Index.{emptyIndex}
 use Rattle.body.specs.Bodies.{Body}
 use Rattle.table.specs.Table.{Table}

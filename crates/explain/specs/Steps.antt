@@ -9,8 +9,8 @@ use Rattle.wire.specs.Tests.{pick}
 use Rattle.order.specs.declared.Judged.{Judged}
 use Rattle.order.specs.declared.Judged.the-variants.{Window, Notification, Desktop, Refused}
 use Rattle.order.specs.Judge.{judgeOf}
+use Rattle.slots.specs.Sound.{soundIndex}
 use Rattle.index.specs.Plans.{planOf, planNumber}
-use Rattle.index.specs.Sound.{soundIndex}
 use Rattle.journal.specs.declared.JournalExtent.{JournalExtent}
 use Rattle.journal.specs.Limits.{mostOrders, logStart, journalLength}
 use Rattle.session.specs.Delivery.{numberOn}

@@ -16,9 +16,9 @@ use Rattle.places.specs.declared.Found.{Found}
 use Rattle.places.specs.declared.Found.the-variants.{At, Nothing}
 use Rattle.places.specs.Counts.{onFound}
 use Rattle.places.proofs.Counting.{found, none-passes}
-use Rattle.index.specs.Families.{slotAt}
-use Rattle.index.specs.Slots.{firstId, secondId, isUsed, isAt, slotOf}
-use Rattle.index.proofs.Soundness.{Sound, sound-has, one-slot, at-is, at-free, used-has, slot-own}
+use Rattle.slots.specs.Families.{slotAt}
+use Rattle.slots.specs.Slots.{firstId, secondId, isUsed, isAt, slotOf}
+use Rattle.slots.proofs.Soundness.{Sound, sound-has, one-slot, at-is, at-free, used-has, slot-own}
 use Rattle.area.specs.Area.{sumBelow, one}
 use Rattle.area.proofs.Counting.{sum-cong, sum-same, sum-none, sum-one, sum-swap}
 use Rattle.figure.specs.Figure.{isShown, pixelsOf, windowAt, shownAt, figureOf, idEnd, ofWindow, figureBy, windowBy, PlacesDontCount}

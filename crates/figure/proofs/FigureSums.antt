@@ -10,8 +10,8 @@ use mir.Val.{boolByte}
 use lib.ListN.{getD, take, drop}
 use Rattle.wire.specs.Tests.{pick, both}
 use Rattle.body.specs.Bodies.{windowFields, bodyOf}
-use Rattle.index.specs.Slots.{isUsed}
-use Rattle.index.proofs.Once.{used-lent}
+use Rattle.slots.specs.Slots.{isUsed}
+use Rattle.slots.proofs.Once.{used-lent}
 use Rattle.area.specs.Area.{sumBelow, one, areaOf}
 use Rattle.figure.specs.declared.Figure.{Figure}
 use Rattle.figure.specs.Figure.{fieldWith, flagVisibility, isShown, pixelsOf, windowAt, shownAt, pixelsAt, figureOf}

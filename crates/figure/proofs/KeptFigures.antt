@@ -17,8 +17,8 @@ use Rattle.wire.proofs.Numbers.{length-bytes, fits4, num-take, num-slice, num-b
 use Rattle.places.specs.Counts.{eachBelow}
 use Rattle.places.proofs.Counting.{each-is, each-has}
 use Rattle.body.specs.Bodies.{slotOf, slotStart, slotLength}
-use Rattle.index.specs.Families.{indexLength, slotAt}
-use Rattle.index.specs.Slots.{usedAt, isUsed}
+use Rattle.slots.specs.Families.{indexLength, slotAt}
+use Rattle.slots.specs.Slots.{usedAt, isUsed}
 use Rattle.area.specs.Area.{sumBelow, one}
 use Rattle.area.specs.Cutting.{mostPoints}
 use Rattle.area.proofs.Counting.{sum-same, sum-none}

@@ -12,10 +12,10 @@ use Rattle.order.specs.declared.Row.{Row}
 use Rattle.body.specs.Bodies.{Body, windowFields, slotOf, bodyOf, first, rest}
 use Rattle.places.specs.declared.Family.the-variants.{Windows}
 use Rattle.places.specs.Counts.{onFound}
-use Rattle.index.specs.Families.{capacity}
-use Rattle.index.specs.Slots.{isUsed}
-use Rattle.index.specs.Slots.{slotOf as Slots·slotOf}
-use Rattle.index.specs.Sound.{soundIndex}
+use Rattle.slots.specs.Families.{capacity}
+use Rattle.slots.specs.Slots.{isUsed}
+use Rattle.slots.specs.Slots.{slotOf as Slots·slotOf}
+use Rattle.slots.specs.Sound.{soundIndex}
 use Rattle.area.specs.Area.{sumBelow, one, areaOf}
 use Rattle.figure.specs.declared.Figure.{Figure}
 

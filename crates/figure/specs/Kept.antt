@@ -9,7 +9,7 @@ use Rattle.wire.specs.Numbers.{numAt, bytesOf}
 use Rattle.wire.specs.Parts.{splice}
 use Rattle.places.specs.declared.Family.the-variants.{Windows}
 use Rattle.places.specs.Counts.{eachBelow}
-use Rattle.index.specs.Families.{capacity, indexLength}
+use Rattle.slots.specs.Families.{capacity, indexLength}
 use Rattle.figure.specs.declared.Figure.{Figure}
 use Rattle.figure.specs.Figure.{pixelsAt, figureOf, figureBytes}
 

@@ -7,10 +7,9 @@ ghost use Rattle.wire.specs.Parts.{splice};
 ghost use Rattle.area.specs.Cutting.{mostPoints};
 ghost use Rattle.body.specs.Bodies.{windowFields, bodyOf};
 ghost use Rattle.places.specs.declared.Family.the-variants.{Windows};
-ghost use Rattle.index.specs.Families.{capacity, indexLength};
+ghost use Rattle.slots.specs.Families.{capacity, indexLength};
 ghost use Rattle.figure.specs.Figure.{isShown, pixelsOf, shownAt, pixelsAt, windowLength, windowsLength, figureOf, figureLength, figureBytes};
 ghost use Rattle.figure.specs.Kept.{keptLength, keptFigure, figuresOk, keptOf};
-use index::slots;
 
 // The windows that are shown, and their pixels in all.
 pub struct Figure {
@@ -26,7 +25,7 @@ const VISIBILITY: usize = 736;
 const VISIBILITY_ROOM: usize = 130;
 
 // Where the totals stand, and the bytes of the index with its figures.
-const TOTALS: usize = index::LENGTH + 4 * slots::WINDOWS;
+const TOTALS: usize = slots::LENGTH + 4 * slots::WINDOWS;
 
 pub const LENGTH: usize = TOTALS + BYTES;
 
@@ -136,7 +135,7 @@ pub fn is_kept(index: &[u8], bodies: &[u8]) -> bool
     while i < slots::WINDOWS {
         let shown = is_shown(index, bodies, i);
         let p = pixels_at(index, bodies, i, shown);
-        let at = index::LENGTH + 4 * i;
+        let at = slots::LENGTH + 4 * i;
         let end = at + 4;
         if wire::read_u32(&index[at..end], 0) != (p % HALF) as u32 {
             return false;
@@ -160,7 +159,7 @@ pub fn keep(index: &mut [u8], bodies: &[u8])
     while i < slots::WINDOWS {
         let shown = is_shown(index, bodies, i);
         let p = pixels_at(index, bodies, i, shown);
-        wire::write_u32(index, index::LENGTH + 4 * i, (p % HALF) as u32);
+        wire::write_u32(index, slots::LENGTH + 4 * i, (p % HALF) as u32);
         windows += shown as u32;
         pixels += p;
         i += 1;

@@ -12,11 +12,11 @@ use Rattle.places.specs.declared.Found.{Found}
 use Rattle.places.specs.declared.Found.the-variants.{At, Nothing}
 use Rattle.places.specs.Counts.{onFound}
 use Rattle.places.proofs.Counting.{found}
-use Rattle.index.specs.Families.{start, capacity}
-use Rattle.index.specs.Slots.{isUsed, isAt}
-use Rattle.index.specs.Slots as slots
+use Rattle.slots.specs.Families.{start, capacity}
+use Rattle.slots.specs.Slots.{isUsed, isAt}
+use Rattle.slots.specs.Slots as slots
+use Rattle.slots.proofs.Soundness.{never, Within, found-within, at-has, used-is}
 use Rattle.index.specs.Memory.{indexOf}
-use Rattle.index.proofs.Soundness.{never, Within, found-within, at-has, used-is}
 use Rattle.body.specs.Bodies.{slotStart, slotOf, fieldsOf, bodyOk}
 use Rattle.picture.specs.Pictures.{pictureAt, headOk}
 use Rattle.table.specs.Table.{fieldRows}

@@ -12,14 +12,14 @@ use Rattle.wire.proofs.Numbers.{Bytes}
 use Rattle.wire.proofs.Parts.{length-splice, length-zeros}
 use Rattle.places.specs.declared.Family.{Family}
 use Rattle.places.specs.declared.Family.the-variants.{Windows, Notifications}
+use Rattle.slots.specs.Slots as slots
+use Rattle.slots.specs.Sound.{soundIndex}
 use Rattle.index.specs.declared.RecordOrder.{RecordOrder}
 use Rattle.index.specs.declared.Plan.{Plan}
 use Rattle.index.specs.declared.Plan.the-variants.{ChangeRecord, ChangeDesktop, Refuse}
-use Rattle.index.specs.Slots as slots
 use Rattle.index.specs.Memory.{indexOf}
 use Rattle.index.specs.Plans.{changeOf, planOf}
 use Rattle.index.specs.Changes.{appliedOf}
-use Rattle.index.specs.Sound.{soundIndex}
 use Rattle.body.specs.Bodies.{desktopFields, slotOf, bodyOf, bodyOk}
 use Rattle.picture.specs.Pictures.{pictureAt, headOk}
 use Rattle.table.specs.Table.{Table, changeRecord, after}

@@ -14,6 +14,8 @@ use Rattle.order.specs.declared.Judged.the-variants.{Window, Notification, Desk
 use Rattle.order.specs.Judge.{judgeOf}
 use Rattle.places.specs.Memory.{pointerAt, withPicture}
 use Rattle.places.specs.Holder.{Holder}
+use Rattle.slots.specs.Sound.{soundIndex}
+use Rattle.slots.proofs.Soundness.{Sound, sound-has}
 use Rattle.index.specs.declared.RecordOrder.{RecordOrder}
 use Rattle.index.specs.declared.Change.{Change}
 use Rattle.index.specs.declared.Plan.{Plan}
@@ -22,8 +24,6 @@ use Rattle.index.specs.Orders.{onJudged, bringsIcon}
 use Rattle.index.specs.Memory.{indexOf}
 use Rattle.index.specs.Plans.{changeOf, planRecord, planOf}
 use Rattle.index.specs.Changes.{clearedOf, appliedOf, FitsPlan}
-use Rattle.index.specs.Sound.{soundIndex}
-use Rattle.index.proofs.Soundness.{Sound, sound-has}
 use Rattle.index.proofs.Ordered.{windowOrder, notificationOrder, ordered-window, ordered-notification}
 use Rattle.index.proofs.Numbered.{Outcome, refused, changes, outcome}
 use Rattle.index.proofs.After.{plan-fits}

@@ -12,14 +12,14 @@ use Rattle.protocol.specs.Flags.{desktopNone}
 use Rattle.places.specs.declared.Family.{Family}
 use Rattle.places.specs.Counts.{onFound}
 use Rattle.places.proofs.Named.{same-record}
+use Rattle.slots.specs.Families.{sameRecord}
+use Rattle.slots.proofs.Soundness.{never}
 use Rattle.index.specs.declared.RecordOrder.{RecordOrder}
 use Rattle.index.specs.declared.Change.{Change}
-use Rattle.index.specs.Families.{sameRecord}
 use Rattle.index.specs.Orders.{isNew, isDelete}
 use Rattle.index.specs.Index as index
 use Rattle.index.specs.Memory.{indexOf}
 use Rattle.index.specs.Plans.{changeOf}
-use Rattle.index.proofs.Soundness.{never}
 use Rattle.index.proofs.Numbered.{Planned}
 use Rattle.body.specs.Bodies.{Body, desktopFields, fieldsOf, bodyOf, bodyOk, setFlagged, emptyFields, emptyBody}
 use Rattle.body.specs.Stores.{roomAll, EndsWell}

@@ -7,7 +7,7 @@ use lib.ListN.{length}
 use Rattle.wire.specs.Parts.{slice}
 use Rattle.places.specs.declared.Family.{Family}
 use Rattle.places.specs.declared.Family.the-variants.{Windows, Notifications}
-use Rattle.index.proofs.Soundness.{Within, within-slots}
+use Rattle.slots.proofs.Soundness.{Within, within-slots}
 use Rattle.body.specs.Bodies.{slotLength, slotStart, slotOf}
 use Rattle.body.specs.Stores.{roomAll}
 use Rattle.body.proofs.Slots.{window-length, other-length, slot-within}

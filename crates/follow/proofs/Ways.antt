@@ -19,15 +19,15 @@ use Rattle.places.specs.declared.Family.{Family}
 use Rattle.places.specs.declared.Found.the-variants.{At, Nothing}
 use Rattle.places.specs.Holder.{sameFamily}
 use Rattle.places.proofs.Named.{same-record}
+use Rattle.slots.specs.declared.Searched.{Searched}
+use Rattle.slots.specs.Families.{start, capacity}
+use Rattle.slots.specs.Slots.{isAt, slotOf, searchOf}
+use Rattle.slots.proofs.Soundness.{never, family-same, within-slots, found-within}
+use Rattle.slots.proofs.Ways.{found-is}
 use Rattle.index.specs.declared.Change.{Change}
 use Rattle.index.specs.declared.Plan.{Plan}
 use Rattle.index.specs.declared.Plan.the-variants.{ChangeRecord, ChangeDesktop, Refuse}
-use Rattle.index.specs.declared.Searched.{Searched}
-use Rattle.index.specs.Families.{start, capacity}
-use Rattle.index.specs.Slots.{isAt, slotOf, searchOf}
 use Rattle.index.proofs.Plan.{the-type}
-use Rattle.index.proofs.Soundness.{never, family-same, within-slots, found-within}
-use Rattle.index.proofs.Ways.{found-is}
 use Rattle.body.specs.Bodies.{slotStart}
 use Rattle.body.specs.Stores.{roomAll}
 use Rattle.table.specs.Table.{fieldRows}

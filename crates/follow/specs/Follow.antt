@@ -16,11 +16,11 @@ use Rattle.places.specs.declared.Found.{Found}
 use Rattle.places.specs.Counts.{onFound}
 use Rattle.places.specs.Memory.{pointerAt}
 use Rattle.places.specs.Holder.{Holder}
+use Rattle.slots.specs.Families.{sameRecord}
+use Rattle.slots.specs.Slots as slots
 use Rattle.index.specs.declared.Change.{Change}
 use Rattle.index.specs.declared.Plan.{Plan}
 use Rattle.index.specs.declared.Plan.the-variants.{ChangeRecord, ChangeDesktop, Refuse}
-use Rattle.index.specs.Families.{sameRecord}
-use Rattle.index.specs.Slots as slots
 use Rattle.index.specs.Orders.{onJudged, bringsIcon}
 use Rattle.body.specs.Bodies.{desktopFields, slotStart, slotOf, fieldsOf, bodyOf, bodyOk}
 use Rattle.cache.specs.Cells.{carriedPicture}

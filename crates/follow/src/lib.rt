@@ -3,9 +3,9 @@
 ghost use mathlib.Core.Path.{_≡_};
 ghost use Prim.Native.Nat.{_+_, _<_, _≤_};
 ghost use lib.ListN.{length};
-ghost use Rattle.index.specs.Families.{indexLength};
+ghost use Rattle.slots.specs.Families.{indexLength};
 ghost use Rattle.table.specs.Memory.{bodiesLength};
-ghost use Rattle.index.specs.Slots as slots;
+ghost use Rattle.slots.specs.Slots as slots;
 ghost use Rattle.table.specs.Changes.{Able, Follows};
 ghost use Rattle.follow.specs.Follow.{originsLength, slotRoom, recordRoom, roomFor, beginSlot, beginRecord, beginOf, isFor, slotFollowed, originsFollowed, recordFollowed, picturesFollowed, desktopFollowed, followedOf};
 use index::Change;
@@ -56,7 +56,7 @@ fn begin_slot(
     requires { ⌜ (length (now m) ≡ recordRoom family) × (indexLength ≤ length (now index)) × (bodiesLength ≤ length (now bodies)) ⌝ }
     ensures { λ _. ⌜ now (m .exit) ≡ beginSlot family (slots.slotOf (now (index .entry)) family (window .id) (notify .id)) (now (bodies .entry)) (now (m .entry)) ⌝ }
 {
-    let search = index::slots::find(index, family, window, notify);
+    let search = slots::find(index, family, window, notify);
     let f = search.found;
     let Found::At(i) = f else {
         return;

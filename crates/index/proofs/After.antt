@@ -24,19 +24,19 @@ use Rattle.places.specs.Keyed.{keyed}
 use Rattle.places.specs.Holder.{cell, isCellHolder}
 use Rattle.places.proofs.Counting.{found, count-none}
 use Rattle.places.proofs.Steps.{equal-sharing}
+use Rattle.slots.specs.Families.{start, capacity, sameRecord}
+use Rattle.slots.specs.Slots.{isAt, slotOf}
+use Rattle.slots.specs.Sound.{soundIndex}
+use Rattle.slots.proofs.Soundness.{within-slots, found-within, Sound, sound-has, sound-is}
 use Rattle.index.specs.declared.RecordOrder.{RecordOrder}
 use Rattle.index.specs.declared.Plan.{Plan}
 use Rattle.index.specs.declared.Plan.the-variants.{ChangeRecord, ChangeDesktop, Refuse}
-use Rattle.index.specs.Families.{start, capacity, sameRecord}
-use Rattle.index.specs.Slots.{isAt, slotOf}
 use Rattle.index.specs.Orders.{onJudged, isDelete, bringsIcon, bringsCached, clearsOverlay, cellAt, whichOf}
 use Rattle.index.specs.Index.{Index, recordNumber, numberIn, pictured, without, withRecord, changeRecord, changeDesktop, emptyIndex, indexAfter}
 use Rattle.index.specs.Memory.{indexOf}
 use Rattle.index.specs.Plans.{pointerFor, cellFor, changeOf, planRecord, planOf, planNumber}
 use Rattle.index.specs.Changes.{removedOf, picturedOf, changedOf, clearedOf, emptiedOf, appliedOf, FitsPlan}
-use Rattle.index.specs.Sound.{soundIndex}
 use Rattle.index.proofs.Memory.{Slotted, slotted-self, points-slotted, share-slotted, cleared-is}
-use Rattle.index.proofs.Soundness.{within-slots, found-within, Sound, sound-has, sound-is}
 use Rattle.index.proofs.Listed.{slotted-find, slotted-many, find-freed, many-freed, none-find, none-many}
 use Rattle.index.proofs.Ordered.{Ordered, deleted-old, windowOrder, notificationOrder, ordered-window, ordered-notification}
 use Rattle.index.proofs.Shared.{sharingAt, removed-freed, removed-sharing, cached-sharing, none-slotted, none-sharing, cleared-sharing}

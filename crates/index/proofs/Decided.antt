@@ -22,11 +22,11 @@ use Rattle.places.proofs.Named.{Slots, same-holder, own-cell, own-icon, cell-nu
 use Rattle.places.proofs.Pointers.{free-is, taken-is, counted}
 use Rattle.places.proofs.Steps.{equal-sharing}
 use Rattle.places.proofs.Validity.{valid-has}
-use Rattle.index.specs.Families.{start, capacity}
-use Rattle.index.specs.Slots.{firstId, secondId, isUsed, isAt, slotOf, manyIn}
+use Rattle.slots.specs.Families.{start, capacity}
+use Rattle.slots.specs.Slots.{firstId, secondId, isUsed, isAt, slotOf, manyIn}
+use Rattle.slots.specs.Sound.{soundIndex}
+use Rattle.slots.proofs.Soundness.{never, Within, found-within, at-has, at-own, used-is, used-has, Sound, sound-has, one-slot, free-pointers, slots-of}
 use Rattle.index.specs.Memory.{indexOf}
-use Rattle.index.specs.Sound.{soundIndex}
-use Rattle.index.proofs.Soundness.{never, Within, found-within, at-has, at-own, used-is, used-has, Sound, sound-has, one-slot, free-pointers, slots-of}
 use Rattle.index.proofs.Shared.{sharingAt}
 use Rattle.index.proofs.After.{same-index}
 

@@ -24,12 +24,12 @@ use Rattle.places.proofs.Keyed.{Own, keyed-one}
 use Rattle.places.proofs.Meaning.{holders, take-valid, take-one-valid}
 use Rattle.places.proofs.Named.{cell-number, icon-number, own-cell, own-icon, icon-means, icon-full, alone-means, alone-full}
 use Rattle.places.proofs.Ways as places
+use Rattle.slots.specs.Slots.{slotOf}
+use Rattle.slots.proofs.Soundness.{within-slots, found-within, Sound, slots-of}
 use Rattle.index.specs.declared.RecordOrder.{RecordOrder}
-use Rattle.index.specs.Slots.{slotOf}
 use Rattle.index.specs.Orders.{bringsIcon, cellAt, sentOnce, whichOf, holdersOf}
 use Rattle.index.specs.Plans.{pointerFor, besideOf, cellFor}
 use Rattle.index.proofs.Memory.{points-slotted}
-use Rattle.index.proofs.Soundness.{within-slots, found-within, Sound, slots-of}
 use Rattle.index.proofs.Ordered.{Ordered, icon-names}
 use Rattle.index.proofs.Shared.{sharingAt, same-slots}
 

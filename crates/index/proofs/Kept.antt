@@ -21,12 +21,12 @@ use Rattle.places.specs.Holder.{Holder, sameFamily}
 use Rattle.places.proofs.Bytes.{pointer-point, pointAll-is, pointer-records, length-records}
 use Rattle.places.proofs.Validity.{valid-is}
 use Rattle.places.proofs.Meaning.{share-valid, release-valid, releases-valid, records-valid}
-use Rattle.index.specs.Families.{start, capacity, highest, sameRecord}
-use Rattle.index.specs.Slots.{usedAt, firstId, secondId, isUsed, isAt, slotOf}
+use Rattle.slots.specs.Families.{start, capacity, highest, sameRecord}
+use Rattle.slots.specs.Slots.{usedAt, firstId, secondId, isUsed, isAt, slotOf}
+use Rattle.slots.specs.Sound.{noPointers, slotOk, soundIndex}
+use Rattle.slots.proofs.Soundness.{Within, within-slots, one-family, same-family, family-same, apart, found-within, at-has, slot-free, slot-used, slot-own, slot-cases, no-pointers-has, no-pointers-is, Sound, sound-is}
 use Rattle.index.specs.Changes.{iconsAt, removedOf, clearedOf, emptiedOf}
-use Rattle.index.specs.Sound.{noPointers, slotOk, soundIndex}
 use Rattle.index.proofs.Memory.{Same, still-valid, Listed, Slotted, points-slotted, share-slotted, releases-slotted, Cleared, cleared-is}
-use Rattle.index.proofs.Soundness.{Within, within-slots, one-family, same-family, family-same, apart, found-within, at-has, slot-free, slot-used, slot-own, slot-cases, no-pointers-has, no-pointers-is, Sound, sound-is}
 use Rattle.index.proofs.Listed.{slotted-find, find-listed, find-freed}
 use Rattle.index.proofs.Shared.{icons-holders, removed-freed, removed-still, none-slotted}
 use Rattle.index.proofs.Held.{Held}

@@ -1,6 +1,4 @@
-pub mod Searching
 pub mod Memory
-pub mod Soundness
 pub mod Listed
 pub mod Ordered
 pub mod Shared
@@ -12,7 +10,6 @@ pub mod Decided
 pub mod Promises
 pub mod Ways
 pub mod PlansMade
-pub mod Once
 pub mod StepsOfPlans
 pub mod JudgedNumbers
 pub mod StepsHeld

@@ -16,7 +16,7 @@ use Rattle.places.specs.Memory.{placesOf, pointerAt, decode, valid}
 use Rattle.places.specs.Changes.{pointTo, pointAll, shareOf, releaseOf, releaseAllOf, releaseRecordsOf, freePlace}
 use Rattle.places.proofs.Bytes.{Holders, holders-first, holders-later, length-records}
 use Rattle.places.proofs.Validity.{valid-has, valid-is}
-use Rattle.index.specs.Slots.{usedAt, firstId, secondId, isUsed, isAt}
+use Rattle.slots.specs.Slots.{usedAt, firstId, secondId, isUsed, isAt}
 use Rattle.index.specs.Changes.{listedOf, freedOf, clearedOf}
 
 -- ---- a slot that is the same in two memories

@@ -22,20 +22,20 @@ use Rattle.places.proofs.Counting.{found}
 use Rattle.places.proofs.Named.{cell-number}
 use Rattle.places.proofs.Meaning.{found-free}
 use Rattle.places.proofs.Validity.{valid-has}
+use Rattle.slots.specs.Families.{start, capacity, highest, sameRecord}
+use Rattle.slots.specs.Slots.{isUsed, isFree, slotOf, freeOf, manyIn}
+use Rattle.slots.proofs.Soundness.{never, Within, within-slots, same-family, found-within, free-within, Sound, slots-of}
 use Rattle.index.specs.declared.RecordOrder.{RecordOrder}
 use Rattle.index.specs.declared.Place.{Place}
 use Rattle.index.specs.declared.Place.the-variants.{Slot, Not}
 use Rattle.index.specs.declared.Plan.{Plan}
 use Rattle.index.specs.declared.Plan.the-variants.{ChangeRecord, Refuse}
-use Rattle.index.specs.Families.{start, capacity, highest, sameRecord}
-use Rattle.index.specs.Slots.{isUsed, isFree, slotOf, freeOf, manyIn}
 use Rattle.index.specs.Orders.{isNew, bringsIcon, bringsCached, cellAt, holdersOf}
 use Rattle.index.specs.Index.{notThere, noRoom, noPicture, noPlace, recordNumber}
 use Rattle.index.specs.Memory.{indexOf}
 use Rattle.index.specs.Plans.{slotFor, lacksPicture, pointerFor, cellFor, changeOf, planAt, onPlace, planRecord}
 use Rattle.index.specs.Changes.{listedOf}
 use Rattle.index.proofs.Memory.{still-free, Listed, listed-is}
-use Rattle.index.proofs.Soundness.{never, Within, within-slots, same-family, found-within, free-within, Sound, slots-of}
 use Rattle.index.proofs.Listed.{find-listed, many-listed, no-room, some-room}
 use Rattle.index.proofs.Ordered.{Ordered, cached-alone, cached-names}
 use Rattle.index.proofs.Shared.{sharingAt, listed-at, listed-sharing}

@@ -26,8 +26,8 @@ use Rattle.order.proofs.Absent.{bit}
 use Rattle.order.proofs.Accepted.{Accepted, a-window, a-notification, an-icon, a-cached}
 use Rattle.places.specs.declared.Family.{Family}
 use Rattle.places.specs.declared.Family.the-variants.{Windows, Notifications}
+use Rattle.slots.specs.Families.{highest}
 use Rattle.index.specs.declared.RecordOrder.{RecordOrder}
-use Rattle.index.specs.Families.{highest}
 use Rattle.index.specs.Orders.{isNew, isDelete, bringsIcon, bringsCached, cellAt, sentOnce}
 
 number-small : (s : List ℕ) (at : ℕ) → Bytes s → numAt 4 s at < 4294967296

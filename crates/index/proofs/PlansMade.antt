@@ -24,20 +24,20 @@ use Rattle.places.specs.Counts.{onFound}
 use Rattle.places.specs.Changes.{freePlace}
 use Rattle.places.proofs.Meaning.{found-free}
 use Rattle.places.proofs.Validity.{valid-has}
+use Rattle.slots.specs.Families.{isWithin}
+use Rattle.slots.specs.Slots.{isAt, slotOf, freeOf}
+use Rattle.slots.specs.Sound.{soundIndex}
+use Rattle.slots.proofs.Soundness.{within-slots, found-within, free-within, sound-has}
+use Rattle.slots.proofs.Ways.{near-is}
 use Rattle.index.specs.declared.RecordOrder.{RecordOrder}
 use Rattle.index.specs.declared.Place.{Place}
 use Rattle.index.specs.declared.Place.the-variants.{Slot, Not}
 use Rattle.index.specs.declared.Change.{Change}
 use Rattle.index.specs.declared.Plan.{Plan}
 use Rattle.index.specs.declared.Plan.the-variants.{ChangeRecord, ChangeDesktop, Refuse}
-use Rattle.index.specs.Families.{isWithin}
-use Rattle.index.specs.Slots.{isAt, slotOf, freeOf}
 use Rattle.index.specs.Orders.{isNew, cellAt}
 use Rattle.index.specs.Plans.{placeFor, slotFor, lacksPicture, pointerFor, besideOf, changeWith, planAt, planIn, planRecord, planOf}
 use Rattle.index.specs.Changes.{Fits}
-use Rattle.index.specs.Sound.{soundIndex}
-use Rattle.index.proofs.Soundness.{within-slots, found-within, free-within, sound-has}
-use Rattle.index.proofs.Ways.{near-is}
 
 -- ---- 9 and 10
 

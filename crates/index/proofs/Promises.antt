@@ -8,12 +8,12 @@ use Rattle.wire.specs.Tests.{pick, both, either}
 use Rattle.places.specs.declared.Family.{Family}
 use Rattle.places.specs.Sharing.{Sharing, isOne, drop, dropAll, via, join, fresh, full, taken}
 use Rattle.places.specs.Holder.{Holder, cell, icon, sameFamily, sameHolder, iconsOf}
+use Rattle.slots.specs.Families.{sameRecord}
+use Rattle.slots.proofs.Soundness.{never}
 use Rattle.index.specs.declared.RecordOrder.{RecordOrder}
-use Rattle.index.specs.Families.{sameRecord}
 use Rattle.index.specs.Orders.{isDelete, bringsIcon, bringsCached, clearsOverlay, cellAt, sentOnce, whichOf, pointerOf, holdersOf}
 use Rattle.index.specs.Index.{Index, pictured, without, withRecord, changeRecord}
 use Rattle.index.specs.Promises.{touched, OthersKeep, RecordsKeep}
-use Rattle.index.proofs.Soundness.{never}
 
 either-left : (t u : Bool) → either t u ≡ false → t ≡ false
 either-left true u e = e

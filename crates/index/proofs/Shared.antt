@@ -20,11 +20,11 @@ use Rattle.places.proofs.Bytes.{Holders}
 use Rattle.places.proofs.Meaning.{holder}
 use Rattle.places.proofs.Named.{cell-number, icon-number, none-icon-means, cached-means}
 use Rattle.places.proofs.Listing.{unlisted-means, deleted-means, none-means}
-use Rattle.index.specs.Families.{sameRecord}
-use Rattle.index.specs.Slots.{isUsed, isAt, slotOf}
+use Rattle.slots.specs.Families.{sameRecord}
+use Rattle.slots.specs.Slots.{isUsed, isAt, slotOf}
+use Rattle.slots.proofs.Soundness.{Within, within-slots, family-same, found-within, Sound, free-pointers, slots-of}
 use Rattle.index.specs.Changes.{freedOf, iconsAt, removedOf, clearedOf}
 use Rattle.index.proofs.Memory.{Still, still-decode, Listed, Freed, freed-is, freed-still, Slotted, share-slotted, releases-slotted, Cleared, cleared-is, same-trans}
-use Rattle.index.proofs.Soundness.{Within, within-slots, family-same, found-within, Sound, free-pointers, slots-of}
 use Rattle.index.proofs.Listed.{slotted-find, find-listed, find-freed, none-find}
 
 abbrev pub sharingAt : List ℕ → Sharing Holder

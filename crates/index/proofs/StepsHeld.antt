@@ -15,6 +15,8 @@ use Rattle.places.specs.Memory.{valid}
 use Rattle.places.specs.Changes.{pointAll, freePlace}
 use Rattle.places.specs.Held.{HeldBelow}
 use Rattle.places.proofs.HeldTaken.{held-none, held-taken}
+use Rattle.slots.specs.Sound.{soundIndex}
+use Rattle.slots.proofs.Ways.{sound-long, sound-holders}
 use Rattle.index.specs.declared.RecordOrder.{RecordOrder}
 use Rattle.index.specs.declared.Place.{Place}
 use Rattle.index.specs.declared.Place.the-variants.{Slot, Not}
@@ -25,12 +27,10 @@ use Rattle.index.specs.declared.Plan.the-variants.{ChangeRecord, ChangeD
 use Rattle.index.specs.Orders.{onJudged, isNew, isDelete, bringsIcon, cellAt, whichOf}
 use Rattle.index.specs.Plans.{slotFor, lacksPicture, pointerFor, cellFor, changeOf, planAt, planIn, onPlace, planRecord, planOf}
 use Rattle.index.specs.Changes.{listedOf, picturedOf, changedOf, removedOf, appliedOf}
-use Rattle.index.specs.Sound.{soundIndex}
 use Rattle.index.specs.Steps.{stepHeld, stepOf, steppedOf, StepOutcome}
 use Rattle.index.proofs.Held.{which-small, beside-small}
 use Rattle.index.proofs.Memory.{still-free, still-valid, listed-still, listed-long}
 use Rattle.index.proofs.PlansMade.{slot-small}
-use Rattle.index.proofs.Ways.{sound-long, sound-holders}
 use native.Mathlib.Omega.{arith}
 
 abbrev Holds : Bool → List ℕ → Plan → Type 0

@@ -11,10 +11,10 @@ use Rattle.protocol.specs.Flags.{desktopNone}
 use Rattle.places.specs.Sizes.{slotCount, holderCount, holdersLength, mostPlaces}
 use Rattle.places.specs.Holder.{iconNumber}
 use Rattle.places.specs.Changes.{pointAll, shareOf, releaseOf, releaseAllOf, releaseRecordsOf}
+use Rattle.slots.specs.Families.{slotAt, slotsLength, indexLength}
 use Rattle.index.specs.declared.Change.{Change}
 use Rattle.index.specs.declared.Plan.{Plan}
 use Rattle.index.specs.declared.Plan.the-variants.{ChangeRecord, ChangeDesktop, Refuse}
-use Rattle.index.specs.Families.{slotAt, slotsLength, indexLength}
 use Rattle.index.specs.Orders.{bringsIcon, bringsCached, clearsOverlay}
 
 -- the ids a and b listed in slot i

@@ -10,8 +10,8 @@ use Rattle.protocol.specs.Flags.{desktopNone}
 use Rattle.places.specs.declared.Family.{Family}
 use Rattle.places.specs.Sharing.{Sharing, drop, dropAll, join, full, taken, cellsOnly}
 use Rattle.places.specs.Holder.{Holder, cell, sameFamily, sameHolder, isCellHolder, iconsOf}
+use Rattle.slots.specs.Families.{capacity, sameRecord}
 use Rattle.index.specs.declared.RecordOrder.{RecordOrder}
-use Rattle.index.specs.Families.{capacity, sameRecord}
 use Rattle.index.specs.Orders.{onJudged, isNew, isDelete, bringsIcon, bringsCached, clearsOverlay, cellAt, pointerOf, holdersOf}
 
 pub record Index : Type 0 where

@@ -1,10 +1,7 @@
-pub mod Families
-pub mod Slots
 pub mod Orders
 pub mod Index
 pub mod Memory
 pub mod Plans
 pub mod Changes
 pub mod Steps
-pub mod Sound
 pub mod Promises

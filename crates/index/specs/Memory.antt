@@ -6,7 +6,7 @@ use Rattle.places.specs.Counts.{onFound}
 use Rattle.places.specs.Memory.{decode}
 use Rattle.places.specs.Keyed.{keyed}
 use Rattle.places.specs.Holder.{numberOf}
-use Rattle.index.specs.Slots.{slotOf, manyIn}
+use Rattle.slots.specs.Slots.{slotOf, manyIn}
 use Rattle.index.specs.Index.{Index}
 
 unfoldable pub indexOf : List ℕ → Index

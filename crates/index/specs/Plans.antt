@@ -11,13 +11,13 @@ use Rattle.places.specs.Counts.{onFound}
 use Rattle.places.specs.Memory.{pointerAt}
 use Rattle.places.specs.Changes.{freePlace}
 use Rattle.places.specs.Holder.{iconNumber}
+use Rattle.slots.specs.Slots.{slotOf, freeOf}
 use Rattle.index.specs.declared.RecordOrder.{RecordOrder}
 use Rattle.index.specs.declared.Place.{Place}
 use Rattle.index.specs.declared.Place.the-variants.{Slot, Not}
 use Rattle.index.specs.declared.Change.{Change}
 use Rattle.index.specs.declared.Plan.{Plan}
 use Rattle.index.specs.declared.Plan.the-variants.{ChangeRecord, ChangeDesktop, Refuse}
-use Rattle.index.specs.Slots.{slotOf, freeOf}
 use Rattle.index.specs.Orders.{onJudged, isNew, isDelete, bringsIcon, bringsCached, cellAt, whichOf}
 
 -- 9 and 10, or the slot of the record of the ids: for a fresh record, the first free one

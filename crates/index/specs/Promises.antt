@@ -7,8 +7,8 @@ use Rattle.wire.specs.Tests.{pick}
 use Rattle.places.specs.declared.Family.{Family}
 use Rattle.places.specs.Sharing.{isOne}
 use Rattle.places.specs.Holder.{Holder, icon, sameHolder, iconsOf}
+use Rattle.slots.specs.Families.{sameRecord}
 use Rattle.index.specs.declared.RecordOrder.{RecordOrder}
-use Rattle.index.specs.Families.{sameRecord}
 use Rattle.index.specs.Orders.{isDelete, bringsIcon, bringsCached, clearsOverlay, pointerOf, holdersOf}
 use Rattle.index.specs.Index.{Index, changeRecord}
 

@@ -3,11 +3,10 @@ ghost use mathlib.Core.Path.{_≡_};
 ghost use Prim.Native.Nat.{_<_, _≤_};
 ghost use lib.ListN.{length};
 ghost use Rattle.places.specs.Sizes.{slotCount};
-ghost use Rattle.index.specs.Families.{indexLength};
+ghost use Rattle.slots.specs.Families.{indexLength};
 ghost use Rattle.index.specs.Changes.{listedOf, removedOf, picturedOf, changedOf, clearedOf, emptiedOf, appliedOf, Fits, FitsPlan};
 use crate::Change;
 use crate::Plan;
-use crate::slots;
 
 // The bytes of the slots.
 const SLOTS: usize = 432;
@@ -101,6 +100,6 @@ pub fn empty(index: &mut [u8], places: u8)
     requires { ⌜ indexLength ≤ length (now index) ⌝ }
     ensures { λ _. ⌜ now (index .exit) ≡ emptiedOf (now (index .entry)) places ⌝ }
 {
-    wire::clear(index, 0, crate::LENGTH);
+    wire::clear(index, 0, slots::LENGTH);
     wire::write_u8(index, 0, places);
 }

@@ -1,6 +1,5 @@
-// The index of a table: which windows and notification icons are listed, and which cells and icons share a place of the
-// picture store. The numbers 9, 10, 11 and 17 depend on nothing else of a table. The memory, 589 bytes: those of `places`, then
-// 48 slots.
+// The index of a table: which windows and notification icons are listed, and which cells and icons share a place of the picture
+// store. The numbers 9, 10, 11 and 17 depend on nothing else of a table. The memory is that of `slots`.
 ghost use mathlib.Core.Path.{_≡_};
 ghost use mathlib.Core.Bool.{true, not};
 ghost use Prim.Native.Nat.{_<_, _≤_};
@@ -9,12 +8,12 @@ ghost use Rattle.wire.specs.Tests.{both};
 ghost use Rattle.places.specs.Sizes.{holderCount, slotCount};
 ghost use Rattle.places.specs.Held.{HeldBelow};
 ghost use Rattle.places.specs.declared.Family.the-variants.{Windows, Notifications};
-ghost use Rattle.index.specs.Families.{indexLength, isWithin};
-ghost use Rattle.index.specs.Slots.{isAt};
+ghost use Rattle.slots.specs.Families.{indexLength, isWithin};
+ghost use Rattle.slots.specs.Slots.{isAt};
+ghost use Rattle.slots.specs.Sound.{soundIndex};
 ghost use Rattle.index.specs.Orders.{isNew, cellAt, whichOf};
 ghost use Rattle.index.specs.Plans.{besideOf, pointerFor, lacksPicture, placeFor, changeWith, planIn, planRecord, planOf, planNumber, planSlot};
 ghost use Rattle.index.specs.Steps.{stepOf, steppedOf, StepOutcome};
-ghost use Rattle.index.specs.Sound.{soundIndex};
 use order::Judged;
 use order::NotificationOrder;
 use order::WindowOrder;
@@ -24,18 +23,7 @@ use protocol::NotifyIconId;
 use protocol::WindowId;
 
 pub mod changes;
-pub mod slots;
-pub mod sound;
 mod steps;
-
-// The bytes of an index.
-pub const LENGTH: usize = 589;
-
-// What a search for a record found, and how many slots it looked at.
-pub struct Searched {
-    pub found: Found,
-    pub looked: usize,
-}
 
 // An order for a record of either family; a window's notify-icon id is 0. Where its icon or cached icon begins is icon: the
 // order's end where there is none.

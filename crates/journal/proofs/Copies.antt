@@ -21,12 +21,12 @@ use Rattle.places.specs.Memory.{placesOf, pointerAt, shownOf, shown}
 use Rattle.places.specs.Holder.{Holder, numberOf}
 use Rattle.places.proofs.Counting.{count-cong, first-cong}
 use Rattle.places.proofs.Validity.{valid-has, valid-is}
-use Rattle.index.specs.Families.{start, capacity, highest}
-use Rattle.index.specs.Slots.{usedAt, firstId, secondId, isUsed, isAt, slotOf, manyIn}
+use Rattle.slots.specs.Families.{start, capacity, highest}
+use Rattle.slots.specs.Slots.{usedAt, firstId, secondId, isUsed, isAt, slotOf, manyIn}
+use Rattle.slots.specs.Sound.{noPointers, slotOk, soundIndex}
+use Rattle.slots.proofs.Soundness.{Within, within-slots, sound-has, sound-is}
 use Rattle.index.specs.Memory.{indexOf}
-use Rattle.index.specs.Sound.{noPointers, slotOk, soundIndex}
 use Rattle.index.proofs.Memory.{Same, same-used, same-at, Still, still-decode}
-use Rattle.index.proofs.Soundness.{Within, within-slots, sound-has, sound-is}
 use Rattle.index.proofs.After.{same-index}
 use Rattle.body.specs.Bodies.{slotOf as Bodies·slotOf, fieldsOf}
 use Rattle.picture.specs.Pictures.{pictureAt}

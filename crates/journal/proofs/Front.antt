@@ -8,7 +8,7 @@ use lib.ListN.{length, take, drop}
 use lib.Seq.{drop-drop}
 use Rattle.wire.proofs.Numbers.{Bytes}
 use Rattle.places.specs.Memory.{placesOf}
-use Rattle.index.specs.Families.{indexLength}
+use Rattle.slots.specs.Families.{indexLength}
 use Rattle.figure.specs.Kept.{keptLength, figuresLength, figuresOk, keptOf}
 use Rattle.figure.proofs.KeptFigures.{kept-ok, kept-front, kept-past, kept-length}
 use Rattle.table.specs.Memory.{decode, soundTable}

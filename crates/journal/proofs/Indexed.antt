@@ -10,9 +10,9 @@ use Rattle.wire.specs.Numbers.{bytesOf}
 use Rattle.wire.specs.Parts.{splice}
 use Rattle.wire.proofs.Numbers.{Bytes}
 use Rattle.places.specs.Memory.{placesOf}
+use Rattle.slots.specs.Sound.{soundIndex}
 use Rattle.index.specs.Plans.{planOf, planNumber}
 use Rattle.index.specs.Memory.{indexOf}
-use Rattle.index.specs.Sound.{soundIndex}
 use Rattle.index.proofs.After.{plan-sound}
 use Rattle.table.specs.Table.{Table}
 use Rattle.table.proofs.Decoded.{places-kept}

@@ -10,13 +10,13 @@ use borrow.Author.Tests.{ne-eqb, lt-ltb, le-ltb, ltb-false}
 use Rattle.wire.specs.Parts.{slice}
 use Rattle.wire.proofs.Numbers.{Bytes, bytes-slice}
 use Rattle.places.specs.Memory.{placesOf}
+use Rattle.slots.specs.Families.{indexLength}
+use Rattle.slots.specs.Sound.{soundIndex}
+use Rattle.slots.proofs.Ways.{sound-long}
 use Rattle.index.specs.declared.Plan.{Plan}
-use Rattle.index.specs.Families.{indexLength}
 use Rattle.index.specs.Plans.{planOf, planNumber, planSlot}
 use Rattle.index.specs.Changes.{appliedOf, FitsPlan}
-use Rattle.index.specs.Sound.{soundIndex}
 use Rattle.index.proofs.After.{plan-sound, length-plan, judged-fits}
-use Rattle.index.proofs.Ways.{sound-long}
 use Rattle.store.specs.Store.{placesIn}
 use Rattle.table.specs.Table.{after}
 use Rattle.table.specs.Memory.{decode, soundTable}

@@ -11,10 +11,10 @@ use borrow.Author.Tests.{eqb-true, ltb-false}
 use Rattle.wire.specs.Tests.{both}
 use Rattle.wire.proofs.Numbers.{Bytes, bytes-slice}
 use Rattle.places.specs.Memory.{placesOf}
+use Rattle.slots.specs.Sound.{soundIndex}
 use Rattle.index.specs.Plans.{planOf, planNumber}
 use Rattle.index.specs.Index as index
 use Rattle.index.specs.Memory.{indexOf}
-use Rattle.index.specs.Sound.{soundIndex}
 use Rattle.index.proofs.After.{plan-number, plan-after, plan-sound}
 use Rattle.table.specs.Table.{Table, number, after}
 use Rattle.table.specs.Promises.{IndexAlone}

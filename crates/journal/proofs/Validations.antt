@@ -11,10 +11,10 @@ use Rattle.wire.specs.Tests.{pick, both}
 use Rattle.wire.specs.Parts.{slice, splice}
 use Rattle.wire.proofs.Numbers.{Bytes}
 use Rattle.places.specs.Memory.{placesOf}
-use Rattle.index.specs.Families.{indexLength}
+use Rattle.slots.specs.Families.{indexLength}
+use Rattle.slots.specs.Sound.{soundIndex}
+use Rattle.slots.proofs.Ways.{sound-long}
 use Rattle.index.specs.Memory.{indexOf}
-use Rattle.index.specs.Sound.{soundIndex}
-use Rattle.index.proofs.Ways.{sound-long}
 use Rattle.figure.specs.Figure.{windowsLength}
 use Rattle.figure.specs.Kept.{keptLength, figuresOk}
 use Rattle.store.specs.Store.{placesIn}

@@ -8,11 +8,11 @@ use lib.Dec.{eqb, ltb}
 use Rattle.wire.specs.Tests.{pick, both}
 use Rattle.wire.specs.Parts.{slice, splice}
 use Rattle.places.specs.Memory.{placesOf}
-use Rattle.index.specs.Families.{indexLength}
+use Rattle.slots.specs.Families.{indexLength}
+use Rattle.slots.specs.Sound.{soundIndex}
 use Rattle.index.specs.Plans.{planOf, planNumber}
 use Rattle.index.specs.Changes.{appliedOf}
 use Rattle.index.specs.Memory.{indexOf}
-use Rattle.index.specs.Sound.{soundIndex}
 use Rattle.figure.specs.Kept.{figuresOk}
 use Rattle.store.specs.Store.{placesIn}
 use Rattle.picture.specs.Pictures.{pictureAt, headOk}

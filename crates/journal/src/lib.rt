@@ -5,9 +5,9 @@ ghost use mathlib.Core.Bool.{true, false};
 ghost use mathlib.Core.List.{[]};
 ghost use Prim.Native.Nat.{_≤_, _<_};
 ghost use lib.ListN.{length};
-ghost use Rattle.index.specs.Families.{indexLength};
+ghost use Rattle.slots.specs.Families.{indexLength};
+ghost use Rattle.slots.specs.Sound.{soundIndex};
 ghost use Rattle.index.specs.Plans.{planOf, planNumber, planSlot};
-ghost use Rattle.index.specs.Sound.{soundIndex};
 ghost use Rattle.store.specs.Store.{placesIn, five};
 ghost use Rattle.follow.specs.declared.Want.the-variants.{Nothing};
 ghost use Rattle.table.specs.Memory.{bodiesLength, soundTable};
@@ -84,7 +84,7 @@ fn replay(d: &mut [u8], m: &mut [u8], journal: &[u8], count: usize, want: Want) 
     ensures { λ r. ⌜ Replayed (replayFrom want count logStart (now (journal .entry)) (now (d .entry)) (now (m .entry))) r (now (d .exit)) (now (m .exit)) ⌝ }
 {
     let mut p = START;
-    let mut near = index::slots::COUNT;
+    let mut near = slots::COUNT;
     let mut i = 0;
     while i < count {
         let size = wire::read_u16(journal, p + 1) as usize;
@@ -117,7 +117,7 @@ pub fn from_mark(
     requires { ⌜ (length (now d) ≡ indexLength) × (length (now m) ≡ roomFor want) ⌝ }
     ensures { λ r. ⌜ Replayed (fromMark want (now (index .entry)) (now (bodies .entry)) (now (journal .entry)) count (now (d .entry)) (now (m .entry))) r (now (d .exit)) (now (m .exit)) ⌝ }
 {
-    wire::copy_part(d, 0, index, 0, index::LENGTH);
+    wire::copy_part(d, 0, index, 0, slots::LENGTH);
     follow::begin(m, index, bodies, want);
     replay(d, m, journal, count, want)
 }
@@ -180,7 +180,7 @@ pub fn extent(
 pub fn well_formed(index: &[u8], bodies: &[u8], lent: usize, journal: &[u8]) -> bool
     ensures { λ r. ⌜ InEachStore lent (λ store. r ≡ meetsRule (memory (now (index .entry)) (now (bodies .entry)) store (now (journal .entry)))) ⌝ }
 {
-    let mut d = [0u8; index::LENGTH];
+    let mut d = [0u8; slots::LENGTH];
     let w = extent(index, bodies, lent, journal, &mut d);
     w.end != 0
 }

@@ -8,8 +8,8 @@ use lib.ListN.{length, replicate}
 use Rattle.wire.specs.Tests.{pick, both}
 use Rattle.places.specs.Sizes.{holdersLength}
 use Rattle.places.specs.Memory.{placesOf, valid}
-use Rattle.index.specs.Families.{indexLength}
-use Rattle.index.specs.Sound.{soundIndex}
+use Rattle.slots.specs.Families.{indexLength}
+use Rattle.slots.specs.Sound.{soundIndex}
 use Rattle.store.specs.Store.{placesIn}
 use Rattle.table.specs.Memory.{bodiesLength, soundTable}
 use Rattle.journal.specs.View.{wellFormed}

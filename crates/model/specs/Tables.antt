@@ -7,7 +7,7 @@ use mathlib.Core.List.{List}
 use Rattle.places.specs.declared.Family.{Family}
 use Rattle.places.specs.Memory.{placesOf}
 use Rattle.places.specs.Holder.{Holder}
-use Rattle.index.specs.Sound.{soundIndex}
+use Rattle.slots.specs.Sound.{soundIndex}
 use Rattle.table.specs.Table.{Table}
 use Rattle.table.specs.Memory.{decode}
 

@@ -17,10 +17,10 @@ use Rattle.order.specs.declared.Row.{Row}
 use Rattle.places.specs.declared.Family.the-variants as family
 use Rattle.places.specs.Memory.{pointerAt, shownOf, shown}
 use Rattle.places.specs.Holder.{cell, icon, numberOf}
+use Rattle.slots.specs.Slots.{slotOf}
+use Rattle.slots.proofs.Ways.{sound-long}
 use Rattle.index.specs.Index.{Index}
-use Rattle.index.specs.Slots.{slotOf}
 use Rattle.index.specs.Memory.{indexOf}
-use Rattle.index.proofs.Ways.{sound-long}
 use Rattle.store.specs.Store.{placesIn}
 use Rattle.ids.specs.Ids.{idsIn}
 use Rattle.figure.specs.declared.Figure.{Figure}

@@ -26,7 +26,7 @@ use Rattle.places.specs.Counts.{onFound}
 use Rattle.places.specs.Sizes.{cellCount, holderCount}
 use Rattle.places.specs.Memory.{pointerAt, shownOf, shown}
 use Rattle.places.specs.Holder.{cell, icon, iconNumber, numberOf}
-use Rattle.index.specs.Slots.{slotOf}
+use Rattle.slots.specs.Slots.{slotOf}
 use Rattle.index.specs.Memory.{indexOf}
 use Rattle.ids.specs.Ids.{idsIn, listBytes}
 use Rattle.ids.specs.Steps.{familyOf}

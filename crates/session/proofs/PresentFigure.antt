@@ -20,12 +20,12 @@ use Rattle.places.specs.declared.Found.{Found}
 use Rattle.places.specs.declared.Found.the-variants.{At, Nothing}
 use Rattle.places.specs.Counts.{onFound}
 use Rattle.places.proofs.Counting.{found}
+use Rattle.slots.specs.Families.{indexLength, slotAt}
+use Rattle.slots.specs.Slots.{usedAt, firstId, isUsed, isAt, slotOf}
+use Rattle.slots.specs.Sound.{soundIndex}
+use Rattle.slots.proofs.Soundness.{sound-has, at-has}
 use Rattle.index.specs.Index.{Index}
-use Rattle.index.specs.Families.{indexLength, slotAt}
-use Rattle.index.specs.Slots.{usedAt, firstId, isUsed, isAt, slotOf}
 use Rattle.index.specs.Memory.{indexOf}
-use Rattle.index.specs.Sound.{soundIndex}
-use Rattle.index.proofs.Soundness.{sound-has, at-has}
 use Rattle.body.specs.Bodies.{Body, windowFields, bodyOf}
 use Rattle.area.specs.Area.{sumBelow, one}
 use Rattle.area.specs.Cutting.{mostPoints}

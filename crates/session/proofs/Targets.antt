@@ -19,12 +19,12 @@ use Rattle.places.specs.Sizes.{cellCount, holderCount}
 use Rattle.places.specs.Memory.{pointerAt, sharesOf, sharingOf, decode}
 use Rattle.places.specs.Keyed.{keyed}
 use Rattle.places.specs.Holder.{Holder, cell, icon, iconNumber, numberOf}
-use Rattle.index.specs.declared.Searched.{Searched}
-use Rattle.index.specs.Families.{start, capacity}
-use Rattle.index.specs.Slots.{isAt, slotOf, searchOf}
+use Rattle.slots.specs.declared.Searched.{Searched}
+use Rattle.slots.specs.Families.{start, capacity}
+use Rattle.slots.specs.Slots.{isAt, slotOf, searchOf}
+use Rattle.slots.proofs.Ways.{found-is}
+use Rattle.slots.proofs.Soundness.{found-within}
 use Rattle.index.specs.Memory.{indexOf}
-use Rattle.index.proofs.Ways.{found-is}
-use Rattle.index.proofs.Soundness.{found-within}
 use Rattle.follow.specs.declared.Want.{Want}
 use Rattle.follow.specs.declared.Want.the-variants as want
 use Rattle.follow.specs.Follow.{roomFor}

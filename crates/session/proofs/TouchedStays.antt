@@ -24,20 +24,20 @@ use Rattle.places.specs.declared.Found.{Found}
 use Rattle.places.specs.declared.Found.the-variants.{At, Nothing}
 use Rattle.places.specs.Counts.{onFound}
 use Rattle.places.specs.Holder.{sameFamily}
+use Rattle.slots.specs.declared.Searched.{Searched}
+use Rattle.slots.specs.Families.{indexLength, sameRecord}
+use Rattle.slots.specs.Slots as slots
+use Rattle.slots.specs.Sound.{soundIndex}
+use Rattle.slots.proofs.Ways.{found-is}
+use Rattle.slots.proofs.Soundness.{never, Within, found-within}
 use Rattle.index.specs.declared.Place.{Place}
 use Rattle.index.specs.declared.Place.the-variants.{Slot, Not}
 use Rattle.index.specs.declared.Plan.{Plan}
 use Rattle.index.specs.declared.Plan.the-variants.{ChangeRecord, ChangeDesktop, Refuse}
 use Rattle.index.specs.declared.RecordOrder.{RecordOrder}
-use Rattle.index.specs.declared.Searched.{Searched}
-use Rattle.index.specs.Families.{indexLength, sameRecord}
-use Rattle.index.specs.Slots as slots
 use Rattle.index.specs.Orders.{onJudged, bringsIcon, cellAt}
 use Rattle.index.specs.Plans.{lacksPicture, slotFor, cellFor, pointerFor, changeOf, onPlace, planAt, planRecord, planOf, planNumber}
-use Rattle.index.specs.Sound.{soundIndex}
 use Rattle.index.proofs.After.{plan-sound}
-use Rattle.index.proofs.Ways.{found-is}
-use Rattle.index.proofs.Soundness.{never, Within, found-within}
 use Rattle.places.specs.Changes.{freePlace}
 use Rattle.body.specs.Bodies.{windowFields, bodyOf, slotStart, slotOf}
 use Rattle.figure.specs.declared.Figure.{Figure}

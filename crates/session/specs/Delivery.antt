@@ -10,10 +10,10 @@ use Rattle.wire.specs.Tests.{pick, either}
 use Rattle.wire.specs.Numbers.{bytesOf}
 use Rattle.wire.specs.Parts.{splice}
 use Rattle.places.specs.Held.{HeldBelow}
+use Rattle.slots.specs.Sound.{soundIndex}
 use Rattle.index.specs.declared.Stepped.{Stepped}
 use Rattle.index.specs.Plans.{planOf, planSlot}
 use Rattle.index.specs.Steps.{stepNumber, stepHeld}
-use Rattle.index.specs.Sound.{soundIndex}
 use Rattle.journal.specs.declared.JournalExtent.{JournalExtent}
 use Rattle.journal.specs.Limits.{mostOrders, mostBytes, logStart, journalLength}
 use Rattle.journal.specs.Replay.{indexAfter}

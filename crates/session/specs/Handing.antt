@@ -10,7 +10,7 @@ use Rattle.wire.specs.Tests.{pick}
 use Rattle.wire.specs.Parts.{splice}
 use Rattle.protocol.specs.declared.WindowId.{WindowId}
 use Rattle.places.specs.declared.Family.the-variants as family
-use Rattle.index.specs.Families.{indexLength}
+use Rattle.slots.specs.Families.{indexLength}
 use Rattle.index.specs.Index.{Index}
 use Rattle.index.specs.Memory.{indexOf}
 use Rattle.body.specs.Bodies.{desktopFields, fieldsOf, fieldsOk}

@@ -9,10 +9,10 @@ use Rattle.wire.specs.Tests.{pick}
 use Rattle.wire.specs.Numbers.{Bytes}
 use Rattle.protocol.specs.declared.WindowId.{WindowId}
 use Rattle.places.specs.declared.Family.the-variants as family
-use Rattle.index.specs.Families.{indexLength, capacity}
-use Rattle.index.specs.Slots.{firstId, isUsed}
+use Rattle.slots.specs.Families.{indexLength, capacity}
+use Rattle.slots.specs.Slots.{firstId, isUsed}
+use Rattle.slots.specs.Sound.{soundIndex}
 use Rattle.index.specs.Memory.{indexOf}
-use Rattle.index.specs.Sound.{soundIndex}
 use Rattle.body.specs.Bodies.{Body, windowFields, bodyOf}
 use Rattle.area.specs.Area.{sumBelow, one}
 use Rattle.area.specs.Cutting.{mostPoints}

@@ -83,12 +83,12 @@ pub fn deliver_on(
 pub fn deliver(index: &[u8], bodies: &[u8], lent: usize, journal: &mut [u8], s: &[u8]) -> Reply
     ensures { λ r. ⌜ InEachStore lent (λ store. CallOutcome (plain (deliver (now (s .entry)))) (memory (now (index .entry)) (now (bodies .entry)) store (now (journal .entry))) (replied r) (memory (now (index .entry)) (now (bodies .entry)) store (now (journal .exit)))) ⌝ }
 {
-    let mut d = [0u8; index::LENGTH];
+    let mut d = [0u8; slots::LENGTH];
     let w = journal::extent(index, bodies, lent, journal, &mut d);
     if w.end == 0 {
         return refused(1);
     }
-    let r = deliver_on(journal, &mut d, s, w, index::slots::COUNT, 0);
+    let r = deliver_on(journal, &mut d, s, w, slots::COUNT, 0);
     if r.number != 0 {
         return refused(r.number);
     }

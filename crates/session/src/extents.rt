@@ -9,7 +9,7 @@ use journal::JournalExtent;
 pub fn extent(index: &[u8], bodies: &[u8], lent: usize, journal: &[u8]) -> JournalExtent
     ensures { λ r. ⌜ InEachStore lent (λ store. r ≡ extentOf (memory (now (index .entry)) (now (bodies .entry)) store (now (journal .entry)))) ⌝ }
 {
-    let mut d = [0u8; index::LENGTH];
+    let mut d = [0u8; slots::LENGTH];
     journal::extent(index, bodies, lent, journal, &mut d)
 }
 

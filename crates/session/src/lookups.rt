@@ -8,8 +8,8 @@ ghost use Rattle.wire.specs.Parts.{splice};
 ghost use Rattle.places.specs.Sizes.{holderCount};
 ghost use Rattle.places.specs.Memory.{pointerAt, shown};
 ghost use Rattle.places.specs.Holder.{icon, numberOf};
-ghost use Rattle.index.specs.Families.{indexLength};
-ghost use Rattle.index.specs.Slots.{slotOf};
+ghost use Rattle.slots.specs.Families.{indexLength};
+ghost use Rattle.slots.specs.Slots.{slotOf};
 ghost use Rattle.index.specs.Memory.{indexOf};
 ghost use Rattle.body.specs.Bodies.{desktopFields, fieldsOk, bodyOf};
 ghost use Rattle.layout.specs.Layouts.{pictureSize, desktopSize, recordBytes};
@@ -75,7 +75,7 @@ fn icon_number(d: &[u8], family: Family, window: WindowId, notify: NotifyIconId,
     requires { ⌜ (indexLength ≤ length (now d)) × (w < 3) ⌝ }
     ensures { λ r. ⌜ r ≡ numberOf (slotOf (now (d .entry))) (icon family (window .id) (notify .id) w) ⌝ }
 {
-    let search = index::slots::find(d, family, window, notify);
+    let search = slots::find(d, family, window, notify);
     let f = search.found;
     let Found::At(i) = f else {
         return places::HOLDERS;
@@ -156,7 +156,7 @@ fn found(d: &[u8], family: Family, window: WindowId, notify: NotifyIconId) -> bo
     requires { ⌜ indexLength ≤ length (now d) ⌝ }
     ensures { λ r. ⌜ r ≡ indexOf (now (d .entry)) .listed family (window .id) (notify .id) ⌝ }
 {
-    let search = index::slots::find(d, family, window, notify);
+    let search = slots::find(d, family, window, notify);
     let f = search.found;
     match f {
         Found::At(_) => true,
@@ -442,7 +442,7 @@ fn look_in(
     ensures { λ r. ⌜ CallOutcome (lookup target (now (out .entry))) (memory (now (index .entry)) (now (bodies .entry)) (five (now (a .entry)) (now (b .entry)) (now (c .entry)) (now (d .entry)) (now (e .entry))) (now (journal .entry))) (handed r (now (out .exit))) (memory (now (index .entry)) (now (bodies .entry)) (five (now (a .entry)) (now (b .entry)) (now (c .entry)) (now (d .entry)) (now (e .entry))) (now (journal .entry))) ⌝ }
 {
     let lent = store::places(a, b, c, d, e);
-    let mut x = [0u8; index::LENGTH];
+    let mut x = [0u8; slots::LENGTH];
     let w = journal::validate(index, bodies, lent, journal, want, &mut x, m);
     if w.end == 0 {
         return refused(1);

@@ -4,7 +4,7 @@ ghost use Prim.Native.Nat.{_<_, _≤_};
 ghost use lib.ListN.{length};
 ghost use Rattle.wire.specs.Numbers.{Bytes};
 ghost use Rattle.places.specs.declared.Family.the-variants as family;
-ghost use Rattle.index.specs.Families.{capacity};
+ghost use Rattle.slots.specs.Families.{capacity};
 ghost use Rattle.body.specs.Bodies.{windowFields, bodyOf, slotOf};
 ghost use Rattle.figure.specs.Figure.{pixelsOf};
 ghost use Rattle.table.specs.Memory.{bodiesLength};
@@ -14,7 +14,6 @@ ghost use Rattle.session.specs.Touched.{isOrderFor, touchedFrom};
 use crate::LookupTarget;
 use figure::Figure;
 use follow::Want;
-use index::slots;
 use places::Family;
 use places::Found;
 use protocol::NotifyIconId;
@@ -77,7 +76,7 @@ fn window_followed(index: &[u8], bodies: &[u8], journal: &[u8], count: usize, w:
     requires { ⌜ Followable (now index) (now bodies) (now journal) ⌝ }
     ensures { λ r. ⌜ FigureIs r (shownOne (windowHeld (now (index .entry)) (now (bodies .entry)) (now (journal .entry)) count w)) (pixelsOf (windowHeld (now (index .entry)) (now (bodies .entry)) (now (journal .entry)) count w)) ⌝ }
 {
-    let mut d = [0u8; index::LENGTH];
+    let mut d = [0u8; slots::LENGTH];
     let mut m = [0u8; follow::WINDOW];
     journal::from_mark(
         index,

@@ -15,7 +15,7 @@ use Rattle.wire.proofs.Parts.{splice-start, part-back, length-padded, padded-ni
 use Rattle.places.specs.Sizes.{holderCount}
 use Rattle.places.specs.Memory.{placesOf, pointerAt, shownOf, shown}
 use Rattle.places.proofs.Validity.{valid-has}
-use Rattle.index.proofs.Ways.{sound-long, sound-holders}
+use Rattle.slots.proofs.Ways.{sound-long, sound-holders}
 use Rattle.store.specs.Store.{placesIn}
 use Rattle.picture.specs.Pictures.{headLength, pictureAt, headOk}
 use Rattle.layout.specs.Layouts.{pictureSize, pictureBytes}

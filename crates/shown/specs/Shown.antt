@@ -7,7 +7,7 @@ use mathlib.Core.List.{List, []}
 use mathlib.Core.Option.{Option, none, some}
 use lib.ListN.{length}
 use Rattle.places.specs.Memory.{placesOf, pointerAt}
-use Rattle.index.specs.Sound.{soundIndex}
+use Rattle.slots.specs.Sound.{soundIndex}
 use Rattle.store.specs.Store.{placesIn}
 use Rattle.picture.specs.Pictures.{pictureAt, headOk}
 use Rattle.layout.specs.Layouts.{pictureBytes}

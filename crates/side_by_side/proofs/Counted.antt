@@ -20,11 +20,11 @@ use Rattle.places.specs.declared.Found.the-variants.{At, Nothing}
 use Rattle.places.specs.Counts.{countBelow, firstFrom, onFound}
 use Rattle.places.proofs.Counting.{found, none-passes}
 use Rattle.places.proofs.Pointers.{eqb-sym}
-use Rattle.index.specs.Slots.{firstId, secondId, isUsed, isAt, slotOf}
+use Rattle.slots.specs.Slots.{firstId, secondId, isUsed, isAt, slotOf}
+use Rattle.slots.proofs.Soundness.{Within, at-is, at-free, used-has, slot-own, Sound, sound-has, one-slot}
 use Rattle.index.specs.Orders.{onJudged, isNew, isDelete}
 use Rattle.index.specs.Index.{Index, notThere, noRoom, noPicture, noPlace, recordNumber, numberIn, changeRecord, changeDesktop, indexAfter}
 use Rattle.index.specs.Memory.{indexOf}
-use Rattle.index.proofs.Soundness.{Within, at-is, at-free, used-has, slot-own, Sound, sound-has, one-slot}
 use Rattle.index.proofs.Ordered.{deleted-old, windowOrder, notificationOrder}
 use Rattle.table.specs.Table.{Table, after}
 use Rattle.table.specs.Memory.{decode}

@@ -18,9 +18,9 @@ use Rattle.places.specs.Memory.{placesOf, pointerAt, countAt, sharesOf, sharing
 use Rattle.places.specs.Keyed.{keyed}
 use Rattle.places.specs.Holder.{Holder, cell, sameHolder, isCellHolder, iconsOf, numberOf}
 use Rattle.places.proofs.Pointers.{eqb-sym}
+use Rattle.slots.specs.Slots.{slotOf}
 use Rattle.index.specs.declared.RecordOrder.{RecordOrder}
 use Rattle.index.specs.Orders.{onJudged, isDelete, bringsIcon, bringsCached, clearsOverlay, cellAt, pointerOf, holdersOf}
-use Rattle.index.specs.Slots.{slotOf}
 use Rattle.index.specs.Index.{Index, numberIn, pictured, changeRecord, changeDesktop, emptyIndex, indexAfter}
 use Rattle.index.specs.Memory.{indexOf}
 use Rattle.index.proofs.Ordered.{windowOrder, notificationOrder}

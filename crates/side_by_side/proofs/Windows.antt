@@ -19,7 +19,7 @@ use Rattle.places.specs.declared.Family.{Family}
 use Rattle.places.specs.declared.Family.the-variants.{Windows, Notifications}
 use Rattle.places.specs.Sharing.{Sharing, isOne, dropAll}
 use Rattle.places.specs.Holder.{Holder, icon, sameHolder, iconsOf}
-use Rattle.index.specs.Families.{capacity, sameRecord}
+use Rattle.slots.specs.Families.{capacity, sameRecord}
 use Rattle.index.specs.Orders.{onJudged, isNew, isDelete, bringsIcon, bringsCached, clearsOverlay, whichOf}
 use Rattle.index.specs.Index as index
 use Rattle.index.proofs.After.{same-index}

@@ -8,14 +8,14 @@ use lib.ListN.{length}
 use Rattle.wire.proofs.Numbers.{Bytes}
 use Rattle.order.proofs.Pictures.{laid}
 use Rattle.order.proofs.Accepted.{an-icon}
+use Rattle.slots.specs.Sound.{soundIndex}
+use Rattle.slots.proofs.Soundness.{within-slots}
 use Rattle.index.specs.declared.RecordOrder.{RecordOrder}
 use Rattle.index.specs.declared.Change.{Change}
 use Rattle.index.specs.declared.Plan.{Plan}
 use Rattle.index.specs.declared.Plan.the-variants.{ChangeRecord, ChangeDesktop, Refuse}
 use Rattle.index.specs.Orders.{bringsIcon}
 use Rattle.index.specs.Plans.{changeOf, planOf}
-use Rattle.index.specs.Sound.{soundIndex}
-use Rattle.index.proofs.Soundness.{within-slots}
 use Rattle.index.proofs.Ordered.{Ordered}
 use Rattle.index.proofs.Numbered.{Planned}
 use Rattle.picture.specs.Kept.{IconThere}

@@ -14,7 +14,7 @@ use Rattle.order.specs.declared.Row.{Row}
 use Rattle.index.specs.declared.Change.{Change}
 use Rattle.body.specs.Bodies.{Body, desktopFields, slotLength, setFlagged, fieldsOf, bodyOf, bodyOk, emptyFields, emptyBody}
 use Rattle.body.specs.Stores.{storeOf, preparedOf, hookedOf, syncedOf, roomAll, EndsWell}
-use Rattle.index.proofs.Soundness.{Within}
+use Rattle.slots.proofs.Soundness.{Within}
 use Rattle.body.proofs.Placed.{All, Placed, placed}
 use Rattle.body.proofs.Slots.{window-length, other-length}
 use Rattle.body.proofs.Stored.{stored}

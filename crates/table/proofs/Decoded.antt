@@ -16,6 +16,7 @@ use Rattle.places.specs.Memory.{placesOf, sharingOf}
 use Rattle.places.specs.Memory as places
 use Rattle.places.specs.Keyed.{keyed}
 use Rattle.places.specs.Holder.{Holder, cell, sameHolder, isCellHolder, iconsOf}
+use Rattle.slots.specs.Sound.{soundIndex}
 use Rattle.index.specs.declared.RecordOrder.{RecordOrder}
 use Rattle.index.specs.Orders.{onJudged, isDelete, bringsIcon, bringsCached, clearsOverlay, cellAt, pointerOf, holdersOf}
 use Rattle.index.specs.Index.{Index, pictured, without, withRecord, numberIn, indexAfter}
@@ -23,7 +24,6 @@ use Rattle.index.specs.Index as index
 use Rattle.index.specs.Memory.{indexOf}
 use Rattle.index.specs.Plans.{planOf, planNumber}
 use Rattle.index.specs.Changes.{appliedOf}
-use Rattle.index.specs.Sound.{soundIndex}
 use Rattle.index.proofs.After.{plan-number, plan-after}
 use Rattle.table.specs.Table.{number, changeRecord, changeDesktop, after}
 use Rattle.table.specs.Memory.{decode}

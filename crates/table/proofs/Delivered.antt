@@ -15,6 +15,8 @@ use Rattle.places.specs.declared.Found.{Found}
 use Rattle.places.specs.Counts.{onFound}
 use Rattle.places.specs.Memory.{placesOf, shownOf, shown}
 use Rattle.places.proofs.Meaning.{found-free}
+use Rattle.slots.specs.Sound.{soundIndex}
+use Rattle.slots.proofs.Soundness.{within-slots, free-is, never, sound-has}
 use Rattle.index.specs.declared.RecordOrder.{RecordOrder}
 use Rattle.index.specs.declared.Plan.{Plan}
 use Rattle.index.specs.declared.Plan.the-variants.{ChangeRecord, ChangeDesktop, Refuse}
@@ -22,8 +24,6 @@ use Rattle.index.specs.Orders.{isDelete, bringsIcon}
 use Rattle.index.specs.Memory.{indexOf}
 use Rattle.index.specs.Plans.{pointerFor, cellFor, changeOf, planOf, planNumber}
 use Rattle.index.specs.Changes.{emptiedOf, appliedOf, FitsPlan}
-use Rattle.index.specs.Sound.{soundIndex}
-use Rattle.index.proofs.Soundness.{within-slots, free-is, never, sound-has}
 use Rattle.index.proofs.Listed.{none-find}
 use Rattle.index.proofs.Kept.{places-emptied, pointer-emptied, slots-emptied, emptied-sound}
 use Rattle.index.proofs.Numbered.{Planned}

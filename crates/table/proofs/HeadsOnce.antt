@@ -17,8 +17,8 @@ use Rattle.places.specs.Marks.{Marked}
 use Rattle.places.proofs.Counting.{count-one, count-none, each-has, each-is}
 use Rattle.places.proofs.Validity.{valid-has}
 use Rattle.places.proofs.Ways.{lent-none}
-use Rattle.index.specs.Sound.{soundIndex}
-use Rattle.index.proofs.Soundness.{sound-has}
+use Rattle.slots.specs.Sound.{soundIndex}
+use Rattle.slots.proofs.Soundness.{sound-has}
 use Rattle.picture.specs.Pictures.{headOk}
 use Rattle.table.specs.Memory.{headsOf, holderOk, markedOk, unmarked}
 

@@ -15,17 +15,17 @@ use Rattle.places.specs.declared.Found.{Found}
 use Rattle.places.specs.declared.Found.the-variants.{At, Nothing}
 use Rattle.places.specs.Counts.{onFound}
 use Rattle.places.specs.Holder.{Holder}
+use Rattle.slots.specs.Families.{sameRecord}
+use Rattle.slots.specs.Slots as slots
+use Rattle.slots.specs.Sound.{soundIndex}
+use Rattle.slots.proofs.Soundness.{within-slots, found-within, Sound}
 use Rattle.index.specs.declared.RecordOrder.{RecordOrder}
 use Rattle.index.specs.declared.Change.{Change}
 use Rattle.index.specs.declared.Plan.the-variants.{ChangeRecord, ChangeDesktop}
-use Rattle.index.specs.Families.{sameRecord}
-use Rattle.index.specs.Slots as slots
 use Rattle.index.specs.Orders.{isNew, isDelete}
 use Rattle.index.specs.Plans.{changeOf, planOf}
 use Rattle.index.specs.Changes.{changedOf, clearedOf, appliedOf, Fits}
-use Rattle.index.specs.Sound.{soundIndex}
 use Rattle.index.proofs.Memory.{cleared-is}
-use Rattle.index.proofs.Soundness.{within-slots, found-within, Sound}
 use Rattle.index.proofs.Listed.{none-find}
 use Rattle.index.proofs.Numbered.{Planned}
 use Rattle.index.proofs.After.{plan-after}

@@ -15,14 +15,14 @@ use Rattle.order.specs.declared.Judged.{Judged}
 use Rattle.order.specs.declared.Judged.the-variants.{Window, Notification, Desktop, Refused}
 use Rattle.order.specs.Judge.{flagsOf, judgeOf}
 use Rattle.order.proofs.Accepted.{a-window, a-notification, a-desktop}
+use Rattle.slots.specs.Sound.{soundIndex}
+use Rattle.slots.proofs.Soundness.{sound-has}
 use Rattle.index.specs.declared.RecordOrder.{RecordOrder}
 use Rattle.index.specs.declared.Plan.{Plan}
 use Rattle.index.specs.declared.Plan.the-variants.{ChangeRecord, ChangeDesktop, Refuse}
 use Rattle.index.specs.Index.{recordNumber, numberIn}
 use Rattle.index.specs.Memory.{indexOf}
 use Rattle.index.specs.Plans.{changeOf, planRecord, planOf}
-use Rattle.index.specs.Sound.{soundIndex}
-use Rattle.index.proofs.Soundness.{sound-has}
 use Rattle.index.proofs.Ordered.{Ordered, windowOrder, notificationOrder, ordered-window, ordered-notification}
 use Rattle.index.proofs.Numbered.{Planned, Outcome, refused, changes, outcome}
 use Rattle.body.specs.Bodies.{windowFields, notificationFields, desktopFields}

@@ -15,15 +15,15 @@ use Rattle.protocol.specs.Flags.{desktopNone}
 use Rattle.places.specs.Memory.{pointerAt}
 use Rattle.places.specs.Changes.{pointTo, pointAll, shareOf, releaseOf, releaseAllOf, releaseRecordsOf}
 use Rattle.places.proofs.Bytes.{Holders, holders-first, holders-later, length-point, length-records}
+use Rattle.slots.specs.Sound.{soundIndex}
+use Rattle.slots.proofs.Soundness.{sound-has}
 use Rattle.index.specs.declared.Change.{Change}
 use Rattle.index.specs.declared.Plan.{Plan}
 use Rattle.index.specs.declared.Plan.the-variants.{ChangeRecord, ChangeDesktop, Refuse}
 use Rattle.index.specs.Orders.{bringsIcon, bringsCached, clearsOverlay}
 use Rattle.index.specs.Plans.{planOf}
 use Rattle.index.specs.Changes.{listedOf, freedOf, iconsAt, removedOf, picturedOf, changedOf, clearedOf, emptiedOf, appliedOf, Fits, FitsPlan}
-use Rattle.index.specs.Sound.{soundIndex}
 use Rattle.index.proofs.Memory.{releases-slotted}
-use Rattle.index.proofs.Soundness.{sound-has}
 use Rattle.index.proofs.Shared.{icons-holders}
 use Rattle.index.proofs.After.{plan-fits}
 use Rattle.table.specs.Outcome.{StoreKept, PastKept}

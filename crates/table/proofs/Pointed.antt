@@ -19,15 +19,15 @@ use Rattle.places.specs.Changes.{pointAll, shareOf, releaseOf}
 use Rattle.places.proofs.Counting.{found}
 use Rattle.places.proofs.Meaning.{holder}
 use Rattle.places.proofs.Bytes.{Holders, pointer-point, pointAll-is, pointer-records}
+use Rattle.slots.specs.Families.{start, capacity, highest, sameRecord}
+use Rattle.slots.specs.Slots.{isUsed, isAt, slotOf}
+use Rattle.slots.proofs.Soundness.{never, Within, within-slots, family-same, same-family, apart, at-has, at-free, used-is, free-is, Sound}
 use Rattle.index.specs.declared.RecordOrder.{RecordOrder}
 use Rattle.index.specs.declared.Change.{Change}
-use Rattle.index.specs.Families.{start, capacity, highest, sameRecord}
-use Rattle.index.specs.Slots.{isUsed, isAt, slotOf}
 use Rattle.index.specs.Orders.{isNew, isDelete, bringsIcon, bringsCached, clearsOverlay}
 use Rattle.index.specs.Plans.{changeOf}
 use Rattle.index.specs.Changes.{listedOf, iconsAt, removedOf, picturedOf, changedOf, clearedOf, Fits}
 use Rattle.index.proofs.Memory.{same-used, Listed, listed-is, Slotted, slotted-self, points-slotted, share-slotted, releases-slotted, cleared-is}
-use Rattle.index.proofs.Soundness.{never, Within, within-slots, family-same, same-family, apart, at-has, at-free, used-is, free-is, Sound}
 use Rattle.index.proofs.Listed.{slotted-find, find-listed, find-freed}
 use Rattle.index.proofs.Ordered.{Ordered, deleted-old}
 use Rattle.index.proofs.Shared.{icons-holders, removed-freed, removed-still}

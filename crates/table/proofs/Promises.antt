@@ -14,12 +14,12 @@ use Rattle.order.specs.Judge.{judgeOf}
 use Rattle.places.specs.declared.Family.{Family}
 use Rattle.places.specs.Sharing.{isOne}
 use Rattle.places.specs.Holder.{Holder, cell, icon, sameFamily, sameHolder}
+use Rattle.slots.specs.Families.{sameRecord}
+use Rattle.slots.proofs.Soundness.{never, family-same}
 use Rattle.index.specs.declared.RecordOrder.{RecordOrder}
-use Rattle.index.specs.Families.{sameRecord}
 use Rattle.index.specs.Orders.{onJudged, bringsIcon, bringsCached, clearsOverlay, cellAt, sentOnce, whichOf, pointerOf, holdersOf}
 use Rattle.index.specs.Index as index
 use Rattle.index.specs.Promises.{touched}
-use Rattle.index.proofs.Soundness.{never, family-same}
 use Rattle.index.proofs.Ordered.{windowOrder, notificationOrder}
 use Rattle.index.proofs.Promises.{records-keep}
 use Rattle.body.specs.Bodies.{setFlagged}

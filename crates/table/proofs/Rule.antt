@@ -13,11 +13,11 @@ use Rattle.places.specs.Counts.{eachBelow}
 use Rattle.places.specs.Memory.{placesOf, pointerAt}
 use Rattle.places.proofs.Bytes.{outside}
 use Rattle.places.proofs.Counting.{each-has, each-is}
-use Rattle.index.specs.Families.{start, capacity}
-use Rattle.index.specs.Slots.{isUsed}
-use Rattle.index.specs.Sound.{soundIndex}
-use Rattle.index.proofs.Searching.{each-ok, all-ok}
-use Rattle.index.proofs.Soundness.{never, Within}
+use Rattle.slots.specs.Families.{start, capacity}
+use Rattle.slots.specs.Slots.{isUsed}
+use Rattle.slots.specs.Sound.{soundIndex}
+use Rattle.slots.proofs.Searching.{each-ok, all-ok}
+use Rattle.slots.proofs.Soundness.{never, Within}
 use Rattle.body.specs.Bodies.{desktopFields, slotOf, bodyOk}
 use Rattle.picture.specs.Pictures.{headOk}
 use Rattle.table.specs.Table.{fieldRows}

@@ -26,19 +26,19 @@ use Rattle.places.proofs.Validity.{valid-has}
 use Rattle.places.proofs.Keyed.{Own, keyed-one}
 use Rattle.places.proofs.Named.{cell-number, icon-number, own-icon, same-record}
 use Rattle.places.proofs.Pictures.{take-shown, share-shown, release-shown, records-shown}
+use Rattle.slots.specs.Families.{start, capacity, sameRecord}
+use Rattle.slots.specs.Slots.{isAt, slotOf}
+use Rattle.slots.specs.Sound.{soundIndex}
+use Rattle.slots.proofs.Soundness.{within-slots, Sound, sound-has, free-pointers, slots-of}
 use Rattle.index.specs.declared.RecordOrder.{RecordOrder}
 use Rattle.index.specs.declared.Plan.{Plan}
 use Rattle.index.specs.declared.Plan.the-variants.{ChangeRecord, ChangeDesktop, Refuse}
-use Rattle.index.specs.Families.{start, capacity, sameRecord}
-use Rattle.index.specs.Slots.{isAt, slotOf}
 use Rattle.index.specs.Orders.{onJudged, isNew, isDelete, bringsIcon, bringsCached, clearsOverlay, cellAt, whichOf, pointerOf, holdersOf}
 use Rattle.index.specs.Index as index
 use Rattle.index.specs.Memory.{indexOf}
 use Rattle.index.specs.Plans.{pointerFor, cellFor, changeOf, planRecord, planOf}
 use Rattle.index.specs.Changes.{listedOf, iconsAt, removedOf, picturedOf, changedOf, clearedOf, appliedOf}
-use Rattle.index.specs.Sound.{soundIndex}
 use Rattle.index.proofs.Memory.{Listed, listed-is, Slotted, points-slotted, share-slotted, Cleared, cleared-is}
-use Rattle.index.proofs.Soundness.{within-slots, Sound, sound-has, free-pointers, slots-of}
 use Rattle.index.proofs.Listed.{slotted-find, find-listed, find-freed, none-find}
 use Rattle.index.proofs.Ordered.{Ordered, deleted-old, windowOrder, notificationOrder, ordered-window, ordered-notification}
 use Rattle.index.proofs.Shared.{listed-at, removed-freed, removed-still, icons-holders, none-slotted}

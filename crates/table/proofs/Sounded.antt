@@ -11,16 +11,16 @@ use Rattle.wire.specs.Tests.{pick, has}
 use Rattle.protocol.specs.Flags.{desktopNone}
 use Rattle.places.specs.declared.Family.{Family}
 use Rattle.places.specs.Memory.{placesOf, pointerAt}
+use Rattle.slots.specs.Slots.{isUsed}
+use Rattle.slots.specs.Sound.{soundIndex}
+use Rattle.slots.proofs.Soundness.{never, Within, within-slots, one-family, free-is, sound-has}
 use Rattle.index.specs.declared.RecordOrder.{RecordOrder}
 use Rattle.index.specs.declared.Change.{Change}
 use Rattle.index.specs.declared.Plan.the-variants.{ChangeRecord, ChangeDesktop}
-use Rattle.index.specs.Slots.{isUsed}
 use Rattle.index.specs.Orders.{isDelete}
 use Rattle.index.specs.Plans.{changeOf}
 use Rattle.index.specs.Changes.{changedOf, clearedOf, Fits}
-use Rattle.index.specs.Sound.{soundIndex}
 use Rattle.index.proofs.Memory.{cleared-is}
-use Rattle.index.proofs.Soundness.{never, Within, within-slots, one-family, free-is, sound-has}
 use Rattle.index.proofs.Numbered.{Planned}
 use Rattle.body.specs.Bodies.{desktopFields, slotOf, bodyOk}
 use Rattle.picture.specs.Kept.{IconThere}

@@ -26,13 +26,13 @@ use Rattle.places.specs.Memory.{placesOf}
 use Rattle.places.proofs.Counting.{each-has, each-is}
 use Rattle.places.proofs.Bytes.{inside}
 use Rattle.places.proofs.Validity.{valid-has}
+use Rattle.slots.specs.Slots.{usedAt, isUsed}
+use Rattle.slots.specs.Sound.{eachFrom, soundIndex}
+use Rattle.slots.proofs.Soundness.{sound-has}
 use Rattle.index.specs.declared.Change.{Change}
 use Rattle.index.specs.declared.Plan.{Plan}
 use Rattle.index.specs.declared.Plan.the-variants.{ChangeRecord, ChangeDesktop, Refuse}
-use Rattle.index.specs.Slots.{usedAt, isUsed}
-use Rattle.index.specs.Sound.{eachFrom, soundIndex}
 use Rattle.index.proofs.Plan.{the-type}
-use Rattle.index.proofs.Soundness.{sound-has}
 use Rattle.body.specs.Bodies.{windowFields, notificationFields, desktopFields, slotLength, slotStart, slotOf, bodyOk}
 use Rattle.body.specs.Stores.{storeOf, preparedOf, hookedOf, syncedOf, roomAll, EndsWell}
 use Rattle.body.proofs.Slots.{window-start, window-length, slot-within, slot-after, length-slot, slot-lent, slots-back}

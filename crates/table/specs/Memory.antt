@@ -15,9 +15,9 @@ use Rattle.places.specs.Sizes.{holderCount, mostPlaces}
 use Rattle.places.specs.Counts.{eachBelow, onFound}
 use Rattle.places.specs.Memory.{placesOf, pointerAt, shown}
 use Rattle.places.specs.Holder.{Holder, numberOf}
-use Rattle.index.specs.Families.{start, capacity}
-use Rattle.index.specs.Slots as slots
-use Rattle.index.specs.Sound.{eachFrom, soundIndex}
+use Rattle.slots.specs.Families.{start, capacity}
+use Rattle.slots.specs.Slots as slots
+use Rattle.slots.specs.Sound.{eachFrom, soundIndex}
 use Rattle.index.specs.Memory.{indexOf}
 use Rattle.body.specs.Bodies.{desktopFields, slotOf, fieldsOf, bodyOf, bodyOk}
 use Rattle.picture.specs.Pictures.{pictureAt, headOk}

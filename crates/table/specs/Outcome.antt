@@ -5,7 +5,7 @@ use mathlib.Core.Bool.{true}
 use mathlib.Core.List.{List, map}
 use lib.ListN.{length, drop}
 use Rattle.places.specs.Memory.{placesOf}
-use Rattle.index.specs.Families.{indexLength}
+use Rattle.slots.specs.Families.{indexLength}
 use Rattle.store.specs.Store.{placesIn, placeAt}
 use Rattle.store.specs.Kept.{pastPlaces}
 use Rattle.table.specs.Table.{emptied, number, after}

@@ -9,8 +9,8 @@ use Rattle.order.specs.Judge.{judgeOf}
 use Rattle.places.specs.declared.Family.{Family}
 use Rattle.places.specs.Sharing.{isOne}
 use Rattle.places.specs.Holder.{Holder, cell, icon, sameHolder}
+use Rattle.slots.specs.Families.{sameRecord}
 use Rattle.index.specs.declared.RecordOrder.{RecordOrder}
-use Rattle.index.specs.Families.{sameRecord}
 use Rattle.index.specs.Orders.{onJudged, isDelete, bringsIcon, bringsCached, clearsOverlay, cellAt, sentOnce, pointerOf, holdersOf}
 use Rattle.index.specs.Index.{indexAfter}
 use Rattle.index.specs.Promises.{touched}

@@ -14,8 +14,8 @@ use Rattle.places.specs.declared.Family.{Family}
 use Rattle.places.specs.declared.Family.the-variants.{Windows, Notifications}
 use Rattle.places.specs.Sharing.{isOne}
 use Rattle.places.specs.Holder.{Holder, cell, sameHolder, isCellHolder, iconsOf}
+use Rattle.slots.specs.Families.{sameRecord}
 use Rattle.index.specs.declared.RecordOrder.{RecordOrder}
-use Rattle.index.specs.Families.{sameRecord}
 use Rattle.index.specs.Orders.{onJudged, isNew, isDelete, bringsIcon, bringsCached, clearsOverlay, cellAt, pointerOf, holdersOf}
 use Rattle.index.specs.Index as index
 use Rattle.body.specs.Bodies.{Body, windowFields, notificationFields, desktopFields, setFlagged, emptyFields, emptyBody}

@@ -6,7 +6,7 @@ ghost use mathlib.Core.Bool.{true};
 ghost use Prim.Native.Nat.{_≤_};
 ghost use lib.ListN.{length};
 ghost use Rattle.places.specs.Sizes.{fewestPlaces};
-ghost use Rattle.index.specs.Families.{indexLength};
+ghost use Rattle.slots.specs.Families.{indexLength};
 ghost use Rattle.store.specs.Store.{placesIn, five};
 ghost use Rattle.table.specs.Memory.{bodiesLength, headsStart, fixedBy, soundTable};
 ghost use Rattle.table.specs.Outcome.{Emptied, Delivered};

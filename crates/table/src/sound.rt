@@ -6,12 +6,11 @@ ghost use Rattle.order.specs.Rows.{rowsFrom};
 ghost use Rattle.places.specs.Sizes.{slotCount, holderCount, mostPlaces};
 ghost use Rattle.places.specs.Counts.{eachBelow};
 ghost use Rattle.places.specs.declared.Family.the-variants.{Windows};
-ghost use Rattle.index.specs.Families.{capacity, indexLength};
-ghost use Rattle.index.specs.Sound.{eachFrom, soundIndex};
+ghost use Rattle.slots.specs.Families.{capacity, indexLength};
+ghost use Rattle.slots.specs.Sound.{eachFrom, soundIndex};
 ghost use Rattle.body.specs.Bodies.{slotOf, bodyOk};
 ghost use Rattle.table.specs.Memory.{bodiesLength, groupSize, recordOk, holderOk, markedOk, unmarked, soundTable};
 ghost use mathlib.Core.Bool.{true};
-use index::slots;
 
 // The heads of places are tested by groups: where no place of a group has a mark, one test passes them.
 const GROUP: usize = 8;
@@ -172,7 +171,7 @@ pub fn is_sound(index: &[u8], bodies: &[u8], lent: usize) -> bool
     if bodies.len() < crate::BODIES {
         return false;
     }
-    if !index::sound::is_sound(index) {
+    if !slots::sound::is_sound(index) {
         return false;
     }
     if lent < (index[0] as usize) {

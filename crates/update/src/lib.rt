@@ -68,7 +68,7 @@ pub fn update(
 ) -> Report
     ensures { λ r. ⌜ InEachStore lent (λ store. UpdateOutcome limit (now (s .entry)) (memory (now (index .entry)) (now (bodies .entry)) store (now (journal .entry))) r (memory (now (index .entry)) (now (bodies .entry)) store (now (journal .exit)))) ⌝ }
 {
-    let mut d = [0u8; index::LENGTH];
+    let mut d = [0u8; slots::LENGTH];
     let w = journal::extent(index, bodies, lent, journal, &mut d);
     if w.end == 0 {
         return Report {
@@ -81,7 +81,7 @@ pub fn update(
     }
     let mut n: u32 = 0;
     let mut at: usize = 0;
-    let mut near = index::slots::COUNT;
+    let mut near = slots::COUNT;
     let mut held: u8 = 0;
     while (n < limit) & (at < s.len()) {
         let end = cut(s, at);

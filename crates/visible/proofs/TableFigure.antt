@@ -9,7 +9,7 @@ use Rattle.places.specs.declared.Family.the-variants.{Windows}
 use Rattle.places.specs.declared.Found.{Found}
 use Rattle.places.specs.declared.Found.the-variants.{At, Nothing}
 use Rattle.places.specs.Counts.{onFound}
-use Rattle.index.specs.Slots as slots
+use Rattle.slots.specs.Slots as slots
 use Rattle.index.specs.Memory.{indexOf}
 use Rattle.body.specs.Bodies.{Body, windowFields, slotOf, fieldsOf, bodyOf}
 use Rattle.table.specs.Memory.{decode}

@@ -4,7 +4,7 @@ use mathlib.Core.Path.{_≡_}
 use mathlib.Core.Bool.{true}
 use mathlib.Core.List.{List}
 use Rattle.wire.specs.Numbers.{Bytes}
-use Rattle.index.specs.Sound.{soundIndex}
+use Rattle.slots.specs.Sound.{soundIndex}
 use Rattle.figure.specs.Figure.{figureOf}
 use Rattle.table.specs.Memory.{decode}
 use Rattle.session.specs.TableFigure.{figureIn}

@@ -1,5 +1,5 @@
 -- 11 comes from the cell of a cached icon. Without an icon no place is asked for; with one, its pointer and the cell beside it are holders.
-use Rattle.index.proofs.Ways.{sound-long, sound-holders}
+use Rattle.slots.proofs.Ways.{sound-long, sound-holders}
 use Rattle.index.proofs.PlansMade.{in-lacks, in-plain, in-full, in-taken}
 use denote.Ref.{now}
 use borrow.Author.Needs.{needs}

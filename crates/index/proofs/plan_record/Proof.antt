@@ -1,5 +1,5 @@
 -- 9 and 10 come from the slot: the one near by, or what the search finds.
-use Rattle.index.proofs.Ways.{sound-long}
+use Rattle.slots.proofs.Ways.{sound-long}
 use Rattle.index.proofs.PlansMade.{slot-near, slot-searched, slot-small, record-refused, record-in}
 use Rattle.index.specs.Plans.{slotFor}
 use mathlib.Core.Path.{_≡_, _∙_}

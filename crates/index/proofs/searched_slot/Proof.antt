@@ -1,8 +1,8 @@
 -- The search and, for a new record, the search for a free slot decide which line of the definition holds.
-use Rattle.index.proofs.Ways.{found-is}
+use Rattle.slots.proofs.Ways.{found-is}
+use Rattle.slots.specs.Families.{start, capacity}
+use Rattle.slots.specs.Slots.{isAt, slotOf}
 use Rattle.index.proofs.PlansMade.{place-listed, place-own, place-absent, place-full, place-new}
-use Rattle.index.specs.Families.{start, capacity}
-use Rattle.index.specs.Slots.{isAt, slotOf}
 use borrow.Author.Tests.{not-true, not-false}
 use mathlib.Core.Path.{_≡_, refl}
 use denote.Ref.{now}

@@ -1,6 +1,6 @@
 -- An order that says one thing is judged by its flags alone, any other by all of it; each is carried out as its plan is.
 use Rattle.single.proofs.SingleJudged.{delete-judged, cached-judged, icon-judged, list-judged}
-use Rattle.index.proofs.Ways.{sound-long}
+use Rattle.slots.proofs.Ways.{sound-long}
 use Rattle.index.proofs.PlansMade.{judged-window, judged-desktop}
 use Rattle.index.proofs.StepsOfPlans.{steps-as}
 use Rattle.index.proofs.StepsHeld.{step-told}

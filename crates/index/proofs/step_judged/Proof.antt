@@ -1,5 +1,5 @@
 -- Each kind of order is carried out as its plan is, and a number of its bytes is not 0.
-use Rattle.index.proofs.Ways.{sound-long}
+use Rattle.slots.proofs.Ways.{sound-long}
 use Rattle.index.proofs.PlansMade.{judged-window, judged-notification, judged-desktop, judged-refused}
 use Rattle.index.proofs.JudgedNumbers.{refused-number}
 use Rattle.index.proofs.StepsOfPlans.{steps-as, steps-refused}

@@ -1,6 +1,6 @@
 use native.Mathlib.Omega.{arith}
 use denote.Ref.{now}
-use Rattle.index.proofs.Ways.{sound-long}
+use Rattle.slots.proofs.Ways.{sound-long}
 use Rattle.journal.proofs.Validations.{copy-sound, from-copies}
 use borrow.Author.Needs.{needs}
 use Rattle.journal.proofs.from_mark.Statement.{statement}

@@ -1,6 +1,6 @@
 -- The plan of a sound table asks what it brings, and its changes make the table after the order.
 use Rattle.store.specs.Store.{five}
-use Rattle.index.proofs.Ways.{sound-long}
+use Rattle.slots.proofs.Ways.{sound-long}
 use Rattle.index.proofs.After.{judged-fits}
 use Rattle.table.proofs.Rule.{table-has}
 use Rattle.table.proofs.Delivered.{plan-ready, delivered-done}

@@ -9,7 +9,7 @@ use borrow.Author.Needs.{needs}
 use Rattle.wire.proofs.Numbers.{Bytes}
 use Rattle.places.specs.Held.{HeldBelow}
 use Rattle.places.proofs.HeldTaken.{held-none}
-use Rattle.index.specs.Families.{indexLength}
+use Rattle.slots.specs.Families.{indexLength}
 use Rattle.journal.specs.View.{Memory, memory, InEachStore}
 use Rattle.journal.proofs.Indexed.{unmet, indexed}
 use Rattle.session.proofs.Lent.{a-store, a-store-lends}

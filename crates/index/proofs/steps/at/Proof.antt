@@ -1,6 +1,6 @@
 -- An order without a picture changes its slot alone. Of the others each way makes the plan's change and carries it out, or refuses as the
 -- plan does.
-use Rattle.index.proofs.Ways.{sound-long, sound-holders}
+use Rattle.slots.proofs.Ways.{sound-long, sound-holders}
 use Rattle.index.proofs.PlansMade.{in-lacks, in-plain, in-full, in-taken, place-small, with-fits}
 use Rattle.index.proofs.StepsOfPlans.{steps-as, steps-refused, slot-steps}
 use native.Mathlib.Omega.{arith}

@@ -1,5 +1,5 @@
 -- The window's own slot, and the order is one that changes no picture.
-use Rattle.index.proofs.Ways.{sound-long}
+use Rattle.slots.proofs.Ways.{sound-long}
 use Rattle.index.proofs.PlansMade.{slot-small, not-zero, record-refused, record-in}
 use Rattle.index.proofs.StepsOfPlans.{steps-as, steps-refused, slot-steps, slot-as}
 use Rattle.index.specs.Plans.{slotFor}

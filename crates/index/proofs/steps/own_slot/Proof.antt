@@ -1,5 +1,5 @@
 -- The slot near by, or what the search finds.
-use Rattle.index.proofs.Ways.{sound-long}
+use Rattle.slots.proofs.Ways.{sound-long}
 use Rattle.index.proofs.PlansMade.{slot-near, slot-searched}
 use mathlib.Core.Path.{sym}
 use denote.Ref.{now}

@@ -1,5 +1,5 @@
 -- 9 and 10 come from the slot: the one near by, or what the search finds.
-use Rattle.index.proofs.Ways.{sound-long}
+use Rattle.slots.proofs.Ways.{sound-long}
 use Rattle.index.proofs.PlansMade.{slot-near, slot-searched, slot-small, not-zero, record-refused, record-in}
 use Rattle.index.proofs.StepsOfPlans.{steps-as, steps-refused}
 use Rattle.index.specs.Plans.{slotFor}

@@ -1,5 +1,5 @@
 -- The pointer takes its cell's place, as the plan's change has it: nothing is deleted or listed.
-use Rattle.index.proofs.Ways.{sound-long}
+use Rattle.slots.proofs.Ways.{sound-long}
 use Rattle.index.proofs.PlansMade.{in-lacks}
 use Rattle.index.proofs.StepsOfPlans.{steps-refused, share-full, share-done}
 use native.Mathlib.Omega.{arith}

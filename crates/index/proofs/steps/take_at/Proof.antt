@@ -1,5 +1,5 @@
 -- The first free place, as the plan has it: nothing is deleted or listed, and no cell is asked for.
-use Rattle.index.proofs.Ways.{sound-long, sound-holders}
+use Rattle.slots.proofs.Ways.{sound-long, sound-holders}
 use Rattle.index.proofs.PlansMade.{place-small}
 use Rattle.index.proofs.StepsOfPlans.{take-none, take-full, take-done}
 use Prim.Native.Nat.{_<_}

@@ -5,7 +5,7 @@ use native.Mathlib.Omega.{arith}
 use lib.ListN.{replicate}
 use denote.Ref.{now}
 use Rattle.wire.specs.Numbers.{Bytes}
-use Rattle.index.specs.Families.{indexLength}
+use Rattle.slots.specs.Families.{indexLength}
 use Rattle.store.specs.Store.{five}
 use Rattle.follow.specs.Follow.{roomFor}
 use Rattle.journal.specs.Journal.{logOf}

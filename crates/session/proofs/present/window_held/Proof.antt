@@ -1,6 +1,6 @@
 use mathlib.Core.Path.{sym, _∙_}
 use Rattle.wire.proofs.Numbers.{Bytes}
-use Rattle.index.proofs.Ways.{sound-long}
+use Rattle.slots.proofs.Ways.{sound-long}
 use Rattle.session.proofs.TouchedStays.{found-slot, marked-figure}
 use denote.Ref.{now}
 use native.Mathlib.Omega.{arith}

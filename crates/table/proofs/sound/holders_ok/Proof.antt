@@ -1,5 +1,5 @@
 -- The marks are those of the pointers, so the places tested are those that holders point at.
-use Rattle.index.proofs.Soundness.{sound-has}
+use Rattle.slots.proofs.Soundness.{sound-has}
 use Rattle.table.proofs.HeadsOnce.{heads-once}
 use denote.Ref.{now}
 use borrow.Author.Needs.{needs}

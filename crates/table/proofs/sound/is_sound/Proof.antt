@@ -1,9 +1,9 @@
 -- The tests stand in the order of the rule.
-use Rattle.index.proofs.Ways.{sound-long}
+use Rattle.slots.proofs.Ways.{sound-long}
 use Rattle.table.proofs.Ways.{sound-bodies, sound-index, sound-lent, sound-windows, sound-notifications, sound-desktop, sound-holders}
 use mathlib.Core.Path.{_≡_, sym, _∙_}
 use mathlib.Core.Bool.{true}
-use Rattle.index.specs.Sound.{soundIndex}
+use Rattle.slots.specs.Sound.{soundIndex}
 use denote.Ref.{now}
 use borrow.Author.Tests.{not-true, not-false}
 use borrow.Author.Needs.{needs}

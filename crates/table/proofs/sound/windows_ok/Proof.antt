@@ -1,6 +1,6 @@
 -- Every slot before i passed.
-use Rattle.index.specs.Sound.{eachFrom}
-use Rattle.index.proofs.Ways.{ok-stop, ok-next, ok-done}
+use Rattle.slots.specs.Sound.{eachFrom}
+use Rattle.slots.proofs.Ways.{ok-stop, ok-next, ok-done}
 use Rattle.order.specs.Rows.{rowsFrom}
 use Rattle.table.specs.Memory.{recordOk}
 use Prim.Native.Nat.{_+_, _-_, _≤_}
