@@ -153,9 +153,9 @@ module _ (s : List ℕ) (at : ℕ) where
   unfolding iconWhole iconFit
   icon-whole {p} {bad} e f = rw (← e, ← f) (filled (length s) (p .end) bad (partsCut at (length s) p) (leb (p .end) (length s)) refl)
 
-  pub cached-whole : {bad : ℕ} → at ≤ length s → bad ≡ cachedBad s at → both (eqb (at + 3) (length s)) (eqb bad 0) ≡ cachedWhole s at
+  cached-tests : at ≤ length s → both (eqb (at + 3) (length s)) (eqb (cachedBad s at) 0) ≡ cachedWhole s at
   unfolding cachedWhole cachedFit
-  cached-whole {bad} l f = rw (← f, room) (filled (length s) (at + 3) bad (at + headCut (length s - at)) (leb (at + 3) (length s)) refl)
+  cached-tests l = rw room (filled (length s) (at + 3) (cachedBad s at) (at + headCut (length s - at)) (leb (at + 3) (length s)) refl)
     where
       room : leb 3 (length s - at) ≡ leb (at + 3) (length s)
       room = go (leb (at + 3) (length s)) refl
@@ -163,6 +163,12 @@ module _ (s : List ℕ) (at : ℕ) where
           go : (t : Bool) → leb (at + 3) (length s) ≡ t → leb 3 (length s - at) ≡ t
           go true e = le-leb 3 (length s - at) (omega (arith, leb-true (at + 3) (length s) e))
           go false e = lt-leb 3 (length s - at) (omega (arith, leb-false (at + 3) (length s) e))
+
+  pub cached-over : at ≤ length s → (at + 3 ≡ length s → ⊥) → false ≡ cachedWhole s at
+  cached-over l n = rw (ne-eqb (at + 3) (length s) n) at (cached-tests l)
+
+  pub cached-whole : {bad : ℕ} → at ≤ length s → at + 3 ≡ length s → bad ≡ cachedBad s at → eqb bad 0 ≡ cachedWhole s at
+  cached-whole l e f = rw f (rw (eq-eqb (at + 3) (length s) e) at (cached-tests l))
 
 -- ---- every offset lies within the order
 

@@ -160,7 +160,7 @@ fn cached_bad(s: &[u8], at: usize) -> usize
 }
 
 // The bytes of a cached icon: entry and cache id.
-const CACHED_LENGTH: usize = 3;
+pub const CACHED_LENGTH: usize = 3;
 
 fn cached_fit(s: &[u8], at: usize, bad: usize) -> Fit
     requires { ⌜ at ≤ length (now s) ⌝ }
@@ -205,6 +205,8 @@ pub fn is_whole_cached(s: &[u8], at: usize) -> bool
     requires { ⌜ at ≤ length (now s) ⌝ }
     ensures { λ r. ⌜ r ≡ cachedWhole (now (s .entry)) at ⌝ }
 {
-    let bad = cached_bad(s, at);
-    (at + CACHED_LENGTH == s.len()) & (bad == 0)
+    if at + CACHED_LENGTH != s.len() {
+        return false;
+    }
+    cached_bad(s, at) == 0
 }

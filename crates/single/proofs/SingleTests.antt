@@ -16,8 +16,8 @@ use Rattle.order.specs.declared.Judged.the-variants.{Window, Notification, Desk
 use Rattle.order.specs.Flags.{isWindow, isNotification}
 use Rattle.order.specs.Icons.{pictureFit, iconWhole, cachedWhole, pictureWhole}
 use Rattle.order.specs.Judge.{numberOf, orderOf}
-use Rattle.order.proofs.Pictures.{picture-none}
-use Rattle.single.specs.Single.{cachedFlags, cachedBigFlags, iconFlags, iconBigFlags, framedTo, goodWith}
+use Rattle.order.proofs.Pictures.{picture-none, cached-over}
+use Rattle.single.specs.Single.{deleteFlags, cachedFlags, cachedBigFlags, iconFlags, iconBigFlags, framedTo, goodWith}
 use Rattle.single.proofs.SingleJudged.{never, frame-says, fieldsEnd, fieldFlags, Passing, judged-whole, good, id-alone}
 
 -- ---- booleans
@@ -124,6 +124,10 @@ pub record Bare (flags : ℕ) : Type 0 where
   pub window : isWindow flags ≡ true
   pub none : bitAnd flags fieldFlags ≡ 0
 
+-- its fields end behind the id
+pub bare-end : (flags : ℕ) (s : List ℕ) → Bare flags → 11 ≡ fieldsEnd flags s
+bare-end flags s bare = sym (id-alone flags s (bare .window) (bare .none))
+
 module _ (small big : ℕ) (s : List ℕ) {w : ℕ} (word : w ≡ numAt 4 s 3) where
   pub neither-flags : both (not (eqb w small)) (not (eqb w big)) ≡ true → false ≡ either (goodWith small s) (goodWith big s)
   neither-flags e =
@@ -131,17 +135,20 @@ module _ (small big : ℕ) (s : List ℕ) {w : ℕ} (word : w ≡ numAt 4 s 3) w
       let b : eqb w big ≡ false = not-true (eqb w big) (both-right (not (eqb w small)) (not (eqb w big)) e) in
       rw (← other-flags small s word (eqb-false w small a), ← other-flags big s word (eqb-false w big b))
 
-  module _ (bare : Bare small) (bare-big : Bare big) {t : Bool} {p : ℕ} (end : p ≡ fieldsEnd small s) (frame : t ≡ framedTo s p) where
-    end-big : p ≡ fieldsEnd big s
-    end-big = end ∙ id-alone small s (bare .window) (bare .none) ∙ sym (id-alone big s (bare-big .window) (bare-big .none))
-
+  module _ (bare : Bare small) (bare-big : Bare big) {t : Bool} (frame : t ≡ framedTo s 11) where
     pub neither-framed : not t ≡ true → false ≡ either (goodWith small s) (goodWith big s)
-    neither-framed n = let f = not-true t n in rw (← unframed small s end frame f, ← unframed big s end-big frame f)
+    neither-framed n =
+        let f = not-true t n in
+        rw (← unframed small s (bare-end small s bare) frame f, ← unframed big s (bare-end big s bare-big) frame f)
 
     pub either-whole : {x : Bool} → (t ≡ true → length s ≤ 65535) → not t ≡ false → both (not (eqb w small)) (not (eqb w big)) ≡ false
-        → x ≡ pictureWhole small s p → x ≡ pictureWhole big s p → x ≡ either (goodWith small s) (goodWith big s)
+        → x ≡ pictureWhole small s 11 → x ≡ pictureWhole big s 11 → x ≡ either (goodWith small s) (goodWith big s)
     either-whole {x} short e f a b =
-        rw (← tests-are small s end (bare .passing) frame short word a, ← tests-are big s end-big (bare-big .passing) frame short word b, not-false t e)
+        rw (
+          ← tests-are small s (bare-end small s bare) (bare .passing) frame short word a,
+          ← tests-are big s (bare-end big s bare-big) (bare-big .passing) frame short word b,
+          not-false t e,
+        )
         (go (eqb w small) (eqb w big) x f)
       where
         go : (a b x : Bool) → both (not a) (not b) ≡ false → x ≡ either (both a x) (both b x)
@@ -163,11 +170,28 @@ bare-icon = record { passing = record { one = refl; listed = refl; clean = refl 
 pub bare-icon-big : Bare iconBigFlags
 bare-icon-big = record { passing = record { one = refl; listed = refl; clean = refl }; window = refl; none = refl }
 
-module _ (s : List ℕ) (at : ℕ) {x : Bool} where
-  pub cached-named : x ≡ cachedWhole s at → (x ≡ pictureWhole cachedFlags s at) × (x ≡ pictureWhole cachedBigFlags s at)
+pub bare-delete : Bare deleteFlags
+bare-delete = record { passing = record { one = refl; listed = refl; clean = refl }; window = refl; none = refl }
+
+module _ (s : List ℕ) where
+  pub cached-named : {x : Bool} → x ≡ cachedWhole s 11 → (x ≡ pictureWhole cachedFlags s 11) × (x ≡ pictureWhole cachedBigFlags s 11)
   unfolding pictureWhole cachedWhole pictureFit
   cached-named e = (e, e)
 
-  pub icon-named : x ≡ iconWhole s at → (x ≡ pictureWhole iconFlags s at) × (x ≡ pictureWhole iconBigFlags s at)
+  pub icon-named : {x : Bool} → x ≡ iconWhole s 11 → (x ≡ pictureWhole iconFlags s 11) × (x ≡ pictureWhole iconBigFlags s 11)
   unfolding pictureWhole iconWhole pictureFit
   icon-named e = (e, e)
+
+  -- an order that brings a cached icon has one length
+  other-cached : (flags : ℕ) → Bare flags → cachedWhole s 11 ≡ pictureWhole flags s 11 → (14 ≡ length s → ⊥) → false ≡ goodWith flags s
+  other-cached flags bare named n =
+      not-so
+      (λ e. let g = good flags s e in
+      let end = bare-end flags s bare in
+      let l = frame-says s 11 (ap (framedTo s) end ∙ g .frame) .within in
+      never (cached-over s 11 l n ∙ named ∙ ap (pictureWhole flags s) end ∙ g .whole))
+
+  pub neither-cached : (14 ≡ length s → ⊥) → false ≡ either (goodWith cachedFlags s) (goodWith cachedBigFlags s)
+  neither-cached n =
+      let named = cached-named refl in
+      rw (← other-cached cachedFlags bare-cached (named .0) n, ← other-cached cachedBigFlags bare-cached-big (named .1) n)

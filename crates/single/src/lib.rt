@@ -35,8 +35,10 @@ pub const FLAGS_AT: usize = 3;
 
 pub const ID_AT: usize = order::ends::HEADER;
 
-// Where an order for a window without a field ends, and its icon or cached icon begins.
+// Where an order for a window without a field ends, and its icon or cached icon begins; where a cached icon ends.
 pub const ICON_AT: u32 = order::ends::FIELDS_AT as u32;
+
+const CACHED_END: usize = order::ends::FIELDS_AT + order::icon::CACHED_LENGTH;
 
 // The order begins with the type byte and its own size, and index end lies within it.
 fn is_framed(s: &[u8], end: usize) -> bool
@@ -51,29 +53,30 @@ fn is_framed(s: &[u8], end: usize) -> bool
 pub fn is_delete(s: &[u8]) -> bool
     ensures { λ r. ⌜ r ≡ goodWith deleteFlags (now (s .entry)) ⌝ }
 {
-    let end = order::ends::window(s, DELETE);
-    if end != s.len() {
+    if order::ends::FIELDS_AT != s.len() {
         return false;
     }
-    is_framed(s, end) & (wire::read_u32(s, FLAGS_AT) == DELETE)
+    is_framed(s, order::ends::FIELDS_AT) & (wire::read_u32(s, FLAGS_AT) == DELETE)
 }
 
 // The order is good and brings a window's cached icon, small or big, and nothing else.
 pub fn is_cached(s: &[u8]) -> bool
     ensures { λ r. ⌜ r ≡ either (goodWith cachedFlags (now (s .entry))) (goodWith cachedBigFlags (now (s .entry))) ⌝ }
 {
+    if CACHED_END != s.len() {
+        return false;
+    }
     let flags = wire::read_u32(s, FLAGS_AT);
     if (flags != CACHED) & (flags != CACHED_BIG) {
         return false;
     }
-    let at = order::ends::window(s, CACHED);
-    if !is_framed(s, at) {
+    if !is_framed(s, order::ends::FIELDS_AT) {
         return false;
     }
-    order::icon::is_whole_cached(s, at)
+    order::icon::is_whole_cached(s, order::ends::FIELDS_AT)
 }
 
-// The same of an icon.
+// The order is good and brings a window's icon, small or big, and nothing else.
 pub fn is_icon(s: &[u8]) -> bool
     ensures { λ r. ⌜ r ≡ either (goodWith iconFlags (now (s .entry))) (goodWith iconBigFlags (now (s .entry))) ⌝ }
 {
@@ -81,11 +84,10 @@ pub fn is_icon(s: &[u8]) -> bool
     if (flags != ICON) & (flags != ICON_BIG) {
         return false;
     }
-    let at = order::ends::window(s, ICON);
-    if !is_framed(s, at) {
+    if !is_framed(s, order::ends::FIELDS_AT) {
         return false;
     }
-    order::icon::is_whole(s, at)
+    order::icon::is_whole(s, order::ends::FIELDS_AT)
 }
 
 // The order is good and brings the desktop's stacking list and active window, and nothing else.

@@ -11,20 +11,15 @@ is-icon-spec =
     tie.close
     (tie.spec
     (λ c κs. search needs)
-    (λ c. neither-flags iconFlags iconBigFlags (now (c .before .before .before .args .s)) (c .before .read-u32 .ensures) (c .if1 .taken))  -- returns
-    (λ c κs. search needs)
+    (λ c. let u = c .before in neither-flags iconFlags iconBigFlags (now (u .before .before .args .s)) (u .read-u32 .ensures) (c .if1 .taken))  -- returns
     (λ c κs. search needs)
     (λ c.  -- returns-2
-    let u = c .before .before .before .before in
-    neither-framed iconFlags iconBigFlags (now (u .before .before .args .s)) (u .read-u32 .ensures) bare-icon bare-icon-big (c .before .before .window .ensures)
-    (c .before .is-framed .ensures .0) (c .if2 .taken))
-    (λ c κs.  -- is-whole-requires
-    let u = c .before .before in
-    frame-within (now (u .before .before .before .before .args .s)) (u .window .result) (c .before .is-framed .ensures .0) (c .if2 .left))
-    (λ c.  -- returns-3
     let u = c .before .before .before in
-    let v = u .before .before in
-    let s = now (v .before .before .args .s) in
+    neither-framed iconFlags iconBigFlags (now (u .before .before .args .s)) (u .read-u32 .ensures) bare-icon bare-icon-big (c .before .is-framed .ensures .0) (c .if2 .taken))
+    (λ c κs. frame-within (now (c .before .before .before .before .before .args .s)) 11 (c .before .is-framed .ensures .0) (c .if2 .left))  -- is-whole-requires
+    (λ c.  -- returns-3
+    let u = c .before .before .before .before in
+    let s = now (u .before .before .args .s) in
     let f = c .before .before .is-framed .ensures in
-    let n = icon-named s (u .window .result) (c .is-whole .ensures) in
-    either-whole iconFlags iconBigFlags s (v .read-u32 .ensures) bare-icon bare-icon-big (u .window .ensures) (f .0) (f .1) (c .before .if2 .left) (u .before .if1 .left) (n .0) (n .1)))
+    let n = icon-named s (c .is-whole .ensures) in
+    either-whole iconFlags iconBigFlags s (u .read-u32 .ensures) bare-icon bare-icon-big (f .0) (f .1) (c .before .if2 .left) (c .before .before .before .if1 .left) (n .0) (n .1)))

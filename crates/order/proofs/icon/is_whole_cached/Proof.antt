@@ -1,5 +1,5 @@
--- The cached icon ends where the order does, and no number lies outside its set.
-use Rattle.order.proofs.Pictures.{cached-whole}
+-- The cached icon ends elsewhere than the order, or its numbers tell.
+use Rattle.order.proofs.Pictures.{cached-over, cached-whole}
 use denote.Ref.{now}
 use borrow.Author.Needs.{needs}
 use Rattle.order.proofs.icon.is_whole_cached.Statement.{statement}
@@ -9,6 +9,7 @@ pub is-whole-cached-spec : {M : Type 1} → statement M
 is-whole-cached-spec =
     tie.close
     (tie.spec
-    (λ c κs. search needs)
     (λ c. search needs)
-    (λ c. let u = c .before .before in let a = u .args in cached-whole (now (a .s)) (a .at) (u .pre) (c .cached-bad .ensures)))  -- returns
+    (λ c. let u = c .before .before in let a = u .args in cached-over (now (a .s)) (a .at) (u .pre) (c .if1 .taken))  -- returns
+    (λ c κs. search needs)
+    (λ c. let u = c .before .before .before in let a = u .args in cached-whole (now (a .s)) (a .at) (u .pre) (c .before .if1 .left) (c .cached-bad .ensures)))  -- returns-2
