@@ -17,6 +17,10 @@ module _ {d x : List ℕ} {at n : ℕ} where
   pub second : (b : Bool) (s t : List ℕ) → b ≡ false → Laid d at t x n → Laid d at (pick b s t) x n
   second b s t e l = as-text (sym (ap (λ (c : Bool). pick c s t) e)) l
 
+  -- nothing, or a text that goes on
+  pub stays : {s : List ℕ} (b : Bool) (t : List ℕ) → b ≡ true → Laid d at s x n → Laid d at (s ++ pick b [] t) x n
+  stays b t e l = then l (as-text (sym (ap (λ (c : Bool). pick c [] t) e)) (nothing x n))
+
   module _ {s : List ℕ} (k : ℕ) (t : List ℕ) where
     -- a text that goes on only where the number is 0
     pub goes-on : {y : List ℕ} {m : ℕ} → k ≡ 0 → Laid d at s x n → Laid x n t y m → Laid d at (s ++ pick (eqb k 0) t []) y m

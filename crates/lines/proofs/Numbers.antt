@@ -1,7 +1,7 @@
 -- Numbers that the code reads and lays, as the definitions have them. Assumes nothing.
-use mathlib.Core.Path.{_≡_, refl, ap, _∙_}
+use mathlib.Core.Path.{_≡_, ap, _∙_}
 use mathlib.Core.List.{List, [], _∷_, _++_}
-use Prim.Native.Nat.{ℕ, _+_, _*_, _<_}
+use Prim.Native.Nat.{ℕ, _+_, _<_}
 use lib.IntN.{ℤ}
 use lib.Signed.{mag}
 use mir.Syntax.{w32}
@@ -9,11 +9,13 @@ use mir.Val.{ofZ, toZ}
 use Rattle.wire.specs.Tests.{pick}
 use Rattle.wire.specs.Numbers.{numAt}
 use Rattle.print.specs.Texts.{decimalText}
-use Rattle.print.specs.Templates.{ascii, fillText}
+use Rattle.print.specs.Templates.{fillText}
+use Rattle.print.specs.Laid.{Laid}
+use Rattle.print.proofs.Laid.{as-text}
 use Rattle.print.proofs.Signs.{read-back}
 use Rattle.layout.specs.Layouts.{desktopSize}
 use Rattle.view.specs.declared.DesktopRecord.{DesktopRecord}
-use Rattle.lines.specs.Desktop.{modesText, figureText}
+use Rattle.lines.specs.Desktop.{modesText, shownText, figureText}
 
 -- signed numbers, read back from their bits
 pub two-back : (x y : ℤ) → mag x < 2147483648 → mag y < 2147483648 → toZ w32 (ofZ w32 x) ∷ toZ w32 (ofZ w32 y) ∷ [] ≡ x ∷ y ∷ []
@@ -25,15 +27,17 @@ four-back x y z w h k i j =
     ap (λ (zs : List ℤ). toZ w32 (ofZ w32 x) ∷ toZ w32 (ofZ w32 y) ∷ zs) (two-back z w i j) ∙ ap (λ (v : ℤ). v ∷ toZ w32 (ofZ w32 y) ∷ z ∷ w ∷ []) (read-back x h)
     ∙ ap (λ (v : ℤ). x ∷ v ∷ z ∷ w ∷ []) (read-back y k)
 
+pub filled-with : {d x : List ℕ} {at n : ℕ} (t ns : List ℕ) {zs ys : List ℤ} → zs ≡ ys → Laid d at (fillText t ns zs) x n → Laid d at (fillText t ns ys) x n
+filled-with t ns e l = as-text (ap (fillText t ns) e) l
+
 -- a name and a number
-pub as-number : (name : List ℕ) {v w : ℕ} → v ≡ w → name ++ decimalText v ≡ name ++ decimalText w
-as-number name e = ap (λ (n : ℕ). name ++ decimalText n) e
+pub as-number : {d x : List ℕ} {at n : ℕ} (name : List ℕ) {v w : ℕ} → v ≡ w → Laid d at (name ++ decimalText v) x n → Laid d at (name ++ decimalText w) x n
+as-number name e l = as-text (ap (λ (k : ℕ). name ++ decimalText k) e) l
 
 pub modes-told : (d : DesktopRecord) {h k : ℕ} → h ≡ pick (d .hooked) 1 0 → k ≡ pick (d .syncing) 1 0
     → modesText (d .active) h k ≡ modesText (d .active) (pick (d .hooked) 1 0) (pick (d .syncing) 1 0)
 modes-told d {h} {k} e f = ap (λ (n : ℕ). modesText (d .active) n k) e ∙ ap (modesText (d .active) (pick (d .hooked) 1 0)) f
 
-pub figure-told : (s : List ℕ) {a b c : ℕ} → a ≡ numAt 4 s desktopSize → b ≡ numAt 4 s (desktopSize + 4) → c ≡ numAt 4 s (desktopSize + 8)
-    → fillText (ascii " shown=# pixels=#") (a ∷ (b + 4294967296 * c) ∷ []) [] ≡ figureText s
+pub figure-told : (s : List ℕ) {a b c : ℕ} → a ≡ numAt 4 s desktopSize → b ≡ numAt 4 s (desktopSize + 4) → c ≡ numAt 4 s (desktopSize + 8) → shownText a b c ≡ figureText s
 unfolding figureText
 figure-told s e f g = rw (e, f, g)

@@ -1,12 +1,15 @@
 -- Laws of a part of a list as it is lent. Assumes nothing.
 use mathlib.Core.Path.{_≡_, refl, sym, ap, _∙_}
 use mathlib.Core.Bool.{Bool, true, false}
-use mathlib.Core.List.{List}
+use mathlib.Core.List.{List, _++_}
 use Prim.Native.Nat.{ℕ, _-_, min}
 use native.Mathlib.Omega.{arith}
 use lib.Dec.{leb}
 use lib.ListN.{length, take, drop, length-drop}
 use lib.Seq.{take-all}
+use Rattle.wire.specs.Parts.{slice}
+use Rattle.print.specs.Texts.{hexText}
+use Rattle.print.specs.Templates.{ascii}
 use borrow.Author.Tests.{leb-true, leb-false}
 
 -- the rest of a list
@@ -25,3 +28,8 @@ the-first k n s e = go (leb k (length s)) refl
     go false b =
         let l = leb-false k (length s) b in
         take-all (n - 0) s (omega arith) ∙ sym (take-all k s (omega arith))
+
+-- all of a list in hex
+pub whole-hex : (s : List ℕ) → ascii " " ++ hexText (slice s 0 (length s)) ≡ ascii " " ++ hexText s
+unfolding slice
+whole-hex s = ap (λ (t : List ℕ). ascii " " ++ hexText t) (take-all (length s) s (omega arith))

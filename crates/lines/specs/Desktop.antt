@@ -17,10 +17,13 @@ modesText active hooked syncing = fillText (ascii " active=# hooked=# syncing=#"
 unfoldable pub fieldsText : DesktopRecord → List ℕ
 fieldsText d = modesText (d .active) (pick (d .hooked) 1 0) (pick (d .syncing) 1 0) ++ stackText (d .stack)
 
--- after the record: the windows that are shown, and the lower and the upper half of their pixels
+-- the windows that are shown, and their pixels in two halves, the lower one first
+unfoldable pub shownText : ℕ → ℕ → ℕ → List ℕ
+shownText shown low high = fillText (ascii " shown=# pixels=#") (shown ∷ (low + 4294967296 * high) ∷ []) []
+
+-- after the record
 unfoldable pub figureText : List ℕ → List ℕ
-figureText s =
-    fillText (ascii " shown=# pixels=#") (numAt 4 s desktopSize ∷ (numAt 4 s (desktopSize + 4) + 4294967296 * numAt 4 s (desktopSize + 8)) ∷ []) []
+figureText s = shownText (numAt 4 s desktopSize) (numAt 4 s (desktopSize + 4)) (numAt 4 s (desktopSize + 8))
 
 unfoldable pub desktopText : List ℕ → List ℕ
 desktopText s = fieldsText (desktopOf (bodyOf desktopFields s)) ++ figureText s

@@ -5,3 +5,4 @@ pub mod Notifications
 pub mod Desktop
 pub mod Lists
 pub mod Lines
+pub mod Records

@@ -9,6 +9,7 @@ use Rattle.print.specs.Templates.{ascii, fillText}
 use Rattle.session.specs.declared.Reply.{Reply}
 use Rattle.session.specs.declared.LookupTarget.{LookupTarget}
 use Rattle.session.specs.declared.LookupTarget.the-variants.{Window, Notification, Cell, Desktop, Windows, Notifications, Shares}
+use Rattle.update.specs.declared.Report.{Report}
 use Rattle.view.specs.Views.{pictureView}
 use Rattle.lines.specs.Pictures.{cellText}
 use Rattle.lines.specs.Windows.{windowText}
@@ -23,6 +24,11 @@ ifGranted r s = pick (eqb (r .number) 0) s []
 -- the kind and the number, and for a granted call the count and the bytes
 unfoldable pub replyText : ℕ → Reply → List ℕ
 replyText kind r = (kind ∷ 32 ∷ []) ++ decimalText (r .number) ++ ifGranted r (fillText (ascii " # #") (r .count ∷ r .bytes ∷ []) [])
+
+-- the line of an update: the number, and where the memory is fit what was granted, and what stands
+unfoldable pub updateText : Report → List ℕ
+updateText r =
+    ascii "U " ++ decimalText (r .number) ++ pick (eqb (r .number) 1) [] (fillText (ascii " # # # #") (r .orders ∷ r .granted ∷ r .count ∷ r .bytes ∷ []) [])
 
 unfoldable pub sharedText : List ℕ → List ℕ
 sharedText s = ascii " shared=" ++ decimalText (numAt 1 s 0)

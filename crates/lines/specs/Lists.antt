@@ -1,7 +1,7 @@
 -- The lists of ids as text. Assumes nothing.
 use Prim.Native.Nat.{ℕ, min}
 use mathlib.Core.Bool.{Bool, true, false}
-use mathlib.Core.List.{List, [], _∷_, _++_}
+use mathlib.Core.List.{List, _++_}
 use Rattle.wire.specs.Tests.{pick}
 use Rattle.print.specs.Texts.{decimalText, listText}
 use Rattle.print.specs.Templates.{ascii}
@@ -16,9 +16,13 @@ pairText p = decimalText (p .window .id) ++ ascii "/" ++ decimalText (p .icon .i
 unfoldable pub entryText : Bool → List ℕ → ℕ → List ℕ
 entryText icons s i = pick icons (pairText (notificationAt s i)) (decimalText (windowAt s i .id))
 
--- the ids of a list, parted by commas
-unfoldable pub entriesText : Bool → List ℕ → List ℕ
-entriesText icons s = listText 44 (entryText icons s) (min (countIn s) 32)
+-- the first k records of a list, parted by commas
+unfoldable pub entriesText : Bool → List ℕ → ℕ → List ℕ
+entriesText icons s k = listText 44 (entryText icons s) k
+
+-- how many a list has, 32 at most
+abbrev pub laidOf : List ℕ → ℕ
+laidOf s = min (countIn s) 32
 
 unfoldable pub bothText : List ℕ → List ℕ → List ℕ
-bothText windows icons = ascii " windows=" ++ entriesText false windows ++ ascii " icons=" ++ entriesText true icons
+bothText windows icons = ascii " windows=" ++ entriesText false windows (laidOf windows) ++ ascii " icons=" ++ entriesText true icons (laidOf icons)

@@ -1,5 +1,4 @@
 // Fields that are lists: strings, rectangles, ids.
-ghost use mathlib.Core.Path.{_≡_};
 ghost use Prim.Native.Nat.{_≤_};
 ghost use lib.ListN.{take};
 ghost use Rattle.print.specs.Laid.{Laid};

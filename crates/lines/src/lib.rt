@@ -1,17 +1,18 @@
 // The lines of a call script's answers: what a call answers, and the record that a lookup hands out, a name=value for each field.
-ghost use mathlib.Core.Path.{_≡_};
 ghost use Rattle.print.specs.Laid.{Laid};
-ghost use Rattle.lines.specs.Lines.{replyText, sharedText, recordText, foundText, listsText};
+ghost use Rattle.lines.specs.Lines.{replyText, updateText, sharedText, recordText, foundText, listsText};
 use print::field;
 use print::fill;
 use session::LookupTarget;
 use session::Reply;
+use update::Report;
 
 mod desktop;
 mod fields;
 mod lists;
 mod notifications;
 mod pictures;
+pub mod records;
 mod windows;
 
 // The most bytes that a lookup hands out.
@@ -26,6 +27,23 @@ pub fn reply(out: &mut [u8], kind: u8, r: Reply) -> usize
         return n;
     }
     fill::numbers(out, n, b" # #", &[r.count as u64, r.bytes as u64])
+}
+
+// The line of an update: the number, and where the memory is fit what was granted, and what stands.
+pub fn updated(out: &mut [u8], r: Report) -> usize
+    ensures { λ n. ⌜ Laid (now (out .entry)) 0 (updateText r) (now (out .exit)) n ⌝ }
+{
+    let n = field(out, 0, b"U ", r.number as u64);
+    if r.number == 1 {
+        return n;
+    }
+    let ns = [
+        r.orders as u64,
+        r.granted as u64,
+        r.count as u64,
+        r.bytes as u64,
+    ];
+    fill::numbers(out, n, b" # # # #", &ns)
 }
 
 // Whether two holders share a picture.

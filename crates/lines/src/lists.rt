@@ -1,9 +1,7 @@
 // The lists of ids.
 ghost use mathlib.Core.Path.{_≡_};
-ghost use Prim.Native.Nat.{_≤_, min};
 ghost use Rattle.print.specs.Laid.{Laid};
-ghost use Rattle.ids.specs.Typed.{countIn};
-ghost use Rattle.lines.specs.Lists.{entryText, entriesText, bothText};
+ghost use Rattle.lines.specs.Lists.{entryText, entriesText, laidOf, bothText};
 use print::decimal;
 use print::text;
 
@@ -12,7 +10,7 @@ const MOST: u8 = 32;
 
 // How many ids of a list are laid.
 fn laid(bytes: &[u8]) -> u8
-    ensures { λ r. ⌜ r ≡ min (countIn (now (bytes .entry))) 32 ⌝ }
+    ensures { λ r. ⌜ r ≡ laidOf (now (bytes .entry)) ⌝ }
 {
     let n = ids::typed::count(bytes);
     if n < (MOST as u32) { n as u8 } else { MOST }
@@ -31,7 +29,7 @@ fn entry(out: &mut [u8], at: usize, bytes: &[u8], i: u8, icons: bool) -> usize
 }
 
 fn entries(out: &mut [u8], at: usize, bytes: &[u8], icons: bool) -> usize
-    ensures { λ n. ⌜ Laid (now (out .entry)) at (entriesText icons (now (bytes .entry))) (now (out .exit)) n ⌝ }
+    ensures { λ n. ⌜ Laid (now (out .entry)) at (entriesText icons (now (bytes .entry)) (laidOf (now (bytes .entry)))) (now (out .exit)) n ⌝ }
 {
     let k = laid(bytes);
     let mut n = at;

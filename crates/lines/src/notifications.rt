@@ -1,5 +1,4 @@
 // A notification icon: its fields and its picture.
-ghost use mathlib.Core.Path.{_≡_};
 ghost use Rattle.print.specs.Laid.{Laid};
 ghost use Rattle.lines.specs.Notifications.{idsText, limitsText, tipText, balloonText, notificationText};
 use crate::FOUND;

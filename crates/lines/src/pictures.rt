@@ -1,6 +1,4 @@
 // A picture: in a cell a name=value for each field, in a record the values in one.
-ghost use mathlib.Core.Path.{_≡_};
-ghost use mathlib.Core.List.{[], _∷_};
 ghost use Prim.Native.Nat.{_≤_};
 ghost use lib.ListN.{length, drop};
 ghost use Rattle.print.specs.Laid.{Laid};

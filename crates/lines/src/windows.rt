@@ -1,5 +1,4 @@
 // A window: its fields, its icons and its pixels.
-ghost use mathlib.Core.Path.{_≡_};
 ghost use Rattle.print.specs.Laid.{Laid};
 ghost use Rattle.lines.specs.Windows.{looksText, clientText, marginsText, rootText, placesText, visibleText, barsText, titledText, innerText, outerText, areasText, newestText, fieldsText, iconsText, pixelsText, windowText};
 use crate::FOUND;

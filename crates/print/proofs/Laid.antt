@@ -7,7 +7,7 @@ use native.Mathlib.Nat.{add-zero}
 use native.Mathlib.Omega.{arith}
 use lib.Dec.{eqb, leb}
 use lib.ListN.{length, set, take, length-append, length-take}
-use lib.Seq.{take-all, take-nil, take-append-le, take-append-add, take-take}
+use lib.Seq.{take-all, take-nil, take-append-le, take-append-add}
 use borrow.Author.Tests.{leb-true, leb-false, ne-eqb}
 use Rattle.wire.specs.Tests.{pick}
 use Rattle.wire.specs.Parts.{slice, splice}

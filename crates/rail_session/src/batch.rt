@@ -3,8 +3,6 @@ use crate::calls;
 use crate::lending;
 use crate::lending::Lending;
 use crate::lending::MEMORY;
-use print::field;
-use print::fill::numbers;
 use update::Report;
 
 // The bytes of the limit.
@@ -21,21 +19,6 @@ fn orders(s: &[u8]) -> &[u8] {
         return &s[0..0];
     }
     &s[LIMIT..end]
-}
-
-// The number, and where the memory is fit what was granted, and what stands.
-fn line(out: &mut [u8], r: Report) -> usize {
-    let n = field(out, 0, b"U ", r.number as u64);
-    if r.number == 1 {
-        return n;
-    }
-    let ns = [
-        r.orders as u64,
-        r.granted as u64,
-        r.count as u64,
-        r.bytes as u64,
-    ];
-    numbers(out, n, b" # # # #", &ns)
 }
 
 // Makes the call on a copy of the journal.
@@ -57,5 +40,5 @@ pub(crate) fn call(memory: &mut [u8; MEMORY], s: &[u8], out: &mut [u8], l: Lendi
         l,
     );
     calls::put_back(memory, lending::JOURNAL, &journal);
-    line(out, r)
+    lines::updated(out, r)
 }

@@ -3,7 +3,6 @@ use crate::lending;
 use crate::lending::Lending;
 use crate::lending::MEMORY;
 use libc::STDOUT_FILENO;
-use print::fill::numbers;
 use session::Reply;
 
 // The most bytes that an item lends.
@@ -34,17 +33,6 @@ fn written(r: Reply) -> usize {
     2 + 8 * (r.count as usize) + (r.bytes as usize)
 }
 
-// The line of a write; where it is granted with the record.
-fn write_line(out: &mut [u8], r: Reply, record: &[u8]) -> bool {
-    let n = lines::reply(out, b'O', r);
-    if r.number != 0 {
-        return print::end_line(out, n);
-    }
-    let n = print::byte(out, n, b' ');
-    let n = print::hex(out, n, record);
-    print::end_line(out, n)
-}
-
 // The record of the state memory as it is lent, written to memory.
 fn write(state: &[u8; MEMORY], memory: &mut [u8], l: Lending) -> Reply {
     session::records::write(
@@ -66,7 +54,8 @@ fn write_to(state: &[u8; MEMORY], memory: &mut [u8], out: &mut [u8], l: Lending)
     if !is_kept(memory, n) {
         return memory_changed();
     }
-    write_line(out, r, &memory[0..n])
+    let end = lines::records::written(out, r, &memory[0..n]);
+    print::end_line(out, end)
 }
 
 // O: a write to memory of the size that the payload names.
@@ -76,31 +65,8 @@ pub(crate) fn write_call(state: &[u8; MEMORY], s: &[u8], out: &mut [u8], l: Lend
     write_to(state, &mut memory[0..size], out, l)
 }
 
-// Bodies as hex, parted by commas.
-fn bodies(out: &mut [u8], at: usize, record: &[u8], count: usize) -> usize {
-    let mut n = at;
-    let mut i = 0;
-    while i < count {
-        n = print::parting(out, n, i, b',');
-        n = print::hex(out, n, record::body(record, i));
-        i += 1;
-    }
-    n
-}
-
-// The number of a record, and where that is 0 its bodies.
-fn contents(s: &[u8], out: &mut [u8]) -> usize {
-    let c = record::inspect(s);
-    let n = print::field(out, 0, b"V ", c.number as u64);
-    if c.number != 0 {
-        return n;
-    }
-    let n = numbers(out, n, b" # bodies=", &[c.count as u64]);
-    bodies(out, n, s, c.count)
-}
-
 // V: a record read.
 pub(crate) fn read_call(s: &[u8], out: &mut [u8]) -> bool {
-    let n = contents(s, out);
+    let n = lines::records::read(out, s);
     print::end_line(out, n)
 }

@@ -8,7 +8,7 @@ use mathlib.Core.Path.{ap}
 use denote.Ref.{now}
 use Rattle.print.specs.Laid.{Laid}
 use Rattle.print.specs.Texts.{hexText}
-use Rattle.print.proofs.Laid.{nothing, same-length, as-text}
+use Rattle.print.proofs.Laid.{nothing, as-text}
 use Rattle.print.proofs.Texts.{hex-next}
 use borrow.Author.Needs.{needs}
 use Rattle.print.proofs.hex.Statement.{statement}

@@ -2,13 +2,14 @@
 use denote.Ref.{now}
 use Rattle.print.proofs.Laid.{as-text}
 use Rattle.print.specs.Templates.{ascii, asciiFrom}
+use Rattle.lines.specs.Desktop.{shownText}
 use Rattle.lines.proofs.Numbers.{figure-told}
 use borrow.Author.Needs.{needs}
 use Rattle.lines.proofs.desktop.figure.Statement.{statement}
 use Rattle.lines.proofs.desktop.figure.Tie as tie
 
 pub figure-spec : {M : Type 1} → statement M
-unfolding ascii asciiFrom
+unfolding shownText ascii asciiFrom
 figure-spec =
     tie.close
     (tie.spec

@@ -1,14 +1,13 @@
 -- From turn to turn the ids passed are laid.
 use mathlib.Core.Path.{_≡_, ap}
-use Prim.Native.Nat.{ℕ, _-_, _≤_}
+use Prim.Native.Nat.{_-_, _≤_}
 use native.Mathlib.Omega.{arith}
-use lib.ListN.{length, getD}
+use lib.ListN.{length}
 use denote.Ref.{now}
 use Rattle.print.specs.Laid.{Laid}
-use Rattle.print.specs.Texts.{decimalText, listText}
+use Rattle.print.specs.Texts.{listText}
 use Rattle.print.proofs.Laid.{nothing, as-text}
 use Rattle.print.proofs.Texts.{list-next}
-use Rattle.view.specs.Views.{windowId}
 use Rattle.lines.specs.Fields.{idsText}
 use borrow.Author.Needs.{needs}
 use Rattle.lines.proofs.fields.ids.Statement.{statement}
@@ -35,6 +34,6 @@ ids-spec =
     (λ c κs. search needs)
     (λ c. search needs)
     (λ c. search needs)
-    (λ c. let z = c .before .before in let y = z .before .before .before .before .before in let x = y .before .before .before .before in let b = x .before .before in (list-next 44 (λ j. decimalText (getD (b .args .t3) j (windowId 0) .id)) (x .loop .i) (x .loop .inv .0) (y .parting .ensures) (z .decimal .ensures), search needs, search needs))  -- loop-again
+    (λ c. let z = c .before .before in let y = z .before .before .before .before .before in let x = y .before .before .before .before in (list-next _ _ (x .loop .i) (x .loop .inv .0) (y .parting .ensures) (z .decimal .ensures), search needs, search needs))  -- loop-again
     (λ c. search needs)
     (λ c. let z = c .before in let b = z .before .before in let e : (z .loop .i) ≡ (b .args .k) = omega arith in as-text (ap (idsText (b .args .t3)) e) (z .loop .inv .0)))  -- returns

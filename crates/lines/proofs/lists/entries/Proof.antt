@@ -1,4 +1,4 @@
--- From turn to turn the ids passed are laid.
+-- From turn to turn the records passed are laid.
 use mathlib.Core.Path.{_≡_, ap, _∙_}
 use Prim.Native.Nat.{_-_, _≤_}
 use native.Mathlib.Omega.{arith}
@@ -8,13 +8,13 @@ use Rattle.print.specs.Laid.{Laid}
 use Rattle.print.specs.Texts.{listText}
 use Rattle.print.proofs.Laid.{nothing, as-text}
 use Rattle.print.proofs.Texts.{list-next}
-use Rattle.lines.specs.Lists.{entryText, entriesText}
+use Rattle.lines.specs.Lists.{entriesText}
 use borrow.Author.Needs.{needs}
 use Rattle.lines.proofs.lists.entries.Statement.{statement}
 use Rattle.lines.proofs.lists.entries.Tie as tie
 
 abbrev Inv-loop : tie.InvT-loop
-Inv-loop out₀ at bytes icons k n₀ i₀ out n i = Laid out₀ at (listText 44 (entryText icons bytes) i) out n × (i ≤ k) × (length out ≡ length out₀)
+Inv-loop out₀ at bytes icons k n₀ i₀ out n i = Laid out₀ at (entriesText icons bytes i) out n × (i ≤ k) × (length out ≡ length out₀)
 
 abbrev μ-loop : tie.MeasureT-loop
 μ-loop out₀ at bytes icons k n₀ i₀ out n i = k - i
@@ -33,6 +33,6 @@ entries-spec =
     (λ c κs. search needs)
     (λ c. search needs)
     (λ c. search needs)
-    (λ c. let z = c .before .before in let y = z .before .before .before .before in let x = y .before .before .before in let b = x .before .before .before .before in (list-next 44 (entryText (b .args .icons) (now (b .args .bytes))) (x .loop .i) (x .loop .inv .0) (y .parting .ensures) (z .entry .ensures), search needs, search needs))  -- loop-again
+    (λ c. let z = c .before .before in let y = z .before .before .before .before in let x = y .before .before .before in (list-next _ _ (x .loop .i) (x .loop .inv .0) (y .parting .ensures) (z .entry .ensures), search needs, search needs))  -- loop-again
     (λ c. search needs)
-    (λ c. let z = c .before in let y = z .before in let b = y .before .before .before in let e : (z .loop .i) ≡ (y .laid .result) = omega arith in as-text (ap (listText 44 (entryText (b .args .icons) (now (b .args .bytes)))) (e ∙ (y .laid .ensures))) (z .loop .inv .0)))  -- returns
+    (λ c. let z = c .before in let y = z .before in let b = y .before .before .before in let e : (z .loop .i) ≡ (y .laid .result) = omega arith in as-text (ap (entriesText (b .args .icons) (now (b .args .bytes))) (e ∙ (y .laid .ensures))) (z .loop .inv .0)))  -- returns

@@ -1,5 +1,4 @@
 -- The number that the bytes have.
-use Rattle.print.proofs.Laid.{as-text}
 use Rattle.print.specs.Templates.{ascii, asciiFrom}
 use Rattle.lines.specs.Windows.{pixelsText}
 use Rattle.lines.proofs.Numbers.{as-number}
@@ -17,4 +16,4 @@ pixels-spec =
     (λ c. search needs)
     (λ c κs. search needs)
     (λ c. search needs)
-    (λ c. let z = c .before .before in let y = z .before in as-text (as-number (ascii " pixels=") (y .read-u32 .ensures)) (z .field .ensures)))  -- returns
+    (λ c. let z = c .before .before in let y = z .before in as-number (ascii " pixels=") (y .read-u32 .ensures) (z .field .ensures)))  -- returns

@@ -1,10 +1,7 @@
 -- The template is filled, with signed numbers read back from their bits.
-use mathlib.Core.Path.{ap}
-use mathlib.Core.List.{[], _∷_}
-use Rattle.print.proofs.Laid.{as-text}
-use Rattle.print.specs.Templates.{ascii, asciiFrom, fillText}
+use Rattle.print.specs.Templates.{ascii, asciiFrom}
 use Rattle.lines.specs.Windows.{placesText}
-use Rattle.lines.proofs.Numbers.{four-back}
+use Rattle.lines.proofs.Numbers.{four-back, filled-with}
 use borrow.Author.Needs.{needs}
 use Rattle.lines.proofs.windows.places.Statement.{statement}
 use Rattle.lines.proofs.windows.places.Tie as tie
@@ -21,4 +18,4 @@ places-spec =
     (λ c. search needs)
     (λ c κs. search needs)
     (λ c. search needs)
-    (λ c. let z = c .before .before in let y = z .before .before .before .before .before in let x = y .before in let b = x .before .before .before .before in as-text (ap (fillText (ascii " offset=~,~ delta=~,~ size=#,#") ((b .args .size .x) ∷ (b .args .size .y) ∷ [])) (four-back (b .args .offset .x) (b .args .offset .y) (b .args .delta .x) (b .args .delta .y) (x .struct-told .given .0 .1) (x .struct-told .given .1 .0 .1) (y .struct-told2 .given .0 .1) (y .struct-told2 .given .1 .0 .1))) (z .fill .ensures)))  -- returns
+    (λ c. let z = c .before .before in let y = z .before .before .before .before .before in let x = y .before in let b = x .before .before .before .before in filled-with _ _ (four-back (b .args .offset .x) (b .args .offset .y) (b .args .delta .x) (b .args .delta .y) (x .struct-told .given .0 .1) (x .struct-told .given .1 .0 .1) (y .struct-told2 .given .0 .1) (y .struct-told2 .given .1 .0 .1)) (z .fill .ensures)))  -- returns

@@ -1,10 +1,7 @@
 -- The template is filled, with signed numbers read back from their bits.
-use mathlib.Core.Path.{ap}
-use mathlib.Core.List.{[], _∷_}
-use Rattle.print.proofs.Laid.{as-text}
-use Rattle.print.specs.Templates.{ascii, asciiFrom, fillText}
+use Rattle.print.specs.Templates.{ascii, asciiFrom}
 use Rattle.lines.specs.Windows.{visibleText}
-use Rattle.lines.proofs.Numbers.{two-back}
+use Rattle.lines.proofs.Numbers.{two-back, filled-with}
 use borrow.Author.Needs.{needs}
 use Rattle.lines.proofs.windows.visible.Statement.{statement}
 use Rattle.lines.proofs.windows.visible.Tie as tie
@@ -19,4 +16,4 @@ visible-spec =
     (λ c. search needs)
     (λ c κs. search needs)
     (λ c. search needs)
-    (λ c. let z = c .before .before in let y = z .before .before in let b = y .before .before .before .before .before in as-text (ap (fillText (ascii " visible=~,~") []) (two-back (b .args .offset .x) (b .args .offset .y) (y .struct-told .given .0 .1) (y .struct-told .given .1 .0 .1))) (z .fill .ensures)))  -- returns
+    (λ c. let z = c .before .before in let y = z .before .before in let b = y .before .before .before .before .before in filled-with _ _ (two-back (b .args .offset .x) (b .args .offset .y) (y .struct-told .given .0 .1) (y .struct-told .given .1 .0 .1)) (z .fill .ensures)))  -- returns
