@@ -5,8 +5,9 @@ use pdu::Read;
 ghost use mathlib.Core.Path.{_≡_};
 ghost use Prim.Native.Nat.{_≤_};
 ghost use lib.ListN.{length};
-ghost use Rattle.wire.specs.Tests.{has};
-ghost use Rattle.chunk.specs.Chunk.{headSize, flagFirst, flagLast, compressed};
+ghost use lib.Dec.{eqb, ltb};
+ghost use Rattle.wire.specs.Tests.{either, has};
+ghost use Rattle.chunk.specs.Chunk.{most, headSize, flagFirst, flagLast, compressed};
 ghost use Rattle.chunk.specs.Memory.{memorySize, fit, startAt, refusesAt, noted};
 ghost use Rattle.chunk.specs.Outcome.{JoinOutcome, TakeOutcome, ResetOutcome};
 
@@ -90,20 +91,35 @@ fn start(memory: &[u8], chunk: &[u8]) -> u32
     wire::read_u32(memory, GOT_AT)
 }
 
-// Refusal 16. A chunk that is not first with nothing begun is among those refused: its total is 0 or
-// differs from the 0 that is noted.
+// A total that no message has.
+fn is_outside(total: u32) -> bool
+    ensures { λ r. ⌜ r ≡ either (eqb total 0) (ltb most total) ⌝ }
+{
+    (total == 0) | (MOST < total)
+}
+
+// Refusal 16: of a message in one chunk by the fewest tests, then of another first chunk, then of a
+// later one. A later one with nothing begun is among those refused: its total is 0 or differs from the
+// 0 that is noted.
 fn refuses(memory: &[u8], chunk: &[u8]) -> bool
     requires { ⌜ headSize ≤ length (now chunk) ⌝ }
     ensures { λ r. ⌜ r ≡ refusesAt (now (memory .entry)) (now (chunk .entry)) ⌝ }
 {
-    let begun = wire::read_u32(memory, TOTAL_AT);
     let total = wire::read_u32(chunk, 0);
     let flags = wire::read_u32(chunk, FLAGS_AT);
-    let end = start(memory, chunk) as usize + (chunk.len() - HEAD);
+    let data = chunk.len() - HEAD;
+    if is_first(flags) {
+        if is_last(flags) & !is_compressed(flags) {
+            return is_outside(total) | (data != total as usize);
+        }
+        // Where this one is last too, it is compressed.
+        return is_compressed(flags) | is_outside(total) | ((total as usize) < data);
+    }
+    let begun = wire::read_u32(memory, TOTAL_AT);
+    let end = wire::read_u32(memory, GOT_AT) as usize + data;
     is_compressed(flags)
-        | (total == 0)
-        | (MOST < total)
-        | (!is_first(flags) & (total != begun))
+        | is_outside(total)
+        | (total != begun)
         | ((total as usize) < end)
         | (is_last(flags) & (end < total as usize))
 }
