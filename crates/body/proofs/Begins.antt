@@ -8,14 +8,14 @@ use native.Mathlib.Omega.{arith}
 use lib.Bits.{bitAnd, and-zero-r}
 use lib.ListN.{length}
 use borrow.Author.Tests.{eq-eqb}
-use Rattle.order.specs.declared.Row.{Row}
-use Rattle.order.specs.declared.Fit.the-variants.{Ends}
+use Rattle.rows.specs.declared.Row.{Row}
+use Rattle.rows.specs.declared.Fit.the-variants.{Ends}
+use Rattle.rows.specs.Rows.{numbersRow, firstOf, lenOf, walkOf}
+use Rattle.rows.proofs.RowsCarried.{stepped, carried}
 use Rattle.order.specs.declared.WindowOrder.{WindowOrder}
 use Rattle.order.specs.declared.NotificationOrder.{NotificationOrder}
 use Rattle.order.specs.declared.DesktopOrder.{DesktopOrder}
-use Rattle.order.specs.Rows.{numbersRow, firstOf, lenOf, walkOf}
 use Rattle.order.specs.Judge.{flagsOf}
-use Rattle.order.proofs.Carried.{stepped, carried}
 use Rattle.order.proofs.Accepted.{AWindow, ANotification, ADesktop}
 use Rattle.body.specs.Bodies.{windowFields, notificationFields, desktopFields}
 use Rattle.body.specs.Stores.{EndsWell}

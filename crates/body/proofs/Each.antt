@@ -8,8 +8,8 @@ use lib.ListN.{length, getD}
 use lib.Seq.{ext-getD}
 use Rattle.wire.specs.Tests.{pick, hasAll}
 use Rattle.wire.specs.Parts.{slice}
-use Rattle.order.specs.declared.Row.{Row}
-use Rattle.order.specs.Rows.{noRow, lenOf}
+use Rattle.rows.specs.declared.Row.{Row}
+use Rattle.rows.specs.Rows.{noRow, lenOf}
 use Rattle.body.specs.Bodies.{fieldsOf, first, rest, setFlagged, beginsAt, carriedAt, SetsFlagged}
 use Rattle.body.specs.Stores.{storeOf, roomAll, EndsWell}
 use Rattle.body.proofs.Placed.{Placed, All}

@@ -3,8 +3,8 @@ use mathlib.Core.Path.{_≡_, refl}
 use mathlib.Core.List.{List, [], _∷_}
 use Prim.Native.Nat.{ℕ}
 use lib.ListN.{replicate, getD}
-use Rattle.order.specs.declared.Fit.the-variants.{Ends}
-use Rattle.order.specs.Rows.{firstOf, lenOf, okOf, fieldOf, stepOf, walkOf}
+use Rattle.rows.specs.declared.Fit.the-variants.{Ends}
+use Rattle.rows.specs.Rows.{firstOf, lenOf, okOf, fieldOf, stepOf, walkOf}
 use Rattle.wire.specs.Numbers.{numAt}
 use Rattle.wire.specs.Parts.{slice, splice}
 use Rattle.body.specs.Bodies.{windowFields, fieldIn, fieldsOf, setFlagged, beginsAt, carriedAt, emptyFields}

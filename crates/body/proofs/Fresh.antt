@@ -10,8 +10,8 @@ use Rattle.wire.specs.Numbers.{numAt}
 use Rattle.wire.specs.Parts.{slice, splice}
 use Rattle.wire.proofs.Parts.{slice-cong, slice-splice, length-splice}
 use Rattle.wire.proofs.Numbers.{num-in, num-zeros}
-use Rattle.order.specs.declared.Row.{Row}
-use Rattle.order.specs.Rows.{roomOf, firstOf, lenOf, okOf, numberOk}
+use Rattle.rows.specs.declared.Row.{Row}
+use Rattle.rows.specs.Rows.{roomOf, firstOf, lenOf, okOf, numberOk}
 use Rattle.body.specs.Bodies.{windowFields, notificationFields, desktopFields, fieldIn, fieldsOf, fieldsOk, bodyOf, bodyOk, emptyFields, emptyBody}
 use Rattle.body.specs.Stores.{preparedOf, roomAll}
 use Rattle.body.proofs.Placed.{Placed, All, ok-cong}

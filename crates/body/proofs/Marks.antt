@@ -14,7 +14,7 @@ use Rattle.wire.specs.Parts.{splice}
 use Rattle.wire.proofs.Tests.{both-left, both-right}
 use Rattle.wire.proofs.Parts.{slice-cong, length-splice, drop-splice}
 use Rattle.wire.proofs.Numbers.{num-cong, num-before, num-after, num-put, length-bytes, fits1}
-use Rattle.order.specs.declared.Row.{Row}
+use Rattle.rows.specs.declared.Row.{Row}
 use Rattle.body.specs.Bodies.{fieldsOf, fieldsOk, bodyOf, bodyOk, setFlagged}
 use Rattle.body.specs.Stores.{storeOf, pointedOf, hookedOf, syncedOf, roomAll, EndsWell}
 use Rattle.body.proofs.Placed.{Placed, All, fields-cong, fields-ok-cong}

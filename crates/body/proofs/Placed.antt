@@ -14,9 +14,9 @@ use Rattle.wire.specs.Numbers.{numAt}
 use Rattle.wire.specs.Parts.{slice}
 use Rattle.wire.proofs.Tests.{both-left, both-right, every}
 use Rattle.wire.proofs.Numbers.{num-slice, num-cong}
-use Rattle.order.specs.declared.Row.{Row}
-use Rattle.order.specs.Rows.{allRows, noRow, rowsFrom, roomOf, firstOf, lenOf, okOf, numberOk}
-use Rattle.order.proofs.Carried.{row-room}
+use Rattle.rows.specs.declared.Row.{Row}
+use Rattle.rows.specs.Rows.{allRows, noRow, rowsFrom, roomOf, firstOf, lenOf, okOf, numberOk}
+use Rattle.rows.proofs.RowsCarried.{row-room}
 use Rattle.body.specs.Bodies.{fieldsOf, fieldsOk}
 
 -- ---- rows

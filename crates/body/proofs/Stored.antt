@@ -12,10 +12,10 @@ use Rattle.wire.specs.Tests.{both, hasAll}
 use Rattle.wire.specs.Parts.{slice, splice}
 use Rattle.wire.proofs.Tests.{both-left, both-right}
 use Rattle.wire.proofs.Parts.{length-slice, slice-cong, length-splice, slice-splice, take-splice, drop-splice, splice-nil}
-use Rattle.order.specs.declared.Row.{Row}
-use Rattle.order.specs.declared.Fit.the-variants.{Ends}
-use Rattle.order.specs.Rows.{roomOf, lenOf, okOf, walkOf}
-use Rattle.order.proofs.Carried.{Stepped, stepped, carried, not-carried}
+use Rattle.rows.specs.declared.Row.{Row}
+use Rattle.rows.specs.declared.Fit.the-variants.{Ends}
+use Rattle.rows.specs.Rows.{roomOf, lenOf, okOf, walkOf}
+use Rattle.rows.proofs.RowsCarried.{Stepped, stepped, carried, not-carried}
 use Rattle.body.specs.Bodies.{fieldIn, fieldsOf, fieldsOk, setFlagged}
 use Rattle.body.specs.Stores.{storeOf, roomAll, EndsWell}
 use Rattle.body.proofs.Placed.{Placed, All, len-cong, ok-cong, len-place, drop-more, fields-cong, fields-ok-cong}

@@ -9,8 +9,8 @@ use lib.ListN.{length, getD, take, replicate}
 use Rattle.wire.specs.Tests.{pick, both, hasAll}
 use Rattle.wire.specs.Numbers.{numAt}
 use Rattle.wire.specs.Parts.{slice}
-use Rattle.order.specs.declared.Row.{Row}
-use Rattle.order.specs.Rows.{noRow, rowsFrom, roomOf, lenOf, okOf}
+use Rattle.rows.specs.declared.Row.{Row}
+use Rattle.rows.specs.Rows.{noRow, rowsFrom, roomOf, lenOf, okOf}
 
 -- the fields of a kind in the one table of rows: the ids are the directory's
 abbrev pub windowFields : List Row

@@ -7,9 +7,9 @@ use lib.ListN.{length, getD, replicate}
 use Rattle.wire.specs.Tests.{pick, has}
 use Rattle.wire.specs.Numbers.{bytesOf}
 use Rattle.wire.specs.Parts.{slice, splice}
-use Rattle.order.specs.declared.Row.{Row}
-use Rattle.order.specs.declared.Fit.the-variants.{Ends}
-use Rattle.order.specs.Rows.{allRows, noRow, rowsFrom, roomOf, stepOf, onFit, walkOf}
+use Rattle.rows.specs.declared.Row.{Row}
+use Rattle.rows.specs.declared.Fit.the-variants.{Ends}
+use Rattle.rows.specs.Rows.{allRows, noRow, rowsFrom, roomOf, stepOf, onFit, walkOf}
 use Rattle.protocol.specs.Flags.{desktopArcBegan, desktopArcCompleted, desktopHooked, flagsIcon}
 
 -- the flagged fields put into their places, the first row's at index off

@@ -10,8 +10,8 @@ use Rattle.pdu.specs.Layout.{known, widths}
 use Rattle.pdu.specs.Records.{recordOf, sizeOf}
 use Rattle.pdu.specs.Rules.{allowed}
 use Rattle.pdu.specs.Reading.{recordAs, bodyNumber, readNumber, answerAs, readOf}
-use Rattle.order.specs.declared.Row.{Row}
-use Rattle.order.specs.Rows.{firstOf, lenOf, okOf, cutOf, fieldOf, stepOf, walkOf}
+use Rattle.rows.specs.declared.Row.{Row}
+use Rattle.rows.specs.Rows.{firstOf, lenOf, okOf, cutOf, fieldOf, stepOf, walkOf}
 use Rattle.order.specs.Icons.{pictureFit}
 use Rattle.order.specs.Judge.{flagsOf, orderOf, fieldsFit, judgeOf}
 use Rattle.wire.specs.Parts.{slice}

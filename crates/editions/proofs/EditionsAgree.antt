@@ -11,18 +11,18 @@ use borrow.Author.Tests.{ne-eqb, eq-eqb, eqb-true, leb-true, not-false}
 use Rattle.wire.specs.Tests.{pick, both, either, any, has, hasAll}
 use Rattle.wire.specs.Numbers.{numAt}
 use Rattle.wire.proofs.Tests.{both-left, both-right}
-use Rattle.order.specs.declared.Row.{Row}
-use Rattle.order.specs.declared.Fit.{Fit}
-use Rattle.order.specs.declared.Fit.the-variants.{Ends, Short}
+use Rattle.rows.specs.declared.Row.{Row}
+use Rattle.rows.specs.declared.Fit.{Fit}
+use Rattle.rows.specs.declared.Fit.the-variants.{Ends, Short}
+use Rattle.rows.specs.Rows.{windowRows, notificationRows, desktopRows, lenOf, stepOf, onFit, walkOf}
 use Rattle.order.specs.declared.Judged.{Judged}
 use Rattle.order.specs.declared.Judged.the-variants.{Window, Notification, Desktop, Refused}
 use Rattle.order.specs.declared.WindowOrder.{WindowOrder}
 use Rattle.order.specs.declared.NotificationOrder.{NotificationOrder}
 use Rattle.order.specs.Flags.{isWindow, isNotification, isDesktop, oneType, inList, closedIn, closed, clash}
-use Rattle.order.specs.Rows.{windowRows, notificationRows, desktopRows, lenOf, stepOf, onFit, walkOf}
 use Rattle.order.specs.Judge.{refuse, numberOf, flagsOf, fieldsFit, judgeBy, judgeOf}
 use Rattle.editions.specs.Editions.{earlierFlags, newerFlags, rowsIn, earlierFit, earlierJudge, fieldsWithin, earlierRecordNumber, earlierNumberIn, SameRecords, Unchanged, EditionsAgree}
-use Rattle.order.proofs.Absent.{unlisted}
+use Rattle.rows.proofs.Absent.{unlisted}
 use Rattle.order.proofs.Accepted.{a-window, a-notification}
 use Rattle.index.specs.declared.RecordOrder.{RecordOrder}
 use Rattle.index.specs.Orders.{onJudged, cellAt}

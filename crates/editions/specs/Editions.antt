@@ -5,11 +5,11 @@ use mathlib.Core.Path.{_≡_}
 use mathlib.Core.Bool.{true, false}
 use mathlib.Core.List.{List, [], _∷_}
 use Rattle.wire.specs.Tests.{pick, both, has}
-use Rattle.order.specs.declared.Row.{Row}
-use Rattle.order.specs.declared.Fit.{Fit}
+use Rattle.rows.specs.declared.Row.{Row}
+use Rattle.rows.specs.declared.Fit.{Fit}
+use Rattle.rows.specs.Rows.{windowRows, notificationRows, desktopRows, walkOf}
 use Rattle.order.specs.declared.Judged.{Judged}
 use Rattle.order.specs.Flags.{isWindow, isNotification, inList, closedIn}
-use Rattle.order.specs.Rows.{windowRows, notificationRows, desktopRows, walkOf}
 use Rattle.order.specs.Judge.{numberOf, flagsOf, judgeBy, judgeOf}
 use Rattle.protocol.specs.Flags.{flagBigIcon}
 use Rattle.places.specs.declared.Family.{Family}

@@ -10,10 +10,10 @@ use borrow.Author.Tests.{leb-true, leb-false, lt-ltb, le-ltb}
 use Rattle.wire.specs.Tests.{pick, has}
 use Rattle.wire.specs.Numbers.{numAt}
 use Rattle.protocol.specs.Flags.{flagCachedIcon, flagIcon}
+use Rattle.rows.specs.declared.Fit.{Fit}
+use Rattle.rows.specs.declared.Fit.the-variants.{Ends, Short}
+use Rattle.rows.specs.Rows.{firstBad}
 use Rattle.order.specs.declared.IconParts.{IconParts}
-use Rattle.order.specs.declared.Fit.{Fit}
-use Rattle.order.specs.declared.Fit.the-variants.{Ends, Short}
-use Rattle.order.specs.Rows.{firstBad}
 use Rattle.order.specs.Icons.{tabled, partsFrom, partsOf, entryOk, cacheOk, bitsOk, sideOk, iconNumbersBad, iconBad, cachedNumbersBad, cachedBad, headCut, partsCut, iconFit, cachedFit, pictureFit}
 use Rattle.order.proofs.Pictures.{head-entry, head-byte, head-word, cut-head, cut-mask, cut-table, cut-color}
 use Rattle.explain.specs.Fields.{Field, tabledFields, plainFields, begun, iconFields, cachedFields, pictureFields, endOf, allFit, firstCut, firstOutside}

@@ -10,13 +10,13 @@ use borrow.Author.Tests.{leb-true, ltb-false, eqb-true}
 use Rattle.wire.specs.Tests.{pick, either}
 use Rattle.wire.specs.Numbers.{numAt, Bytes}
 use Rattle.wire.proofs.Numbers.{num2-is}
-use Rattle.order.specs.declared.Fit.{Fit}
-use Rattle.order.specs.declared.Fit.the-variants.{Ends, Short}
+use Rattle.rows.specs.declared.Fit.{Fit}
+use Rattle.rows.specs.declared.Fit.the-variants.{Ends, Short}
+use Rattle.rows.specs.Rows.{firstBad, onFit, walkOf}
 use Rattle.order.specs.declared.Judged.{Judged}
 use Rattle.order.specs.Flags.{oneType, closed, clash}
-use Rattle.order.specs.Rows.{kindRows, firstBad, onFit, walkOf}
 use Rattle.order.specs.Icons.{pictureFit}
-use Rattle.order.specs.Judge.{refuse, flagsOf, orderOf, fieldsFit, judgeOf}
+use Rattle.order.specs.Judge.{refuse, flagsOf, orderOf, kindRows, fieldsFit, judgeOf}
 use Rattle.explain.specs.Fields.{Field, plainPart, pictureFields, iconAt, fieldsOf, endOf, allFit, firstCut, allIn, firstOutside}
 use Rattle.explain.specs.Conditions.{tooFew, otherSize, unlisted, clashing, unfilled, outside}
 use Rattle.explain.proofs.Walks.{fitOf, fit-append, fit-told, end-on, fit-end, cut-none, in-none}

@@ -9,12 +9,13 @@ use lib.Dec.{eqb, leb, ltb}
 use lib.ListN.{length, replicate}
 use borrow.Author.Tests.{le-leb, lt-leb, leb-true, leb-false, lt-ltb, le-ltb}
 use Rattle.wire.specs.Tests.{pick, hasAll}
-use Rattle.order.specs.declared.Row.{Row}
-use Rattle.order.specs.declared.Fit.{Fit}
-use Rattle.order.specs.declared.Fit.the-variants.{Ends, Short}
+use Rattle.rows.specs.declared.Row.{Row}
+use Rattle.rows.specs.declared.Fit.{Fit}
+use Rattle.rows.specs.declared.Fit.the-variants.{Ends, Short}
+use Rattle.rows.specs.Rows.{numbersRow, showRow, switchRow, textRow, rectanglesRow, idsRow, edgeRow, windowRows, notificationRows, desktopRows, firstOf, lenOf, okOf, cutOf, firstBad, fieldOf, stepOf, onFit, walkOf}
+use Rattle.rows.proofs.Fields.{bad-zero}
 use Rattle.order.specs.Flags.{isWindow, isNotification}
-use Rattle.order.specs.Rows.{numbersRow, showRow, switchRow, textRow, rectanglesRow, idsRow, edgeRow, windowRows, notificationRows, desktopRows, kindRows, firstOf, lenOf, okOf, cutOf, firstBad, fieldOf, stepOf, onFit, walkOf}
-use Rattle.order.proofs.Fields.{bad-zero}
+use Rattle.order.specs.Judge.{kindRows}
 use Rattle.explain.specs.Fields.{Field, anyNumber, run, laterFields, rowFields, rowsFields}
 use Rattle.explain.proofs.Walks.{leb-same, fitOf, fit-append}
 

@@ -7,10 +7,10 @@ use native.Mathlib.Omega.{arith}
 use lib.Dec.{eqb, leb}
 use borrow.Author.Tests.{le-leb, lt-leb, leb-true, leb-false, ne-eqb}
 use Rattle.wire.specs.Tests.{pick, both}
-use Rattle.order.specs.declared.Fit.{Fit}
-use Rattle.order.specs.declared.Fit.the-variants.{Ends, Short}
-use Rattle.order.specs.Rows.{firstBad, onFit}
-use Rattle.order.proofs.Fields.{bad-zero}
+use Rattle.rows.specs.declared.Fit.{Fit}
+use Rattle.rows.specs.declared.Fit.the-variants.{Ends, Short}
+use Rattle.rows.specs.Rows.{firstBad, onFit}
+use Rattle.rows.proofs.Fields.{bad-zero}
 use Rattle.explain.specs.Fields.{Field, endOf, allFit, firstCut, allIn, firstOutside}
 
 pub leb-same : (a b c d : ℕ) → (a ≤ b → c ≤ d) → (c ≤ d → a ≤ b) → leb a b ≡ leb c d

@@ -8,10 +8,10 @@ use lib.ListN.{length, replicate}
 use Rattle.wire.specs.Tests.{pick, both, has, hasAll}
 use Rattle.wire.specs.Numbers.{numAt}
 use Rattle.protocol.specs.Flags.{flagCachedIcon, flagIcon}
-use Rattle.order.specs.declared.Row.{Row}
-use Rattle.order.specs.Rows.{kindRows, lenOf, okOf}
+use Rattle.rows.specs.declared.Row.{Row}
+use Rattle.rows.specs.Rows.{lenOf, okOf}
 use Rattle.order.specs.Icons.{tabled, entryOk, cacheOk, bitsOk, sideOk}
-use Rattle.order.specs.Judge.{flagsOf}
+use Rattle.order.specs.Judge.{flagsOf, kindRows}
 
 -- its bytes, and whether its number is in its set
 pub record Field : Type 0 where

@@ -13,7 +13,7 @@ use Rattle.wire.specs.Numbers.{numAt, Bytes}
 use Rattle.wire.specs.Parts.{slice}
 use Rattle.wire.proofs.Numbers.{num1-is, num-take, num-slice, bytes-slice}
 use Rattle.wire.proofs.Parts.{slice-take}
-use Rattle.order.specs.Rows.{showRow, firstOf, lenOf}
+use Rattle.rows.specs.Rows.{showRow, firstOf, lenOf}
 use Rattle.body.specs.Bodies.{windowFields, slotOf, fieldIn, fieldsOf, bodyOf}
 use Rattle.body.proofs.Slots.{window-start, window-length}
 use Rattle.area.specs.Area.{listLength, areaOf}

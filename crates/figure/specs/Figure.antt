@@ -8,7 +8,7 @@ use mathlib.Core.Option.{Option, none, some}
 use lib.Dec.{eqb}
 use Rattle.wire.specs.Tests.{pick, both}
 use Rattle.wire.specs.Numbers.{numAt, bytesOf, Bytes}
-use Rattle.order.specs.declared.Row.{Row}
+use Rattle.rows.specs.declared.Row.{Row}
 use Rattle.body.specs.Bodies.{Body, windowFields, slotOf, bodyOf, first, rest}
 use Rattle.places.specs.declared.Family.the-variants.{Windows}
 use Rattle.places.specs.Counts.{onFound}

@@ -8,13 +8,13 @@ use lib.Dec.{ltb, eqb}
 use lib.ListN.{length}
 use Rattle.wire.specs.Tests.{pick}
 use Rattle.wire.specs.Numbers.{numAt}
-use Rattle.order.specs.declared.Fit.{Fit}
-use Rattle.order.specs.declared.Fit.the-variants.{Ends, Short}
+use Rattle.rows.specs.declared.Fit.{Fit}
+use Rattle.rows.specs.declared.Fit.the-variants.{Ends, Short}
+use Rattle.rows.specs.Rows.{onFit}
 use Rattle.order.specs.declared.Judged.{Judged}
 use Rattle.order.specs.declared.Judged.the-variants.{Window, Notification, Desktop, Refused}
 use Rattle.order.specs.declared.Refusal.{Refusal}
 use Rattle.order.specs.Flags.{isWindow, isNotification, oneType, closed, clash}
-use Rattle.order.specs.Rows.{onFit}
 use Rattle.order.specs.Icons.{pictureFit}
 use Rattle.order.specs.Judge.{refuse, flagsOf, orderOf, fieldsFit, judgeOf}
 

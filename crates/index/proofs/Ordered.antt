@@ -13,16 +13,16 @@ use Rattle.wire.specs.Tests.{pick, both, either, all, has, hasAll}
 use Rattle.wire.specs.Numbers.{numAt}
 use Rattle.wire.proofs.Numbers.{Bytes, num4-is}
 use Rattle.protocol.specs.Flags.{desktopArcBegan, desktopArcCompleted, desktopNone, flagBigIcon, flagCachedIcon, flagDeleted, flagIcon, flagNew, flagOverlayIcon, flagsIcon}
-use Rattle.order.specs.declared.Row.{Row}
-use Rattle.order.specs.declared.Fit.the-variants.{Ends, Short}
+use Rattle.rows.specs.declared.Row.{Row}
+use Rattle.rows.specs.declared.Fit.the-variants.{Ends, Short}
+use Rattle.rows.specs.Rows.{lenOf, okOf, cutOf, firstBad, fieldOf, stepOf, onFit, walkOf}
+use Rattle.rows.proofs.Absent.{bit}
 use Rattle.order.specs.declared.WindowOrder.{WindowOrder}
 use Rattle.order.specs.declared.NotificationOrder.{NotificationOrder}
 use Rattle.order.specs.declared.Judged.the-variants.{Window, Notification}
 use Rattle.order.specs.Flags.{isWindow, isDesktop, clash}
-use Rattle.order.specs.Rows.{kindRows, lenOf, okOf, cutOf, firstBad, fieldOf, stepOf, onFit, walkOf}
 use Rattle.order.specs.Icons.{pictureFit}
-use Rattle.order.specs.Judge.{flagsOf, fieldsFit, judgeOf}
-use Rattle.order.proofs.Absent.{bit}
+use Rattle.order.specs.Judge.{flagsOf, kindRows, fieldsFit, judgeOf}
 use Rattle.order.proofs.Accepted.{Accepted, a-window, a-notification, an-icon, a-cached}
 use Rattle.places.specs.declared.Family.{Family}
 use Rattle.places.specs.declared.Family.the-variants.{Windows, Notifications}

@@ -8,7 +8,7 @@ use lib.Bits.{bitAnd}
 use borrow.Author.Tests.{eq-eqb, ne-eqb}
 use Rattle.wire.specs.Tests.{pick}
 use Rattle.protocol.specs.Flags.{flagCachedIcon, flagDeleted, flagIcon, flagNew, flagOverlayNone}
-use Rattle.order.proofs.Absent.{unmet}
+use Rattle.rows.proofs.Absent.{unmet}
 use Rattle.places.specs.declared.Family.the-variants.{Windows}
 use Rattle.places.specs.declared.Found.{Found}
 use Rattle.places.specs.declared.Found.the-variants.{At, Nothing}

@@ -6,7 +6,7 @@ use Prim.Native.Nat.{ℕ}
 use lib.ListN.{replicate}
 use Rattle.wire.specs.Numbers.{numAt}
 use Rattle.wire.specs.Parts.{slice, padded}
-use Rattle.order.specs.Rows.{lenOf, firstOf, okOf}
+use Rattle.rows.specs.Rows.{lenOf, firstOf, okOf}
 use Rattle.order.specs.Icons.{partsOf}
 use Rattle.body.specs.Bodies.{windowFields, desktopFields, fieldIn, fieldsOf, fieldsOk, bodyOf, bodyOk}
 use Rattle.cache.specs.Cells.{pictureOf, cellOk}

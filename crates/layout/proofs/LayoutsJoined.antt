@@ -11,8 +11,8 @@ use Rattle.wire.specs.Numbers.{numAt}
 use Rattle.wire.specs.Parts.{slice, splice, padded}
 use Rattle.wire.proofs.Tests.{both-left, both-right}
 use Rattle.wire.proofs.Parts.{length-slice, splice-after, padded-all}
-use Rattle.order.specs.declared.Row.{Row}
-use Rattle.order.specs.Rows.{allRows, noRow, rowsFrom, roomOf, firstOf, lenOf, okOf}
+use Rattle.rows.specs.declared.Row.{Row}
+use Rattle.rows.specs.Rows.{allRows, noRow, rowsFrom, roomOf, firstOf, lenOf, okOf}
 use Rattle.body.specs.Bodies.{Body, windowFields, fieldIn, fieldsOf, fieldsOk, bodyOf}
 use Rattle.body.specs.Stores.{roomAll}
 use Rattle.body.proofs.Placed.{All}

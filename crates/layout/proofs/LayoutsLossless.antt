@@ -13,8 +13,8 @@ use Rattle.wire.specs.Parts.{slice, splice, padded}
 use Rattle.wire.proofs.Tests.{both-right}
 use Rattle.wire.proofs.Parts.{length-slice, slice-mid, length-padded, take-padded}
 use Rattle.wire.proofs.Numbers.{num1-is, num-cong, num-padded}
-use Rattle.order.specs.declared.Row.{Row}
-use Rattle.order.specs.Rows.{rowsFrom, roomOf, firstOf, lenOf}
+use Rattle.rows.specs.declared.Row.{Row}
+use Rattle.rows.specs.Rows.{rowsFrom, roomOf, firstOf, lenOf}
 use Rattle.order.specs.Icons.{tabled, partsOf, bitsOk, sideOk}
 use Rattle.order.proofs.Pictures.{laid}
 use Rattle.body.specs.Bodies.{Body, fieldIn, fieldsOf, bodyOf}

@@ -5,8 +5,8 @@ use Prim.Native.Nat.{ℕ}
 use native.Mathlib.Omega.{arith}
 use lib.ListN.{length, take, drop, length-take, length-drop, take-append-drop}
 use lib.Seq.{take-append-seam, drop-append-seam, drop-drop}
-use Rattle.order.specs.declared.Row.{Row}
-use Rattle.order.specs.Rows.{rowsFrom}
+use Rattle.rows.specs.declared.Row.{Row}
+use Rattle.rows.specs.Rows.{rowsFrom}
 use Rattle.body.specs.Bodies.{Body, windowFields}
 use Rattle.body.proofs.Placed.{Placed, All, placed}
 use Rattle.layout.specs.Valid.{ValidFields, ValidBody}

@@ -13,8 +13,8 @@ use Rattle.wire.specs.Numbers.{numAt}
 use Rattle.wire.specs.Parts.{slice}
 use Rattle.wire.proofs.Tests.{both-left, both-right}
 use Rattle.wire.proofs.Parts.{length-slice}
-use Rattle.order.specs.declared.Row.{Row}
-use Rattle.order.specs.Rows.{rowsFrom, roomOf, lenOf, okOf}
+use Rattle.rows.specs.declared.Row.{Row}
+use Rattle.rows.specs.Rows.{rowsFrom, roomOf, lenOf, okOf}
 use Rattle.body.specs.Bodies.{fieldsOf, fieldsOk, bodyOf, bodyOk}
 use Rattle.body.specs.Stores.{roomAll}
 use Rattle.body.proofs.Placed.{Placed, All, placed, len-cong, ok-cong}

@@ -5,8 +5,8 @@ use mathlib.Core.Path.{_≡_}
 use mathlib.Core.List.{List, [], _∷_, _++_}
 use lib.ListN.{length, take, drop}
 use Rattle.wire.specs.Parts.{slice, padded}
-use Rattle.order.specs.declared.Row.{Row}
-use Rattle.order.specs.Rows.{rowsFrom, roomOf}
+use Rattle.rows.specs.declared.Row.{Row}
+use Rattle.rows.specs.Rows.{rowsFrom, roomOf}
 use Rattle.body.specs.Bodies.{Body, windowFields, notificationFields, desktopFields, first, rest, fieldIn, bodyOf}
 use Rattle.body.specs.Stores.{roomAll}
 use Rattle.cache.specs.Cells.{pictureOf}

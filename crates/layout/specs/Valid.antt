@@ -4,8 +4,8 @@ use mathlib.Core.Path.{_≡_}
 use mathlib.Core.Bool.{true}
 use mathlib.Core.List.{List, [], _∷_}
 use lib.ListN.{length}
-use Rattle.order.specs.declared.Row.{Row}
-use Rattle.order.specs.Rows.{lenOf, okOf}
+use Rattle.rows.specs.declared.Row.{Row}
+use Rattle.rows.specs.Rows.{lenOf, okOf}
 use Rattle.body.specs.Bodies.{Body}
 
 -- a field is in its set, and has the bytes that its row and its count ask for, no more

@@ -12,8 +12,8 @@ use Rattle.wire.specs.Numbers.{numAt, bytesOf, fitsIn}
 use Rattle.wire.specs.Parts.{padded, splice}
 use Rattle.wire.proofs.Numbers.{num-drop, num-padded, num-put, length-bytes}
 use Rattle.wire.proofs.Parts.{length-padded, padded-same}
-use Rattle.order.specs.declared.Row.{Row}
-use Rattle.order.specs.Rows.{rowsFrom}
+use Rattle.rows.specs.declared.Row.{Row}
+use Rattle.rows.specs.Rows.{rowsFrom}
 use Rattle.order.specs.Icons.{partsOf}
 use Rattle.places.specs.declared.Family.the-variants as family
 use Rattle.ids.proofs.TypedTells.{same-ids, no-list}

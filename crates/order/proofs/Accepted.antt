@@ -11,21 +11,21 @@ use lib.ListN.{length}
 use borrow.Author.Tests.{leb-true, ltb-false, eqb-true, eq-eqb, not-false}
 use Rattle.wire.specs.Tests.{pick, both, either, all, has}
 use Rattle.wire.specs.Numbers.{numAt}
-use Rattle.order.specs.declared.Fit.{Fit}
-use Rattle.order.specs.declared.Fit.the-variants.{Ends, Short}
+use Rattle.rows.specs.declared.Fit.{Fit}
+use Rattle.rows.specs.declared.Fit.the-variants.{Ends, Short}
+use Rattle.rows.specs.Rows.{windowRows, notificationRows, desktopRows, rowsFrom, numbersRow, firstOf, lenOf, onFit, walkOf}
 use Rattle.order.specs.declared.WindowOrder.{WindowOrder}
 use Rattle.order.specs.declared.NotificationOrder.{NotificationOrder}
 use Rattle.order.specs.declared.DesktopOrder.{DesktopOrder}
 use Rattle.order.specs.declared.Judged.{Judged}
 use Rattle.order.specs.declared.Judged.the-variants.{Window, Notification, Desktop, Refused}
 use Rattle.order.specs.Flags.{isWindow, isNotification, isDesktop, oneType, inList, closed, clash}
-use Rattle.order.specs.Rows.{windowRows, notificationRows, desktopRows, rowsFrom, numbersRow, firstOf, lenOf, onFit, walkOf}
 use Rattle.order.specs.Icons.{partsOf, entryOk, cacheOk, bitsOk, sideOk, iconBad, cachedBad, headCut, partsCut, iconFit, cachedFit, pictureFit}
 use Rattle.order.specs.Judge.{refuse, numberOf, flagsOf, orderOf, fieldsFit, judgeOf}
 use Rattle.wire.proofs.Tests.{both-right}
-use Rattle.order.proofs.Absent.{bare-icon, unlisted}
+use Rattle.rows.proofs.Absent.{bare-icon, unlisted}
+use Rattle.rows.proofs.RowsCarried.{fit-kept, stepped, carried}
 use Rattle.order.proofs.Pictures.{picture-none, laid}
-use Rattle.order.proofs.Carried.{fit-kept, stepped, carried}
 use Rattle.protocol.specs.Flags.{desktopArcBegan, desktopArcCompleted, desktopFlags, desktopNone, flagBigIcon, flagCachedIcon, flagDeleted, flagIcon, flagOverlayIcon, flagsIcon}
 
 pub record Accepted (s : List ℕ) : Type 0 where

@@ -4,9 +4,9 @@ use mathlib.Core.Path.{_≡_, refl}
 use mathlib.Core.List.{List, [], _∷_}
 use Prim.Native.Nat.{ℕ}
 use Rattle.wire.specs.Numbers.{numAt}
+use Rattle.rows.specs.Rows.{firstOf, lenOf, okOf, cutOf, fieldOf, stepOf, walkOf}
 use Rattle.order.specs.declared.Judged.{Judged}
 use Rattle.order.specs.declared.Judged.the-variants.{Window, Notification, Desktop}
-use Rattle.order.specs.Rows.{firstOf, lenOf, okOf, cutOf, fieldOf, stepOf, walkOf}
 use Rattle.order.specs.Icons.{partsOf, iconBad, cachedBad, iconFit, cachedFit, pictureFit}
 use Rattle.order.specs.Judge.{refuse, flagsOf, orderOf, fieldsFit, judgeOf}
 

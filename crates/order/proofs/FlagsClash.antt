@@ -9,8 +9,8 @@ use borrow.Author.Tests.{eq-eqb, ne-eqb, eqb-true, not-false}
 use Rattle.wire.specs.Tests.{pick, both, either, any, all, has}
 use Rattle.wire.proofs.Tests.{both-left, both-right}
 use Rattle.protocol.specs.Flags.{desktopArcBegan, desktopArcCompleted, desktopNone, flagBigIcon, flagCachedIcon, flagDeleted, flagDesktop, flagIcon, flagOverlayIcon, flagsIcon}
+use Rattle.rows.proofs.Absent.{unmet}
 use Rattle.order.specs.Flags.{clash, isDesktop, isWindow}
-use Rattle.order.proofs.Absent.{unmet}
 
 lacks : (flags mask : ℕ) → bitAnd flags mask ≡ 0 → has flags mask ≡ false
 lacks flags mask h = rw (eq-eqb (bitAnd flags mask) 0 h)

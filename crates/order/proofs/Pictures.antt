@@ -10,12 +10,12 @@ use lib.ListN.{length}
 use borrow.Author.Tests.{le-leb, lt-leb, leb-true, leb-false, ne-eqb, eq-eqb, lt-ltb, le-ltb, ltb-false}
 use Rattle.wire.specs.Tests.{pick, both, has}
 use Rattle.wire.specs.Numbers.{numAt}
+use Rattle.rows.specs.declared.Fit.{Fit}
+use Rattle.rows.specs.declared.Fit.the-variants.{Ends, Short}
+use Rattle.rows.specs.Rows.{firstBad, Within}
+use Rattle.rows.proofs.Fields.{bad-within}
 use Rattle.order.specs.declared.IconParts.{IconParts}
-use Rattle.order.specs.declared.Fit.{Fit}
-use Rattle.order.specs.declared.Fit.the-variants.{Ends, Short}
-use Rattle.order.specs.Rows.{firstBad, Within}
 use Rattle.order.specs.Icons.{tabled, partsFrom, partsOf, entryOk, cacheOk, bitsOk, sideOk, iconNumbersBad, iconBad, cachedNumbersBad, cachedBad, headCut, partsCut, iconFit, cachedFit, pictureFit, endsGood, iconWhole, cachedWhole}
-use Rattle.order.proofs.Fields.{bad-within}
 use Rattle.protocol.specs.Flags.{flagCachedIcon, flagIcon}
 
 -- ---- the parts

@@ -6,10 +6,10 @@ use lib.ListN.{length}
 use lib.Dec.{leb, ltb, eqb}
 use Rattle.wire.specs.Tests.{pick, both, either, any, has}
 use Rattle.wire.specs.Numbers.{numAt}
+use Rattle.rows.specs.declared.Fit.{Fit}
+use Rattle.rows.specs.declared.Fit.the-variants.{Ends, Short}
+use Rattle.rows.specs.Rows.{firstBad, onFit}
 use Rattle.order.specs.declared.IconParts.{IconParts}
-use Rattle.order.specs.declared.Fit.{Fit}
-use Rattle.order.specs.declared.Fit.the-variants.{Ends, Short}
-use Rattle.order.specs.Rows.{firstBad, onFit}
 use Rattle.protocol.specs.Flags.{flagCachedIcon, flagIcon}
 
 -- the bits per pixel that have a color table

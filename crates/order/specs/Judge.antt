@@ -7,11 +7,11 @@ use lib.ListN.{length}
 use lib.Dec.{ltb, eqb}
 use Rattle.wire.specs.Tests.{pick}
 use Rattle.wire.specs.Numbers.{numAt}
+use Rattle.rows.specs.Rows.{windowRows, notificationRows, desktopRows, onFit, walkOf}
+use Rattle.rows.specs.declared.Row.{Row}
+use Rattle.rows.specs.declared.Fit.{Fit}
 use Rattle.order.specs.Flags.{isWindow, isNotification, oneType, closed, clash}
-use Rattle.order.specs.Rows.{kindRows, onFit, walkOf}
 use Rattle.order.specs.Icons.{pictureFit}
-use Rattle.order.specs.declared.Row.{Row}
-use Rattle.order.specs.declared.Fit.{Fit}
 use Rattle.order.specs.declared.Judged.{Judged}
 use Rattle.order.specs.declared.Judged.the-variants.{Window, Notification, Desktop, Refused}
 
@@ -36,6 +36,10 @@ orderOf flags s icon =
     (pick (isNotification flags)
     (Notification (record { window = record { id = numAt 4 s 7 }; notify = record { id = numAt 4 s 11 }; flags = flags; icon = icon }))
     (Desktop (record { flags = flags })))
+
+-- the rows of the kind
+abbrev pub kindRows : ℕ → List Row
+kindRows flags = pick (isWindow flags) windowRows (pick (isNotification flags) notificationRows desktopRows)
 
 -- the flagged fields of the kind, after the header's 7 bytes
 unfoldable pub fieldsFit : ℕ → List ℕ → Fit

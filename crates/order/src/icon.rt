@@ -2,11 +2,11 @@
 ghost use mathlib.Core.Path.{_≡_};
 ghost use Prim.Native.Nat.{_+_, _≤_};
 ghost use lib.ListN.{length};
+ghost use Rattle.rows.specs.Rows.{Within};
 ghost use Rattle.order.specs.Icons.{tabled, partsFrom, partsOf, iconNumbersBad, iconBad, cachedNumbersBad, cachedBad, headCut, partsCut, iconFit, cachedFit, pictureFit, iconWhole, cachedWhole};
-ghost use Rattle.order.specs.Rows.{Within};
-use crate::Fit;
 use crate::IconParts;
-use crate::rows::first_bad;
+use rows::Fit;
+use rows::first_bad;
 
 pub fn has_table(bits: u8) -> bool
     ensures { λ r. ⌜ r ≡ tabled bits ⌝ }

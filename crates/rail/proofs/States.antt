@@ -4,7 +4,7 @@ use mathlib.Core.List.{List, []}
 use Prim.Native.Nat.{ℕ, zero, suc, _≤_}
 use native.Mathlib.Omega.{arith}
 use lib.ListN.{getD, List·getD-eq-default}
-use Rattle.order.proofs.Fields.{NoneOf}
+use Rattle.rows.proofs.Fields.{NoneOf}
 use Rattle.store.specs.Store.{placesIn}
 use Rattle.journal.specs.View.{Memory, memory}
 use Rattle.session.specs.declared.Reply.{Reply}

@@ -13,7 +13,7 @@ use Rattle.wire.specs.Numbers.{numAt, Bytes}
 use Rattle.wire.specs.Parts.{splice}
 use Rattle.wire.proofs.Tests.{both-right}
 use Rattle.wire.proofs.Parts.{length-slice}
-use Rattle.order.specs.declared.Row.{Row}
+use Rattle.rows.specs.declared.Row.{Row}
 use Rattle.places.specs.declared.Family.the-variants as family
 use Rattle.places.specs.Memory.{pointerAt, shownOf, shown}
 use Rattle.places.specs.Holder.{cell, icon, numberOf}

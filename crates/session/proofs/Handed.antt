@@ -15,7 +15,7 @@ use Rattle.wire.specs.Numbers.{bytesOf}
 use Rattle.wire.specs.Parts.{slice, splice}
 use Rattle.wire.proofs.Tests.{both-left}
 use Rattle.wire.proofs.Parts.{length-slice, length-splice, length-padded, take-splice, drop-splice-at, splice-after}
-use Rattle.order.specs.declared.Row.{Row}
+use Rattle.rows.specs.declared.Row.{Row}
 use Rattle.protocol.specs.declared.WindowId.{WindowId}
 use Rattle.protocol.specs.declared.NotifyIconId.{NotifyIconId}
 use Rattle.places.specs.declared.Family.{Family}

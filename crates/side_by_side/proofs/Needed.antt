@@ -7,7 +7,7 @@ use native.Mathlib.Omega.{arith}
 use lib.ListN.{length, getD}
 use Rattle.wire.specs.Numbers.{numAt, numsAt}
 use Rattle.wire.specs.Parts.{slice}
-use Rattle.order.specs.Rows.{firstOf, lenOf, okOf, cutOf, fieldOf, stepOf, walkOf}
+use Rattle.rows.specs.Rows.{firstOf, lenOf, okOf, cutOf, fieldOf, stepOf, walkOf}
 use Rattle.order.specs.Icons.{pictureFit}
 use Rattle.order.specs.Judge.{flagsOf, orderOf, fieldsFit, judgeOf}
 use Rattle.places.specs.declared.Family.the-variants.{Windows}

@@ -12,18 +12,18 @@ use borrow.Author.Tests.{eqb-true, eq-eqb, leb-true, le-leb}
 use Rattle.wire.specs.Tests.{both, either}
 use Rattle.wire.specs.Numbers.{numAt}
 use Rattle.wire.proofs.Tests.{both-left, both-right}
-use Rattle.order.specs.declared.Row.{Row}
-use Rattle.order.specs.declared.Fit.{Fit}
-use Rattle.order.specs.declared.Fit.the-variants.{Ends, Short}
+use Rattle.rows.specs.declared.Row.{Row}
+use Rattle.rows.specs.declared.Fit.{Fit}
+use Rattle.rows.specs.declared.Fit.the-variants.{Ends, Short}
+use Rattle.rows.specs.Rows.{windowRows, walkOf}
+use Rattle.rows.specs.Ends.{endsOf}
+use Rattle.rows.proofs.Absent.{bare-ends}
+use Rattle.rows.proofs.Ended.{ends-on}
+use Rattle.rows.proofs.RowsCarried.{walk-ends}
 use Rattle.order.specs.declared.Judged.the-variants.{Desktop}
 use Rattle.order.specs.Flags.{isWindow, oneType, closed, clash}
-use Rattle.order.specs.Rows.{windowRows, kindRows, walkOf}
-use Rattle.order.specs.Ends.{endsOf}
 use Rattle.order.specs.Icons.{pictureFit, endsGood, pictureWhole}
-use Rattle.order.specs.Judge.{numberOf, flagsOf, fieldsFit, orderOf, judgeOf}
-use Rattle.order.proofs.Absent.{bare-ends}
-use Rattle.order.proofs.Ended.{ends-on}
-use Rattle.order.proofs.Carried.{walk-ends}
+use Rattle.order.specs.Judge.{numberOf, flagsOf, kindRows, fieldsFit, orderOf, judgeOf}
 use Rattle.order.proofs.Accepted.{Accepted, accepted}
 use Rattle.order.proofs.Verdicts.{end-good, rows-end, fit-ended, flags-good, framed}
 use Rattle.single.specs.Single.{deleteFlags, cachedFlags, cachedBigFlags, iconFlags, iconBigFlags, listFlags, windowOf, BringsCached, BringsIcon, framedTo, goodWith}

@@ -19,12 +19,10 @@ const ICON: u32 = protocol::WINDOW | protocol::ICON;
 
 const ICON_BIG: u32 = ICON | protocol::BIG_ICON;
 
-pub const LIST: u32 = protocol::DESKTOP
-    | order::rows::FLAGS[ACTIVE]
-    | order::rows::FLAGS[ACTIVE + 1];
+pub const LIST: u32 = protocol::DESKTOP | rows::FLAGS[ACTIVE] | rows::FLAGS[ACTIVE + 1];
 
 // The row of the active window, behind it that of the stacking list.
-const ACTIVE: usize = order::rows::NOTIFICATION_END;
+const ACTIVE: usize = rows::NOTIFICATION_END;
 
 // Type byte, OrderSize, flags, id.
 const TYPE: u8 = 0x2E;
@@ -33,12 +31,12 @@ const SIZE_AT: usize = 1;
 
 pub const FLAGS_AT: usize = 3;
 
-pub const ID_AT: usize = order::ends::HEADER;
+pub const ID_AT: usize = rows::ends::HEADER;
 
 // Where an order for a window without a field ends, and its icon or cached icon begins; where a cached icon ends.
-pub const ICON_AT: u32 = order::ends::FIELDS_AT as u32;
+pub const ICON_AT: u32 = rows::ends::FIELDS_AT as u32;
 
-const CACHED_END: usize = order::ends::FIELDS_AT + order::icon::CACHED_LENGTH;
+const CACHED_END: usize = rows::ends::FIELDS_AT + order::icon::CACHED_LENGTH;
 
 // The order begins with the type byte and its own size, and index end lies within it.
 fn is_framed(s: &[u8], end: usize) -> bool
@@ -53,10 +51,10 @@ fn is_framed(s: &[u8], end: usize) -> bool
 pub fn is_delete(s: &[u8]) -> bool
     ensures { λ r. ⌜ r ≡ goodWith deleteFlags (now (s .entry)) ⌝ }
 {
-    if order::ends::FIELDS_AT != s.len() {
+    if rows::ends::FIELDS_AT != s.len() {
         return false;
     }
-    is_framed(s, order::ends::FIELDS_AT) & (wire::read_u32(s, FLAGS_AT) == DELETE)
+    is_framed(s, rows::ends::FIELDS_AT) & (wire::read_u32(s, FLAGS_AT) == DELETE)
 }
 
 // The order is good and brings a window's cached icon, small or big, and nothing else.
@@ -70,10 +68,10 @@ pub fn is_cached(s: &[u8]) -> bool
     if (flags != CACHED) & (flags != CACHED_BIG) {
         return false;
     }
-    if !is_framed(s, order::ends::FIELDS_AT) {
+    if !is_framed(s, rows::ends::FIELDS_AT) {
         return false;
     }
-    order::icon::is_whole_cached(s, order::ends::FIELDS_AT)
+    order::icon::is_whole_cached(s, rows::ends::FIELDS_AT)
 }
 
 // The order is good and brings a window's icon, small or big, and nothing else.
@@ -84,10 +82,10 @@ pub fn is_icon(s: &[u8]) -> bool
     if (flags != ICON) & (flags != ICON_BIG) {
         return false;
     }
-    if !is_framed(s, order::ends::FIELDS_AT) {
+    if !is_framed(s, rows::ends::FIELDS_AT) {
         return false;
     }
-    order::icon::is_whole(s, order::ends::FIELDS_AT)
+    order::icon::is_whole(s, rows::ends::FIELDS_AT)
 }
 
 // The order is good and brings the desktop's stacking list and active window, and nothing else.
@@ -97,7 +95,7 @@ pub fn is_list(s: &[u8]) -> bool
     if wire::read_u32(s, FLAGS_AT) != LIST {
         return false;
     }
-    let end = order::ends::desktop(s, LIST);
+    let end = rows::ends::desktop(s, LIST);
     if end != s.len() {
         return false;
     }

@@ -10,7 +10,7 @@ use Rattle.wire.specs.Numbers.{numAt}
 use Rattle.protocol.specs.Flags.{desktopArcBegan, desktopArcCompleted, desktopHooked, desktopNone}
 use Rattle.places.specs.declared.Family.{Family}
 use Rattle.places.specs.declared.Family.the-variants.{Windows, Notifications}
-use Rattle.order.specs.declared.Row.{Row}
+use Rattle.rows.specs.declared.Row.{Row}
 use Rattle.index.specs.declared.Change.{Change}
 use Rattle.body.specs.Bodies.{Body, desktopFields, slotLength, setFlagged, fieldsOf, bodyOf, bodyOk, emptyFields, emptyBody}
 use Rattle.body.specs.Stores.{storeOf, preparedOf, hookedOf, syncedOf, roomAll, EndsWell}

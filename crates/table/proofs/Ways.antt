@@ -16,8 +16,8 @@ use Rattle.wire.specs.Tests.{pick, both, has}
 use Rattle.wire.specs.Parts.{splice}
 use Rattle.wire.proofs.Numbers.{num1-is}
 use Rattle.wire.proofs.Parts.{part-back}
-use Rattle.order.specs.declared.Row.{Row}
-use Rattle.order.specs.Rows.{rowsFrom}
+use Rattle.rows.specs.declared.Row.{Row}
+use Rattle.rows.specs.Rows.{rowsFrom}
 use Rattle.order.specs.Icons.{partsOf}
 use Rattle.protocol.specs.Flags.{flagIcon}
 use Rattle.places.specs.declared.Family.the-variants.{Windows, Notifications}

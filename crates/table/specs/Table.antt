@@ -7,7 +7,7 @@ use mathlib.Core.List.{List, []}
 use mathlib.Core.Option.{Option, none, some}
 use lib.Dec.{eqb}
 use Rattle.wire.specs.Tests.{pick, both, has}
-use Rattle.order.specs.declared.Row.{Row}
+use Rattle.rows.specs.declared.Row.{Row}
 use Rattle.order.specs.Judge.{judgeOf}
 use Rattle.protocol.specs.Flags.{desktopArcBegan, desktopArcCompleted, desktopHooked, desktopNone}
 use Rattle.places.specs.declared.Family.{Family}

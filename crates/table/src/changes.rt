@@ -3,7 +3,7 @@ ghost use mathlib.Core.Path.{_≡_};
 ghost use mathlib.Core.Bool.{false};
 ghost use Prim.Native.Nat.{_+_, _≤_};
 ghost use lib.ListN.{length};
-ghost use Rattle.order.specs.Rows.{rowsFrom};
+ghost use Rattle.rows.specs.Rows.{rowsFrom};
 ghost use Rattle.body.specs.Bodies.{desktopFields};
 ghost use Rattle.body.specs.Stores.{roomAll, storeOf, preparedOf, EndsWell};
 ghost use Rattle.store.specs.Store.{five};

@@ -2,7 +2,7 @@
 ghost use mathlib.Core.Path.{_≡_};
 ghost use Prim.Native.Nat.{_+_, _<_, _≤_};
 ghost use lib.ListN.{length};
-ghost use Rattle.order.specs.Rows.{rowsFrom};
+ghost use Rattle.rows.specs.Rows.{rowsFrom};
 ghost use Rattle.places.specs.Sizes.{slotCount, holderCount, mostPlaces};
 ghost use Rattle.places.specs.Counts.{eachBelow};
 ghost use Rattle.places.specs.declared.Family.the-variants.{Windows};

@@ -12,9 +12,9 @@ use Rattle.wire.specs.Numbers.{numAt, numsAt, total, Bytes}
 use Rattle.wire.specs.Parts.{slice, padded}
 use Rattle.wire.proofs.Parts.{length-slice, getD-padded, padded-ext, padded-same}
 use Rattle.wire.proofs.Numbers.{num-slice, num-padded, bytes-slice, nums-take}
+use Rattle.rows.specs.declared.Row.{Row}
+use Rattle.rows.specs.Rows.{rowsFrom, roomOf, lenOf}
 use Rattle.order.specs.declared.IconParts.{IconParts}
-use Rattle.order.specs.declared.Row.{Row}
-use Rattle.order.specs.Rows.{rowsFrom, roomOf, lenOf}
 use Rattle.order.specs.Icons.{tabled, partsFrom, partsOf}
 use Rattle.body.specs.Bodies.{Body, windowFields, fieldIn, fieldsOf, bodyOf, bodyOk}
 use Rattle.body.specs.Stores.{roomAll}

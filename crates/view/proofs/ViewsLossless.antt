@@ -18,8 +18,8 @@ use Rattle.wire.proofs.Numbers.{nums-same}
 use Rattle.signs.specs.TwosComplement.{unsigned, signedAt}
 use Rattle.signs.proofs.TwosComplement.{forth-4, num-under}
 use Rattle.protocol.specs.declared.WindowId.{WindowId}
-use Rattle.order.specs.declared.Row.{Row}
-use Rattle.order.specs.Rows.{noRow, textRow, rectanglesRow, idsRow, firstOf, lenOf}
+use Rattle.rows.specs.declared.Row.{Row}
+use Rattle.rows.specs.Rows.{noRow, textRow, rectanglesRow, idsRow, firstOf, lenOf}
 use Rattle.body.specs.Bodies.{Body, notificationFields, desktopFields}
 use Rattle.body.proofs.Placed.{Placed}
 use Rattle.layout.specs.Valid.{ValidField, ValidFields}

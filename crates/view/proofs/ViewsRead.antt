@@ -18,8 +18,8 @@ use Rattle.wire.specs.Parts.{slice, splice, padded}
 use Rattle.wire.proofs.Parts.{splice-nil, splice-zeros, padded-ext, padded-nil, padded-set, padded-take}
 use Rattle.wire.proofs.Numbers.{num1-is, num-take, num-slice, num-past}
 use Rattle.signs.specs.TwosComplement.{signed, signedAt}
-use Rattle.order.specs.declared.Row.{Row}
-use Rattle.order.specs.Rows.{numbersRow, textRow, rectanglesRow, idsRow, roomOf, firstOf, lenOf}
+use Rattle.rows.specs.declared.Row.{Row}
+use Rattle.rows.specs.Rows.{numbersRow, textRow, rectanglesRow, idsRow, roomOf, firstOf, lenOf}
 use Rattle.body.specs.Bodies.{fieldIn}
 use Rattle.body.proofs.Placed.{len-place}
 use Rattle.layout.specs.Layouts.{fieldAt}

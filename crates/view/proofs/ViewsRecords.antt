@@ -11,8 +11,8 @@ use Rattle.wire.specs.Numbers.{numAt}
 use Rattle.wire.specs.Parts.{slice, splice, padded}
 use Rattle.wire.proofs.Numbers.{num-drop}
 use Rattle.protocol.specs.declared.WindowId.{WindowId}
-use Rattle.order.specs.declared.Row.{Row}
-use Rattle.order.specs.Rows.{noRow, numbersRow, textRow, rectanglesRow, idsRow, roomOf}
+use Rattle.rows.specs.declared.Row.{Row}
+use Rattle.rows.specs.Rows.{noRow, numbersRow, textRow, rectanglesRow, idsRow, roomOf}
 use Rattle.order.specs.Icons.{tabled}
 use Rattle.body.specs.Bodies.{Body, notificationFields, desktopFields, fieldIn, fieldsOf, bodyOf}
 use Rattle.layout.specs.Layouts.{newerStart, olderFields, newerFields, fieldAt}

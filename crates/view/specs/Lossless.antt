@@ -6,8 +6,8 @@ use mathlib.Core.Bool.{true}
 use mathlib.Core.List.{List, [], _∷_, _++_}
 use lib.ListN.{length}
 use Rattle.wire.specs.Numbers.{Bytes}
-use Rattle.order.specs.declared.Row.{Row}
-use Rattle.order.specs.Rows.{rowsFrom}
+use Rattle.rows.specs.declared.Row.{Row}
+use Rattle.rows.specs.Rows.{rowsFrom}
 use Rattle.body.specs.Bodies.{Body, windowFields, notificationFields, desktopFields, bodyOf, bodyOk}
 use Rattle.body.specs.Stores.{roomAll}
 use Rattle.cache.specs.Cells.{cellOk, pictureOf}

@@ -6,7 +6,7 @@ ghost use lib.ListN.{length, replicate};
 ghost use Rattle.wire.specs.Tests.{pick};
 ghost use Rattle.wire.specs.Numbers.{numAt};
 ghost use Rattle.wire.specs.Parts.{slice, splice, padded};
-ghost use Rattle.order.specs.Rows.{numbersRow, textRow, rectanglesRow, idsRow};
+ghost use Rattle.rows.specs.Rows.{numbersRow, textRow, rectanglesRow, idsRow};
 ghost use Rattle.layout.specs.Layouts.{fieldAt};
 ghost use Rattle.view.specs.Views.{eachOf, windowId, pointOf, pairOf, textOf, rectanglesOf, stackOf, isMarked};
 use crate::Pair;

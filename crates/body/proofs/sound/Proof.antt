@@ -1,6 +1,6 @@
 -- The marks, and the fields.
 use Rattle.body.proofs.Ways.{marks-over, marks-within}
-use Rattle.order.specs.Rows.{rowsFrom}
+use Rattle.rows.specs.Rows.{rowsFrom}
 use denote.Ref.{now}
 use borrow.Author.Needs.{needs}
 use borrow.Author.Tests.{not-true, not-false}

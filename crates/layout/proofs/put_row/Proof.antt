@@ -1,4 +1,4 @@
-use Rattle.order.proofs.Table.{row-told}
+use Rattle.rows.proofs.Table.{row-told}
 use borrow.Author.Needs.{needs}
 use Rattle.layout.proofs.put_row.Statement.{statement}
 use Rattle.layout.proofs.put_row.Tie as tie

@@ -1,6 +1,6 @@
 use borrow.Author.Needs.{needs}
+use Rattle.rows.specs.Rows.{windowRows, desktopRows}
 use Rattle.order.proofs.Verdicts.{fit-ended, fit-window, fit-notification, fit-desktop}
-use Rattle.order.specs.Rows.{windowRows, desktopRows}
 use denote.Ref.{now}
 use native.Mathlib.Omega.{arith}
 use Rattle.order.proofs.fields_end.Statement.{statement}

@@ -1,4 +1,4 @@
-use Rattle.order.proofs.Fields.{within-short, within-ends}
+use Rattle.rows.proofs.Fields.{within-short, within-ends}
 use Rattle.order.proofs.Verdicts.{end-cut, end-over, end-bad, end-good}
 use denote.Ref.{now}
 use native.Mathlib.Omega.{arith}

@@ -1,5 +1,5 @@
+use Rattle.rows.proofs.Fields.{within-of}
 use Rattle.order.proofs.Pictures.{picture-icon, picture-cached, picture-none, picture-within}
-use Rattle.order.proofs.Fields.{within-of}
 use denote.Ref.{now}
 use lib.ListN.{length}
 use borrow.Author.Needs.{needs}

@@ -1,6 +1,6 @@
 -- The slot is made ready, then the fields are put into it.
 use Rattle.table.proofs.Ways.{slot-stored}
-use Rattle.order.specs.Rows.{rowsFrom}
+use Rattle.rows.specs.Rows.{rowsFrom}
 use denote.Ref.{now}
 use borrow.Author.Needs.{needs}
 use Rattle.table.proofs.changes.store_fields.Statement.{statement}

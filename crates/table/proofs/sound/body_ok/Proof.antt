@@ -1,6 +1,6 @@
 -- The slot's own bytes are lent and tested.
 use Rattle.table.proofs.Ways.{part-in-order, part-is, body-lent}
-use Rattle.order.specs.Rows.{rowsFrom}
+use Rattle.rows.specs.Rows.{rowsFrom}
 use Prim.Native.Nat.{_-_, _≤_}
 use denote.Ref.{now}
 use borrow.Author.Needs.{needs}

@@ -1,6 +1,6 @@
 -- A slot is used where its first byte is 1.
 use Rattle.table.proofs.Ways.{record-free, record-held}
-use Rattle.order.specs.Rows.{rowsFrom}
+use Rattle.rows.specs.Rows.{rowsFrom}
 use mathlib.Core.Path.{refl}
 use denote.Ref.{now}
 use borrow.Author.Needs.{needs}

@@ -1,6 +1,6 @@
 -- As `record_ok`, of a window's rows.
 use Rattle.table.proofs.Ways.{record-free, record-held}
-use Rattle.order.specs.Rows.{rowsFrom}
+use Rattle.rows.specs.Rows.{rowsFrom}
 use mathlib.Core.Path.{refl}
 use denote.Ref.{now}
 use borrow.Author.Needs.{needs}
