@@ -1,3 +1,4 @@
 pub mod Choices
 pub mod Numbers
 pub mod Parts
+pub mod Examples

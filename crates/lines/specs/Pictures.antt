@@ -21,6 +21,7 @@ lyingText s mask table color a b c =
 abbrev pub contentText : List ℕ → List ℕ → List ℕ → PictureRecord → List ℕ
 contentText a b c p = lyingText (p .bytes) (p .mask) (p .table) (p .color) a b c
 
+-- as a cell has it
 unfoldable pub cellText : PictureRecord → List ℕ
 cellText p = sidesText (ascii " bpp=# width=# height=#") p ++ contentText (ascii " mask=") (ascii " table=") (ascii " color=") p
 

@@ -39,7 +39,8 @@ visibleText offset = fillText (ascii " visible=~,~") [] (offset .x ∷ offset .y
 unfoldable pub barsText : ℕ → ℕ → ℕ → ℕ → List ℕ
 barsText taskbar order state edge = fillText (ascii " taskbar=# server_z=# app_bar=# edge=#") (taskbar ∷ order ∷ state ∷ edge ∷ []) []
 
--- up to the title, up to the margins, up to its places, its areas, and the newest
+-- ---- joined
+
 unfoldable pub titledText : WindowId → WindowRecord → List ℕ
 titledText id w = looksText id (w .owner) (w .style) (w .«extended_style») (w .«show_state») ++ stringText (ascii " title=") (w .title)
 

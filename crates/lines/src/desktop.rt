@@ -19,12 +19,14 @@ const PIXELS_HIGH: usize = PIXELS_LOW + 4;
 // The numbers of 4 bytes.
 const HALF: u64 = 4294967296;
 
+// 1 for yes.
 fn yes_number(b: bool) -> u64
     ensures { λ r. ⌜ r ≡ pick b 1 0 ⌝ }
 {
     if b { 1 } else { 0 }
 }
 
+// The active window, and whether the desktop is hooked and synchronizes.
 fn modes(out: &mut [u8], at: usize, active: WindowId, hooked: u64, syncing: u64) -> usize
     ensures { λ n. ⌜ Laid (now (out .entry)) at (modesText active hooked syncing) (now (out .exit)) n ⌝ }
 {
@@ -32,6 +34,7 @@ fn modes(out: &mut [u8], at: usize, active: WindowId, hooked: u64, syncing: u64)
     numbers(out, at, b" active=# hooked=# syncing=#", &ns)
 }
 
+// Its modes and its stacking list.
 fn fields(out: &mut [u8], at: usize, d: DesktopRecord) -> usize
     ensures { λ n. ⌜ Laid (now (out .entry)) at (fieldsText d) (now (out .exit)) n ⌝ }
 {
@@ -41,6 +44,7 @@ fn fields(out: &mut [u8], at: usize, d: DesktopRecord) -> usize
     stack(out, n, d.stack)
 }
 
+// The windows that are shown, and their pixels.
 fn figure(out: &mut [u8], at: usize, bytes: &[u8; FOUND]) -> usize
     ensures { λ n. ⌜ Laid (now (out .entry)) at (figureText (now (bytes .entry))) (now (out .exit)) n ⌝ }
 {
@@ -50,6 +54,7 @@ fn figure(out: &mut [u8], at: usize, bytes: &[u8; FOUND]) -> usize
     numbers(out, at, b" shown=# pixels=#", &[shown, low + HALF * high])
 }
 
+// The desktop that the bytes are.
 pub(crate) fn line(out: &mut [u8], at: usize, bytes: &[u8; FOUND]) -> usize
     ensures { λ n. ⌜ Laid (now (out .entry)) at (desktopText (now (bytes .entry))) (now (out .exit)) n ⌝ }
 {

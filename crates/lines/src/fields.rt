@@ -11,6 +11,7 @@ use view::Rectangles;
 use view::Stack;
 use view::Text;
 
+// A string, in hex.
 pub(crate) fn words(out: &mut [u8], at: usize, name: &[u8], t: Text) -> usize
     ensures { λ n. ⌜ Laid (now (out .entry)) at (stringText (now (name .entry)) t) (now (out .exit)) n ⌝ }
 {
@@ -26,6 +27,7 @@ fn sides(out: &mut [u8], at: usize, ns: &[u16], k: usize) -> usize
     print::rectangles(out, at, &ns[0..end])
 }
 
+// A name, and rectangles.
 pub(crate) fn rectangles(out: &mut [u8], at: usize, name: &[u8], r: Rectangles) -> usize
     ensures { λ n. ⌜ Laid (now (out .entry)) at (rectanglesField (now (name .entry)) r) (now (out .exit)) n ⌝ }
 {
@@ -50,6 +52,7 @@ fn ids(out: &mut [u8], at: usize, list: [WindowId; 64], k: usize) -> usize
     n
 }
 
+// The stacking list.
 pub(crate) fn stack(out: &mut [u8], at: usize, s: Stack) -> usize
     ensures { λ n. ⌜ Laid (now (out .entry)) at (stackText s) (now (out .exit)) n ⌝ }
 {

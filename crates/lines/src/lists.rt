@@ -28,6 +28,7 @@ fn entry(out: &mut [u8], at: usize, bytes: &[u8], i: u8, icons: bool) -> usize
     decimal(out, at, w.id as u64)
 }
 
+// The ids of a list, parted by commas.
 fn entries(out: &mut [u8], at: usize, bytes: &[u8], icons: bool) -> usize
     ensures { λ n. ⌜ Laid (now (out .entry)) at (entriesText icons (now (bytes .entry)) (laidOf (now (bytes .entry)))) (now (out .exit)) n ⌝ }
 {
@@ -42,6 +43,7 @@ fn entries(out: &mut [u8], at: usize, bytes: &[u8], icons: bool) -> usize
     n
 }
 
+// The two lists.
 pub(crate) fn both(out: &mut [u8], at: usize, windows: &[u8], icons: &[u8]) -> usize
     ensures { λ n. ⌜ Laid (now (out .entry)) at (bothText (now (windows .entry)) (now (icons .entry))) (now (out .exit)) n ⌝ }
 {

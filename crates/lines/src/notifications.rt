@@ -13,6 +13,7 @@ use view::NotificationRecord;
 // Its picture stands after its record.
 const PICTURE: usize = layout::NOTIFICATION;
 
+// Its ids and its version.
 fn ids(out: &mut [u8], at: usize, window: WindowId, icon: NotifyIconId, version: u32) -> usize
     ensures { λ n. ⌜ Laid (now (out .entry)) at (idsText window icon version) (now (out .exit)) n ⌝ }
 {
@@ -20,6 +21,7 @@ fn ids(out: &mut [u8], at: usize, window: WindowId, icon: NotifyIconId, version:
     numbers(out, at, b" window=# icon=# version=#", &ns)
 }
 
+// The timeout and the flags of its balloon.
 fn limits(out: &mut [u8], at: usize, timeout: u32, flags: u32) -> usize
     ensures { λ n. ⌜ Laid (now (out .entry)) at (limitsText timeout flags) (now (out .exit)) n ⌝ }
 {
@@ -27,6 +29,7 @@ fn limits(out: &mut [u8], at: usize, timeout: u32, flags: u32) -> usize
     numbers(out, at, b" timeout=# flags=#", &ns)
 }
 
+// Its tip, and what limits its balloon.
 fn tip(out: &mut [u8], at: usize, r: NotificationRecord) -> usize
     ensures { λ n. ⌜ Laid (now (out .entry)) at (tipText r) (now (out .exit)) n ⌝ }
 {
@@ -34,6 +37,7 @@ fn tip(out: &mut [u8], at: usize, r: NotificationRecord) -> usize
     limits(out, n, r.timeout, r.flags)
 }
 
+// The text and the title of its balloon, and its state.
 fn balloon(out: &mut [u8], at: usize, r: NotificationRecord) -> usize
     ensures { λ n. ⌜ Laid (now (out .entry)) at (balloonText r) (now (out .exit)) n ⌝ }
 {
@@ -42,6 +46,7 @@ fn balloon(out: &mut [u8], at: usize, r: NotificationRecord) -> usize
     field(out, n, b" state=", r.state as u64)
 }
 
+// The notification icon that the bytes are.
 pub(crate) fn line(
     out: &mut [u8],
     at: usize,

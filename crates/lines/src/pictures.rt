@@ -42,6 +42,7 @@ fn lying(
     string(out, n, c, s, m + t, color as usize)
 }
 
+// The content of a picture.
 fn content(out: &mut [u8], at: usize, p: PictureRecord, a: &[u8], b: &[u8], c: &[u8]) -> usize
     ensures { λ n. ⌜ Laid (now (out .entry)) at (contentText (now (a .entry)) (now (b .entry)) (now (c .entry)) p) (now (out .exit)) n ⌝ }
 {

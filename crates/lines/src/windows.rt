@@ -23,6 +23,7 @@ const OVERLAY: usize = BIG + layout::PICTURE + layout::NEWER;
 
 const PIXELS: usize = OVERLAY + layout::PICTURE;
 
+// Its ids, its styles and its show state.
 fn looks(
     out: &mut [u8],
     at: usize,
@@ -44,6 +45,7 @@ fn looks(
     numbers(out, at, b" id=# owner=# style=# ext=# show=#", &ns)
 }
 
+// Where its client area is, and how large.
 fn client(out: &mut [u8], at: usize, offset: Point, size: Pair) -> usize
     ensures { λ n. ⌜ Laid (now (out .entry)) at (clientText offset size) (now (out .exit)) n ⌝ }
 {
@@ -52,6 +54,7 @@ fn client(out: &mut [u8], at: usize, offset: Point, size: Pair) -> usize
     fill(out, at, b" client=~,~ client_size=#,#", &ns, &zs)
 }
 
+// The margins by which it is resized.
 fn margins(out: &mut [u8], at: usize, left: u32, right: u32, top: u32, bottom: u32) -> usize
     ensures { λ n. ⌜ Laid (now (out .entry)) at (marginsText left right top bottom) (now (out .exit)) n ⌝ }
 {
@@ -59,6 +62,7 @@ fn margins(out: &mut [u8], at: usize, left: u32, right: u32, top: u32, bottom: u
     numbers(out, at, b" margin_x=#,# margin_y=#,#", &ns)
 }
 
+// What its root parent shows, and which window that is.
 fn root(out: &mut [u8], at: usize, content: u8, parent: WindowId) -> usize
     ensures { λ n. ⌜ Laid (now (out .entry)) at (rootText content parent) (now (out .exit)) n ⌝ }
 {
@@ -66,6 +70,7 @@ fn root(out: &mut [u8], at: usize, content: u8, parent: WindowId) -> usize
     numbers(out, at, b" rp=# root=#", &ns)
 }
 
+// Where it is, how far its client area is from there, and how large it is.
 fn places(out: &mut [u8], at: usize, offset: Point, delta: Point, size: Pair) -> usize
     ensures { λ n. ⌜ Laid (now (out .entry)) at (placesText offset delta size) (now (out .exit)) n ⌝ }
 {
@@ -74,12 +79,14 @@ fn places(out: &mut [u8], at: usize, offset: Point, delta: Point, size: Pair) ->
     fill(out, at, b" offset=~,~ delta=~,~ size=#,#", &ns, &zs)
 }
 
+// Where its visible part begins.
 fn visible(out: &mut [u8], at: usize, offset: Point) -> usize
     ensures { λ n. ⌜ Laid (now (out .entry)) at (visibleText offset) (now (out .exit)) n ⌝ }
 {
     fill(out, at, b" visible=~,~", &[], &[offset.x, offset.y])
 }
 
+// Its button on the taskbar, who orders it, and its state and edge as an application bar.
 fn bars(out: &mut [u8], at: usize, taskbar: u8, order: u8, state: u8, edge: u8) -> usize
     ensures { λ n. ⌜ Laid (now (out .entry)) at (barsText taskbar order state edge) (now (out .exit)) n ⌝ }
 {
@@ -87,7 +94,7 @@ fn bars(out: &mut [u8], at: usize, taskbar: u8, order: u8, state: u8, edge: u8) 
     numbers(out, at, b" taskbar=# server_z=# app_bar=# edge=#", &ns)
 }
 
-// Its fields up to the title, up to the margins, up to its places, its areas, and the newest.
+// Its looks and its title.
 fn titled(out: &mut [u8], at: usize, id: WindowId, w: WindowRecord) -> usize
     ensures { λ n. ⌜ Laid (now (out .entry)) at (titledText id w) (now (out .exit)) n ⌝ }
 {
@@ -103,6 +110,7 @@ fn titled(out: &mut [u8], at: usize, id: WindowId, w: WindowRecord) -> usize
     words(out, n, b" title=", w.title)
 }
 
+// Its client area and its margins.
 fn inner(out: &mut [u8], at: usize, w: WindowRecord) -> usize
     ensures { λ n. ⌜ Laid (now (out .entry)) at (innerText w) (now (out .exit)) n ⌝ }
 {
@@ -117,6 +125,7 @@ fn inner(out: &mut [u8], at: usize, w: WindowRecord) -> usize
     )
 }
 
+// Its root parent and its places.
 fn outer(out: &mut [u8], at: usize, w: WindowRecord) -> usize
     ensures { λ n. ⌜ Laid (now (out .entry)) at (outerText w) (now (out .exit)) n ⌝ }
 {
@@ -124,6 +133,7 @@ fn outer(out: &mut [u8], at: usize, w: WindowRecord) -> usize
     places(out, n, w.window_offset, w.client_delta, w.window_size)
 }
 
+// Its rectangles and those of its visible part.
 fn areas(out: &mut [u8], at: usize, w: WindowRecord) -> usize
     ensures { λ n. ⌜ Laid (now (out .entry)) at (areasText w) (now (out .exit)) n ⌝ }
 {
@@ -132,6 +142,7 @@ fn areas(out: &mut [u8], at: usize, w: WindowRecord) -> usize
     rectangles(out, n, b" vis_rects=", w.visibility_rects)
 }
 
+// What newer servers say of it besides.
 fn newest(out: &mut [u8], at: usize, w: NewerRecord) -> usize
     ensures { λ n. ⌜ Laid (now (out .entry)) at (newestText w) (now (out .exit)) n ⌝ }
 {
@@ -146,6 +157,7 @@ fn newest(out: &mut [u8], at: usize, w: NewerRecord) -> usize
     )
 }
 
+// All its fields.
 fn fields(out: &mut [u8], at: usize, id: WindowId, w: WindowRecord) -> usize
     ensures { λ n. ⌜ Laid (now (out .entry)) at (fieldsText id w) (now (out .exit)) n ⌝ }
 {
@@ -156,6 +168,7 @@ fn fields(out: &mut [u8], at: usize, id: WindowId, w: WindowRecord) -> usize
     newest(out, n, w.newer)
 }
 
+// Its small and its big icon, and the overlay of the one on the taskbar.
 fn icons(out: &mut [u8], at: usize, w: WindowRecord, bytes: &[u8; FOUND]) -> usize
     ensures { λ n. ⌜ Laid (now (out .entry)) at (iconsText w (now (bytes .entry))) (now (out .exit)) n ⌝ }
 {
@@ -164,12 +177,14 @@ fn icons(out: &mut [u8], at: usize, w: WindowRecord, bytes: &[u8; FOUND]) -> usi
     icon(out, n, b" overlay=", w.newer.overlay, bytes, OVERLAY)
 }
 
+// The pixels that it covers.
 fn pixels(out: &mut [u8], at: usize, bytes: &[u8; FOUND]) -> usize
     ensures { λ n. ⌜ Laid (now (out .entry)) at (pixelsText (now (bytes .entry))) (now (out .exit)) n ⌝ }
 {
     print::field(out, at, b" pixels=", wire::read_u32(bytes, PIXELS) as u64)
 }
 
+// The window that the bytes are.
 pub(crate) fn line(out: &mut [u8], at: usize, id: WindowId, bytes: &[u8; FOUND]) -> usize
     ensures { λ n. ⌜ Laid (now (out .entry)) at (windowText id (now (bytes .entry))) (now (out .exit)) n ⌝ }
 {
