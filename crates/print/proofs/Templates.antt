@@ -9,23 +9,23 @@ use lib.IntN.{ℤ, pos}
 use borrow.Author.Tests.{ne-eqb}
 use Rattle.print.specs.Laid.{Laid}
 use Rattle.print.specs.Texts.{decimalText, signedText}
-use Rattle.print.specs.Templates.{standsFor, nextAfter, fillFrom, fillText}
+use Rattle.print.specs.Templates.{numberMark, signedMark, standsFor, nextAfter, fillFrom, fillText}
 use Rattle.print.proofs.Laid.{as-text, then, nothing}
 
 -- ---- what a byte stands for
 
 module _ {d x : List ℕ} {at n b : ℕ} (v : ℕ) (z : ℤ) where
-  pub a-number : b ≡ 35 → Laid d at (decimalText v) x n → Laid d at (standsFor b v z) x n
+  pub a-number : b ≡ numberMark → Laid d at (decimalText v) x n → Laid d at (standsFor b v z) x n
   unfolding standsFor
   a-number e l = as-text (sym (rw e refl)) l
 
-  pub a-signed : (b ≡ 35 → ⊥) → b ≡ 126 → Laid d at (signedText z) x n → Laid d at (standsFor b v z) x n
+  pub a-signed : (b ≡ numberMark → ⊥) → b ≡ signedMark → Laid d at (signedText z) x n → Laid d at (standsFor b v z) x n
   unfolding standsFor
   a-signed h e l = as-text (sym (rw e refl)) l
 
-  pub a-byte : (b ≡ 35 → ⊥) → (b ≡ 126 → ⊥) → Laid d at (b ∷ []) x n → Laid d at (standsFor b v z) x n
+  pub a-byte : (b ≡ numberMark → ⊥) → (b ≡ signedMark → ⊥) → Laid d at (b ∷ []) x n → Laid d at (standsFor b v z) x n
   unfolding standsFor
-  a-byte h i l = as-text (sym (rw (ne-eqb b 35 h, ne-eqb b 126 i) refl)) l
+  a-byte h i l = as-text (sym (rw (ne-eqb b numberMark h, ne-eqb b signedMark i) refl)) l
 
 -- ---- the bytes that are left
 
@@ -40,7 +40,7 @@ module _ (t ns : List ℕ) (zs : List ℤ) (d : List ℕ) (at : ℕ) where
 
   module _ (x : List ℕ) (n k j i : ℕ) (w : Left t ns zs d at x n k j i) where
     pub next-left : {y : List ℕ} {m b k' j' : ℕ} (v : ℕ) (z : ℤ) → i < length t → b ≡ getD t i 0 → v ≡ getD ns k 0 → z ≡ getD zs j (pos 0)
-        → Laid x n (standsFor b v z) y m → k' ≡ nextAfter k b 35 → j' ≡ nextAfter j b 126 → Left t ns zs d at y m k' j' (i + 1)
+        → Laid x n (standsFor b v z) y m → k' ≡ nextAfter k b numberMark → j' ≡ nextAfter j b signedMark → Left t ns zs d at y m k' j' (i + 1)
     unfolding fillFrom
     next-left {b = b} v z h eb ev ez l ek ej y' m' l' =
         w y' m' (as-text (sym (rw (drop-cons t i 0 h, add-one i, ← eb, ← ev, ← ez, ek, ej) refl)) (then l l'))

@@ -17,9 +17,16 @@ asciiFrom (suc n) i s = code (charAt s i) ∷ asciiFrom n (suc i) s
 unfoldable pub ascii : String → List ℕ
 ascii s = asciiFrom (len s) 0 s
 
--- what a byte of a template stands for: `#` for a number, `~` for one that may be negative
+-- the byte that stands for a number, and the one for a number that may be negative
+abbrev pub numberMark : ℕ
+numberMark = code "#"
+
+abbrev pub signedMark : ℕ
+signedMark = code "~"
+
+-- what a byte of a template stands for
 unfoldable pub standsFor : ℕ → ℕ → ℤ → List ℕ
-standsFor b v z = pick (eqb b 35) (decimalText v) (pick (eqb b 126) (signedText z) (b ∷ []))
+standsFor b v z = pick (eqb b numberMark) (decimalText v) (pick (eqb b signedMark) (signedText z) (b ∷ []))
 
 -- which number is next after the byte b, of those that the byte mark stands for
 unfoldable pub nextAfter : ℕ → ℕ → ℕ → ℕ
@@ -28,7 +35,7 @@ nextAfter k b mark = pick (eqb b mark) (k + 1) k
 -- a template with numbers from index k on and signed numbers from index j on; past the last stands 0
 unfoldable pub fillFrom : List ℕ → List ℕ → List ℤ → ℕ → ℕ → List ℕ
 fillFrom [] ns zs k j = []
-fillFrom (b ∷ t) ns zs k j = standsFor b (getD ns k 0) (getD zs j (pos 0)) ++ fillFrom t ns zs (nextAfter k b 35) (nextAfter j b 126)
+fillFrom (b ∷ t) ns zs k j = standsFor b (getD ns k 0) (getD zs j (pos 0)) ++ fillFrom t ns zs (nextAfter k b numberMark) (nextAfter j b signedMark)
 
 -- `a=#,~` with 7 and -8 is `a=7,-8`
 unfoldable pub fillText : List ℕ → List ℕ → List ℤ → List ℕ
