@@ -25,7 +25,7 @@ use Rattle.area.proofs.Counting.{sum-none}
 use Rattle.figure.specs.declared.Figure.{Figure}
 use Rattle.figure.specs.Figure.{isShown, pixelsOf, idEnd, ofWindow, figureBy}
 use Rattle.table.specs.Table.{Table, emptied, number, recordFields, fieldsAfter, shownAfter, changeRecord, desktopAfter, changeDesktop, after}
-use Rattle.session.specs.TableFigure.{unmarked, windowIn, figureIn}
+use Rattle.present.specs.TableFigure.{unmarked, windowIn, figureIn}
 use Rattle.session.specs.Calls.{deliver}
 use Rattle.model.specs.Book.{newBook, makes, tableOf, bytesOf, bookNext, bookAfter, bookAnswer, bookAnswers}
 use Rattle.cases.specs.Cases.{places, newA, desktopNoneOrder, windowA, nothingShown, CasesHold}

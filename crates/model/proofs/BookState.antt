@@ -16,9 +16,9 @@ use Rattle.table.specs.Table.{Table, emptied, number, after}
 use Rattle.table.specs.Memory.{fixedBy}
 use Rattle.journal.specs.Limits.{mostOrders, mostBytes}
 use Rattle.journal.specs.State.{State, run, present, bytesIn}
+use Rattle.present.specs.TableFigure.{figureIn}
 use Rattle.session.specs.declared.LookupTarget.{LookupTarget}
 use Rattle.session.specs.declared.LookupTarget.the-variants.{Window, Notification, Cell, Desktop, Windows, Notifications, Shares}
-use Rattle.session.specs.TableFigure.{figureIn}
 use Rattle.session.specs.Calls.{Call, reset, deliver, checkpoint, undo, look, writeRecord, Payload, nothing, listed, desktop, picture, ids, orders, shared, Answer, refuse, grant, overFull, without, aPicture, cellNumber, holderOf, iconsShown, sharedIn, recordIn, payloadIn, found, answer, next}
 use Rattle.model.specs.Book.{Book, newBook, makes, tableOf, bytesOf, hasRoom, joined, markMoved, lastGone, says, refuses, givesRecord, givesShared, givesPicture, bookNext, bookAnswer}
 

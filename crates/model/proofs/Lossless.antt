@@ -26,7 +26,7 @@ use Rattle.layout.proofs.LayoutsParts.{valid-older, valid-newer, parts-tell, ke
 use Rattle.shown.specs.Shown.{isThere, shownBytes}
 use Rattle.figure.specs.declared.Figure.{Figure}
 use Rattle.figure.specs.Figure.{pixelsOf, figureBytes}
-use Rattle.session.specs.TableFigure.{unmarked}
+use Rattle.present.specs.TableFigure.{unmarked}
 use Rattle.session.specs.Calls.{listed, desktop, picture, ids, shared}
 use Rattle.session.specs.Outcome.{firstThere, secondThere, pixelsSize, listedBytes, payloadBytes}
 use Rattle.model.specs.Lossless.{ValidPicture, ValidShown, ValidFigure, nothing-shown, shown, absent, window, notification, cell, desktopState, windows, notifications, shares, LayoutLosesNothing}

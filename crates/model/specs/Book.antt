@@ -14,8 +14,8 @@ use Rattle.ids.specs.Ids.{idsIn}
 use Rattle.table.specs.Table.{Table, emptied, number, after}
 use Rattle.table.specs.Memory.{fixedBy}
 use Rattle.journal.specs.Limits.{mostOrders, mostBytes}
+use Rattle.present.specs.TableFigure.{figureIn}
 use Rattle.session.specs.declared.LookupTarget.the-variants.{Window, Notification, Cell, Desktop, Windows, Notifications, Shares}
-use Rattle.session.specs.TableFigure.{figureIn}
 use Rattle.session.specs.Calls.{Call, reset, deliver, checkpoint, undo, look, writeRecord, Payload, nothing, listed, desktop, picture, ids, orders, shared, Answer, cellNumber, holderOf, iconsShown}
 
 -- how many places emptying fixed, and a list of standing orders with a mark in it: those up to the mark, and those after it

@@ -40,17 +40,17 @@ use Rattle.journal.specs.View.{Memory, meetsRule, stateOf, viewOf}
 use Rattle.journal.specs.Replay.{extentOf, markedPictures, sincePictures, headIsOk, Validation}
 use Rattle.journal.proofs.Logged.{markedIn, logged-view}
 use Rattle.journal.proofs.Indexed.{Indexed, Followed, indexed}
+use Rattle.present.specs.TableFigure.{figureIn}
+use Rattle.present.specs.PresentFigure.{Followable, figureHeld, noFigure, PresentHasFigure}
+use Rattle.present.proofs.PresentFigure.{present-has-figure}
 use Rattle.session.specs.declared.Reply.{Reply}
 use Rattle.session.specs.declared.LookupTarget.{LookupTarget}
 use Rattle.session.specs.declared.LookupTarget.the-variants.{Window, Notification, Cell, Desktop, Windows, Notifications, Shares}
 use Rattle.session.specs.Calls.{look, nothing, ids, shared, refuse, grant, aPicture, cellNumber, holderOf, payloadIn, found, answer, next, answerView, nextView}
 use Rattle.session.specs.Outcome.{lookup, handed, layoutSize, replyOf, answerWithin, outAfter, responseOf, CallOutcome}
-use Rattle.session.specs.TableFigure.{figureIn}
-use Rattle.session.specs.PresentFigure.{Followable, figureHeld, noFigure, figureFor, PresentHasFigure}
-use Rattle.session.specs.Targets.{wantOf, listedIn, payloadHeld}
+use Rattle.session.specs.Targets.{wantOf, listedIn, figureFor, payloadHeld}
 use Rattle.session.specs.Handing.{refusalOf, picturesFor, bytesHeld, validHeld, ReadyFor, HandsOut}
 use Rattle.session.proofs.Targets.{shares-by}
-use Rattle.session.proofs.PresentFigure.{present-has-figure}
 use Rattle.session.proofs.Handed.{cell-some}
 use Rattle.session.proofs.Outcomes.{answer-in, next-in, refused-in, reply-in, stays}
 

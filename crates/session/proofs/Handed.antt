@@ -39,12 +39,12 @@ use Rattle.figure.specs.declared.Figure.{Figure}
 use Rattle.figure.specs.Figure.{figureLength, figureBytes}
 use Rattle.follow.specs.Follow.{heldSlot}
 use Rattle.shown.specs.Shown.{isThere, shows, shownBytes, heldPictures, Ready}
+use Rattle.present.specs.PresentFigure.{noFigure}
 use Rattle.session.specs.declared.PictureHolder.{PictureHolder}
 use Rattle.session.specs.declared.LookupTarget.{LookupTarget}
 use Rattle.session.specs.declared.LookupTarget.the-variants.{Window, Notification, Cell, Desktop, Windows, Notifications, Shares}
 use Rattle.session.specs.Calls.{aPicture, cellNumber, holderOf}
 use Rattle.session.specs.Outcome.{windowBytes, listedBytes, payloadBytes}
-use Rattle.session.specs.PresentFigure.{noFigure}
 use Rattle.session.specs.Targets.{wantOf, listedIn, payloadHeld}
 use Rattle.session.specs.Handing.{markedPicture, recordsHeld, bytesHeld, validHeld, ReadyFor, HandsOut}
 use Rattle.session.proofs.Targets.{slot-below, shares-by, no-pointer}

@@ -22,14 +22,14 @@ use Rattle.figure.proofs.FigureBytes.{half, lower-half}
 use Rattle.table.specs.Memory.{shownIn}
 use Rattle.follow.specs.Follow.{heldSlot}
 use Rattle.shown.specs.Shown.{isThere, shownBytes}
+use Rattle.present.specs.PresentFigure.{noFigure}
+use Rattle.present.specs.TableFigure.{unmarked}
+use Rattle.present.proofs.PresentFigure.{pixels-unmarked}
 use Rattle.session.specs.declared.LookupTarget.the-variants.{Window}
 use Rattle.session.specs.Outcome.{pixelsStart, pixelsSize, picturesBytes, windowBytes, listedBytes, payloadBytes}
-use Rattle.session.specs.PresentFigure.{noFigure}
 use Rattle.session.specs.Targets.{payloadHeld}
-use Rattle.session.specs.TableFigure.{unmarked}
 use Rattle.session.specs.Handing.{picturesFor, recordsHeld, bytesHeld, HandsOut}
 use Rattle.session.proofs.Handed.{length-shown}
-use Rattle.session.proofs.PresentFigure.{pixels-unmarked}
 
 -- ---- a window
 

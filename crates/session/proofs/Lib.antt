@@ -6,9 +6,7 @@ pub mod Deliveries
 pub mod Changes
 pub mod Recorded
 pub mod Targets
-pub mod PresentFigure
 pub mod Handed
 pub mod HandedFigures
 pub mod Found
 pub mod HolderKinds
-pub mod TouchedStays

@@ -1,9 +1,13 @@
--- A lookup's target by its kind: what is followed for it, whether an index lists it; and holders by their numbers. Assumes nothing.
+-- A lookup's target by its kind: what is followed for it, the figure that goes with it, whether an index lists it; and holders by
+-- their numbers. Assumes nothing.
 use mathlib.Core.Path.{_≡_, refl, sym, ap, _∙_}
 use mathlib.Core.Bool.{Bool, true, false, not}
-use mathlib.Core.List.{List}
+use mathlib.Core.List.{List, [], _∷_}
+use mathlib.Core.Logic.{inl, inr}
 use Prim.Native.Nat.{ℕ, _+_, _*_, _≤_, _<_}
 use native.Mathlib.Omega.{arith}
+use denote.Enum.Declared.{tagOf}
+use types.Run.{OneOf}
 use lib.Dec.{eqb}
 use lib.ListN.{getD}
 use borrow.Author.Tests.{lt-ltb, le-ltb}
@@ -25,17 +29,20 @@ use Rattle.slots.specs.Slots.{isAt, slotOf, searchOf}
 use Rattle.slots.proofs.Ways.{found-is}
 use Rattle.slots.proofs.Soundness.{found-within}
 use Rattle.index.specs.Memory.{indexOf}
+use Rattle.figure.specs.declared.Figure.{Figure}
 use Rattle.follow.specs.declared.Want.{Want}
 use Rattle.follow.specs.declared.Want.the-variants as want
 use Rattle.follow.specs.Follow.{roomFor}
+use Rattle.present.specs.PresentFigure.{noFigure}
 use Rattle.session.specs.declared.PictureHolder.{PictureHolder}
 use Rattle.session.specs.declared.PictureHolder.the-variants as holder
 use Rattle.session.specs.declared.LookupTarget.{LookupTarget}
 use Rattle.session.specs.declared.LookupTarget.the-variants.{Window, Notification, Cell, Desktop, Windows, Notifications, Shares}
 use Rattle.session.specs.Calls.{inCaches, cellNumber, holderOf}
 use Rattle.session.specs.Outcome.{layoutSize}
-use Rattle.session.specs.Targets.{wantOf, listedIn}
+use Rattle.session.specs.Targets.{wantOf, listedIn, figureFor}
 use Rattle.session.specs.Handing.{refusalOf}
+use Rattle.session.proofs.LookupTarget.{the-type}
 
 -- ---- the cell
 
@@ -49,6 +56,29 @@ cell-inside cache entry e = rw e
 
 pub wanted-as : {target v : LookupTarget} {x : Want} → target ≡ v → x ≡ wantOf v → x ≡ wantOf target
 wanted-as e f = f ∙ ap wantOf (sym e)
+
+-- ---- the figure that goes with it
+
+pub figure-as : (x index bodies journal : List ℕ) (n : ℕ) {target v : LookupTarget} {f : Figure} → target ≡ v → f ≡ figureFor v x index bodies journal n
+    → f ≡ figureFor target x index bodies journal n
+figure-as x index bodies journal n e g = g ∙ ap (λ (t : LookupTarget). figureFor t x index bodies journal n) (sym e)
+
+-- with no other target than the desktop state, by its tag
+pub figure-other : (x index bodies journal : List ℕ) (n : ℕ) (target : LookupTarget) → OneOf (0 ∷ 1 ∷ 2 ∷ 4 ∷ 5 ∷ 6 ∷ []) (tagOf the-type target)
+    → noFigure ≡ figureFor target x index bodies journal n
+unfolding figureFor
+figure-other x index bodies journal n (Window w) k = refl
+figure-other x index bodies journal n (Notification w i) k = refl
+figure-other x index bodies journal n (Cell cache entry) k = refl
+figure-other x index bodies journal n Desktop (inl e) = absurd (omega (arith, e))
+figure-other x index bodies journal n Desktop (inr (inl e)) = absurd (omega (arith, e))
+figure-other x index bodies journal n Desktop (inr (inr (inl e))) = absurd (omega (arith, e))
+figure-other x index bodies journal n Desktop (inr (inr (inr (inl e)))) = absurd (omega (arith, e))
+figure-other x index bodies journal n Desktop (inr (inr (inr (inr (inl e))))) = absurd (omega (arith, e))
+figure-other x index bodies journal n Desktop (inr (inr (inr (inr (inr e))))) = absurd (omega (arith, e))
+figure-other x index bodies journal n Windows k = refl
+figure-other x index bodies journal n Notifications k = refl
+figure-other x index bodies journal n (Shares g h) k = refl
 
 -- ---- holders by their numbers
 

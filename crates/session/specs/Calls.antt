@@ -17,11 +17,11 @@ use Rattle.table.specs.Memory.{fixedBy}
 use Rattle.journal.specs.Limits.{mostOrders, mostBytes}
 use Rattle.journal.specs.State.{State, present, bytesIn}
 use Rattle.journal.specs.View.{View, short, unformed, formed}
+use Rattle.present.specs.TableFigure.{figureIn}
 use Rattle.session.specs.declared.PictureHolder.{PictureHolder}
 use Rattle.session.specs.declared.PictureHolder.the-variants as holder
 use Rattle.session.specs.declared.LookupTarget.{LookupTarget}
 use Rattle.session.specs.declared.LookupTarget.the-variants.{Window, Notification, Cell, Desktop, Windows, Notifications, Shares}
-use Rattle.session.specs.TableFigure.{figureIn}
 
 -- document 01's emptying, with so many places lent, delivery, mark, step back and looking up; writing the session record
 pub data Call : Type 0 where

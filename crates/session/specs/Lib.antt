@@ -1,12 +1,9 @@
-pub mod TableFigure
 pub mod Calls
 pub mod Holders
 pub mod Outcome
 pub mod Mark
 pub mod Standing
 pub mod Delivery
-pub mod PresentFigure
 pub mod Targets
 pub mod Handing
 pub mod Packed
-pub mod Touched

@@ -17,10 +17,10 @@ use Rattle.shown.specs.Shown.{isThere, shownBytes}
 use Rattle.figure.specs.Figure.{pixelsOf, figureLength, figureBytes}
 use Rattle.journal.specs.View.{Memory, Past, viewOf}
 use Rattle.record.specs.Layout.{recordOf, mostRecord}
+use Rattle.present.specs.TableFigure.{unmarked}
 use Rattle.session.specs.declared.Reply.{Reply}
 use Rattle.session.specs.declared.LookupTarget.{LookupTarget}
 use Rattle.session.specs.declared.LookupTarget.the-variants.{Window, Notification, Cell, Desktop, Windows, Notifications, Shares}
-use Rattle.session.specs.TableFigure.{unmarked}
 use Rattle.session.specs.Calls.{Call, reset, deliver, checkpoint, undo, look, writeRecord, Payload, nothing, listed, desktop, picture, ids, orders, shared, Answer, refuse, answerView, nextView}
 
 -- a call and the output memory lent with it: none for a call that hands nothing out

@@ -1,5 +1,5 @@
--- A lookup's target: what is followed for it, whether an index lists it, and what the memory that holds it hands out. Assumes
--- nothing.
+-- A lookup's target: what is followed for it, whether an index lists it, the figure that goes with it, and what the memory that
+-- holds it hands out. Assumes nothing.
 use Prim.Native.Nat.{ℕ}
 use mathlib.Core.Bool.{Bool, true}
 use mathlib.Core.List.{List, [], _∷_}
@@ -18,6 +18,7 @@ use Rattle.follow.specs.declared.Want.{Want}
 use Rattle.follow.specs.declared.Want.the-variants as want
 use Rattle.follow.specs.Follow.{heldSlot}
 use Rattle.figure.specs.declared.Figure.{Figure}
+use Rattle.present.specs.PresentFigure.{figureHeld, noFigure}
 use Rattle.session.specs.declared.LookupTarget.{LookupTarget}
 use Rattle.session.specs.declared.LookupTarget.the-variants.{Window, Notification, Cell, Desktop, Windows, Notifications, Shares}
 use Rattle.session.specs.Calls.{Payload, listed, desktop, ids, shared, aPicture, cellNumber, holderOf}
@@ -40,6 +41,16 @@ listedIn Desktop d = true
 listedIn Windows d = true
 listedIn Notifications d = true
 listedIn (Shares g k) d = both (d .sharing .shares (holderOf g) (holderOf g)) (d .sharing .shares (holderOf k) (holderOf k))
+
+-- the figure that is handed out with a target: with the desktop state alone
+unfoldable pub figureFor : LookupTarget → List ℕ → List ℕ → List ℕ → List ℕ → ℕ → Figure
+figureFor (Window w) x index bodies journal n = noFigure
+figureFor (Notification w k) x index bodies journal n = noFigure
+figureFor (Cell cache entry) x index bodies journal n = noFigure
+figureFor Desktop x index bodies journal n = figureHeld x index bodies journal n
+figureFor Windows x index bodies journal n = noFigure
+figureFor Notifications x index bodies journal n = noFigure
+figureFor (Shares g k) x index bodies journal n = noFigure
 
 -- the pictures of a record's icons
 abbrev pub iconsHeld : List ℕ → (ℕ → List ℕ) → Family → ℕ → ℕ → List (Option (List ℕ))

@@ -6,10 +6,10 @@ use protocol::WindowId;
 
 pub mod calls;
 mod extents;
+mod figures;
 pub mod holders;
 pub mod lookups;
 pub mod packed;
-mod present;
 pub mod records;
 mod replies;
 

@@ -19,9 +19,9 @@ use Rattle.journal.specs.Limits.{logStart}
 use Rattle.journal.specs.State.{present}
 use Rattle.journal.specs.View.{Memory, View, short, unformed, formed, tooShort, wellFormed, meetsRule, viewOf}
 use Rattle.journal.proofs.Logged.{Logged, markedIn, logged-view}
+use Rattle.present.specs.TableFigure.{figureIn}
 use Rattle.session.specs.declared.Reply.{Reply}
 use Rattle.session.specs.Calls.{checkpoint, nothing, refuse, next, nextView}
-use Rattle.session.specs.TableFigure.{figureIn}
 use Rattle.session.specs.Outcome.{replyOf}
 use Rattle.session.proofs.Outcomes.{reply-in}
 use Rattle.visible.specs.TableFigure.{MemoryHasFigure}

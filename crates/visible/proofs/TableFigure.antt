@@ -17,9 +17,9 @@ use Rattle.area.specs.Area.{sumBelow}
 use Rattle.area.proofs.Counting.{sum-cong}
 use Rattle.figure.specs.Figure.{pixelsOf, windowAt, idEnd, ofWindow, figureBy, windowBy}
 use Rattle.figure.proofs.FigureIds.{places-dont-count}
-use Rattle.session.specs.TableFigure.{unmarked, windowIn, figureIn}
-use Rattle.session.specs.PresentFigure.{shownOne}
-use Rattle.session.proofs.PresentFigure.{shown-unmarked, pixels-unmarked}
+use Rattle.present.specs.TableFigure.{unmarked, windowIn, figureIn}
+use Rattle.present.specs.PresentFigure.{shownOne}
+use Rattle.present.proofs.PresentFigure.{shown-unmarked, pixels-unmarked}
 use Rattle.visible.specs.TableFigure.{MemoryHasFigure}
 
 -- a number of each window that its marks do not change, added up over the ids

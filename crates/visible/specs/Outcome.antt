@@ -9,10 +9,10 @@ use Rattle.wire.specs.Parts.{splice}
 use Rattle.figure.specs.Figure.{figureLength, figureBytes}
 use Rattle.journal.specs.State.{State, present}
 use Rattle.journal.specs.View.{Memory, View, short, unformed, formed, viewOf}
+use Rattle.present.specs.TableFigure.{figureIn}
 use Rattle.session.specs.declared.Reply.{Reply}
 use Rattle.session.specs.Calls.{checkpoint, nothing, Answer, refuse, grant}
 use Rattle.session.specs.Outcome.{plain, replied, replyOf, CallOutcome}
-use Rattle.session.specs.TableFigure.{figureIn}
 
 -- 1 where the memory is too short or not well formed, then 14 where the output is too small
 unfoldable pub figureAnswer : View → ℕ → Answer

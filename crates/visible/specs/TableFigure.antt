@@ -7,7 +7,7 @@ use Rattle.wire.specs.Numbers.{Bytes}
 use Rattle.slots.specs.Sound.{soundIndex}
 use Rattle.figure.specs.Figure.{figureOf}
 use Rattle.table.specs.Memory.{decode}
-use Rattle.session.specs.TableFigure.{figureIn}
+use Rattle.present.specs.TableFigure.{figureIn}
 
 -- what is counted slot by slot in the memory of a table is its figure
 unfoldable pub MemoryHasFigure : Type 0

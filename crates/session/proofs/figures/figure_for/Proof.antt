@@ -1,13 +1,12 @@
 -- By the kind of the target.
 use native.Mathlib.Omega.{arith}
-use mathlib.Core.Path.{_∙_}
 use denote.Ref.{now}
 use Rattle.wire.specs.Numbers.{Bytes}
-use Rattle.session.specs.PresentFigure.{figureFor}
-use Rattle.session.proofs.PresentFigure.{figure-as, figure-other}
+use Rattle.session.specs.Targets.{figureFor}
+use Rattle.session.proofs.Targets.{figure-as, figure-other}
 use borrow.Author.Needs.{needs}
-use Rattle.session.proofs.present.figure_for.Statement.{statement}
-use Rattle.session.proofs.present.figure_for.Tie as tie
+use Rattle.session.proofs.figures.figure_for.Statement.{statement}
+use Rattle.session.proofs.figures.figure_for.Tie as tie
 
 bytes : (k : tie.After-shared-slice-known) → Bytes (now (k .before .args .x))
 bytes k = record { small = λ i. omega (arith, k .shared-slice-known .given i) }
@@ -19,12 +18,11 @@ figure-for-spec =
     (tie.spec
     (λ c. search needs)
     (λ c κs. search needs)
-    (λ c κs. search needs)
     (λ c.  -- returns
     let k = c .before .before .before .before .before .before in
     let a = k .before .args in
     (figure-as (now (a .x)) (now (a .index)) (now (a .bodies)) (now (a .journal)) (a .count) (c .before .enum-told .given .1) (c .count-held .ensures), bytes k))
     (λ c.  -- returns-2
-    let k = c .before .before .before .before .before in
+    let k = c .before .before .before .before in
     let a = k .before .args in
-    (c .none .ensures ∙ figure-other (now (a .x)) (now (a .index)) (now (a .bodies)) (now (a .journal)) (a .count) (a .target) (c .before .match .keys2), bytes k)))
+    (figure-other (now (a .x)) (now (a .index)) (now (a .bodies)) (now (a .journal)) (a .count) (a .target) (c .match .keys2), bytes k)))

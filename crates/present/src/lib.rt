@@ -2,16 +2,14 @@
 ghost use mathlib.Core.Path.{_≡_};
 ghost use Prim.Native.Nat.{_<_, _≤_};
 ghost use lib.ListN.{length};
-ghost use Rattle.wire.specs.Numbers.{Bytes};
 ghost use Rattle.places.specs.declared.Family.the-variants as family;
 ghost use Rattle.slots.specs.Families.{capacity};
 ghost use Rattle.body.specs.Bodies.{windowFields, bodyOf, slotOf};
 ghost use Rattle.figure.specs.Figure.{pixelsOf};
 ghost use Rattle.table.specs.Memory.{bodiesLength};
 ghost use Rattle.journal.specs.Limits.{journalLength, logStart};
-ghost use Rattle.session.specs.PresentFigure.{Followable, windowHeld, heldAt, shownOne, FigureIs, figureHeld, noFigure, figureFor};
-ghost use Rattle.session.specs.Touched.{isOrderFor, touchedFrom};
-use crate::LookupTarget;
+ghost use Rattle.present.specs.PresentFigure.{Followable, windowHeld, heldAt, shownOne, FigureIs, figureHeld, noFigure};
+ghost use Rattle.present.specs.Touched.{isOrderFor, touchedFrom};
 use figure::Figure;
 use follow::Want;
 use places::Family;
@@ -142,7 +140,7 @@ fn slot_held(
 }
 
 // How many windows of the index x are shown after the first count orders, and their pixels in all.
-fn count_held(x: &[u8], index: &[u8], bodies: &[u8], journal: &[u8], count: usize) -> Figure
+pub fn count_held(x: &[u8], index: &[u8], bodies: &[u8], journal: &[u8], count: usize) -> Figure
     requires { ⌜ Followable (now index) (now bodies) (now journal) ⌝ }
     ensures { λ r. ⌜ r ≡ figureHeld (now (x .entry)) (now (index .entry)) (now (bodies .entry)) (now (journal .entry)) count ⌝ }
 {
@@ -156,23 +154,4 @@ fn count_held(x: &[u8], index: &[u8], bodies: &[u8], journal: &[u8], count: usiz
         i += 1;
     }
     Figure { windows, pixels }
-}
-
-// The figure that is handed out with a target: with the desktop state that of the table whose index x is, else none. (That x holds
-// bytes is what its type says.)
-pub fn figure_for(
-    target: LookupTarget,
-    x: &[u8],
-    index: &[u8],
-    bodies: &[u8],
-    journal: &[u8],
-    count: usize,
-) -> Figure
-    requires { ⌜ Followable (now index) (now bodies) (now journal) ⌝ }
-    ensures { λ r. ⌜ (r ≡ figureFor target (now (x .entry)) (now (index .entry)) (now (bodies .entry)) (now (journal .entry)) count) × Bytes (now (x .entry)) ⌝ }
-{
-    match target {
-        LookupTarget::Desktop => count_held(x, index, bodies, journal, count),
-        _ => none(),
-    }
 }

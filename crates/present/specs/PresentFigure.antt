@@ -26,9 +26,7 @@ use Rattle.journal.specs.State.{present}
 use Rattle.journal.specs.Journal.{countOf}
 use Rattle.journal.specs.View.{Memory, meetsRule, stateOf}
 use Rattle.journal.specs.Replay.{fromMark}
-use Rattle.session.specs.declared.LookupTarget.{LookupTarget}
-use Rattle.session.specs.declared.LookupTarget.the-variants.{Window, Notification, Cell, Desktop, Windows, Notifications, Shares}
-use Rattle.session.specs.TableFigure.{figureIn}
+use Rattle.present.specs.TableFigure.{figureIn}
 
 -- what following from the mark asks of its memories
 pub record Followable (index bodies journal : List ℕ) : Type 0 where
@@ -73,13 +71,3 @@ PresentHasFigure =
 
 abbrev pub noFigure : Figure
 noFigure = record { windows = 0; pixels = 0 }
-
--- the figure that is handed out with a target: with the desktop state alone
-unfoldable pub figureFor : LookupTarget → List ℕ → List ℕ → List ℕ → List ℕ → ℕ → Figure
-figureFor (Window w) x index bodies journal n = noFigure
-figureFor (Notification w k) x index bodies journal n = noFigure
-figureFor (Cell cache entry) x index bodies journal n = noFigure
-figureFor Desktop x index bodies journal n = figureHeld x index bodies journal n
-figureFor Windows x index bodies journal n = noFigure
-figureFor Notifications x index bodies journal n = noFigure
-figureFor (Shares g k) x index bodies journal n = noFigure

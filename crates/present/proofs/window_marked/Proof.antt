@@ -1,10 +1,10 @@
-use Rattle.session.proofs.TouchedStays.{slot-part}
-use Rattle.session.proofs.PresentFigure.{slot-figure}
+use Rattle.present.proofs.TouchedStays.{slot-part}
+use Rattle.present.proofs.PresentFigure.{slot-figure}
 use denote.Ref.{now}
 use native.Mathlib.Omega.{arith}
 use borrow.Author.Needs.{needs}
-use Rattle.session.proofs.present.window_marked.Statement.{statement}
-use Rattle.session.proofs.present.window_marked.Tie as tie
+use Rattle.present.proofs.window_marked.Statement.{statement}
+use Rattle.present.proofs.window_marked.Tie as tie
 
 -- The part of the bodies is the slot.
 pub window-marked-spec : {M : Type 1} → statement M

@@ -1,9 +1,9 @@
 -- Nothing where its first byte is not 1; else the window of its id.
 use denote.Ref.{now}
-use Rattle.session.proofs.PresentFigure.{no-window, a-window}
+use Rattle.present.proofs.PresentFigure.{no-window, a-window}
 use borrow.Author.Needs.{needs}
-use Rattle.session.proofs.present.slot_held.Statement.{statement}
-use Rattle.session.proofs.present.slot_held.Tie as tie
+use Rattle.present.proofs.slot_held.Statement.{statement}
+use Rattle.present.proofs.slot_held.Tie as tie
 
 pub slot-held-spec : {M : Type 1} → statement M
 slot-held-spec =

@@ -1,13 +1,13 @@
 -- A window that no order of the journal is for stays as it was at the mark. Assumes nothing.
 use mathlib.Core.Path.{_≡_, refl, sym, ap, _∙_}
-use mathlib.Core.Bool.{Bool, true, false, not}
+use mathlib.Core.Bool.{Bool, true, false}
 use mathlib.Core.List.{List, [], _∷_}
 use Prim.Native.Nat.{ℕ, zero, suc, _+_, _-_, _≤_, _<_}
 use native.Mathlib.Omega.{arith}
 use lib.Dec.{eqb, ltb}
 use lib.ListN.{length, replicate, take, drop}
 use borrow.Author.Tests.{eq-eqb, ne-eqb, lt-ltb, le-ltb}
-use Rattle.wire.specs.Tests.{pick, both}
+use Rattle.wire.specs.Tests.{pick}
 use Rattle.wire.specs.Numbers.{numAt, Bytes}
 use Rattle.wire.specs.Parts.{slice, splice}
 use Rattle.wire.proofs.Numbers.{bytes-slice}
@@ -15,7 +15,6 @@ use Rattle.wire.proofs.Parts.{length-zeros}
 use Rattle.order.specs.declared.Judged.{Judged}
 use Rattle.order.specs.declared.Judged.the-variants.{Window, Notification, Desktop, Refused}
 use Rattle.order.specs.declared.WindowOrder.{WindowOrder}
-use Rattle.order.specs.Flags.{isWindow}
 use Rattle.order.specs.Judge.{flagsOf, judgeOf}
 use Rattle.order.proofs.Accepted.{a-window}
 use Rattle.protocol.specs.declared.WindowId.{WindowId}
@@ -23,7 +22,6 @@ use Rattle.places.specs.declared.Family.the-variants as family
 use Rattle.places.specs.declared.Found.{Found}
 use Rattle.places.specs.declared.Found.the-variants.{At, Nothing}
 use Rattle.places.specs.Counts.{onFound}
-use Rattle.places.specs.Holder.{sameFamily}
 use Rattle.slots.specs.declared.Searched.{Searched}
 use Rattle.slots.specs.Families.{indexLength, sameRecord}
 use Rattle.slots.specs.Slots as slots
@@ -45,7 +43,7 @@ use Rattle.figure.specs.Figure.{pixelsOf}
 use Rattle.table.specs.Changes.{Follows}
 use Rattle.table.proofs.Able.{plan-follows}
 use Rattle.follow.specs.declared.Want.the-variants as want
-use Rattle.follow.specs.Follow.{slotRoom, recordRoom, roomFor, heldSlot, isFor, slotFollowed, originsFollowed, recordFollowed, followedOf, beginRecord, beginOf}
+use Rattle.follow.specs.Follow.{slotRoom, recordRoom, heldSlot, isFor, slotFollowed, originsFollowed, recordFollowed, followedOf, beginRecord, beginOf}
 use Rattle.follow.proofs.Origins.{followed-before}
 use Rattle.follow.proofs.Following.{follow-length}
 use Rattle.follow.proofs.Rooms.{room-within, room-slot}
@@ -54,8 +52,8 @@ use Rattle.journal.specs.Limits.{journalLength, logStart}
 use Rattle.journal.specs.Journal.{sizeAt, orderAt}
 use Rattle.journal.specs.Replay.{Replay, indexAfter, followedAfter, stopped, replayFrom, fromMark}
 use Rattle.journal.proofs.Validations.{copy-sound}
-use Rattle.session.specs.PresentFigure.{windowHeld, shownOne, FigureIs}
-use Rattle.session.specs.Touched.{isOrderFor, touchedFrom}
+use Rattle.present.specs.PresentFigure.{windowHeld, shownOne, FigureIs}
+use Rattle.present.specs.Touched.{isOrderFor, touchedFrom}
 
 -- ---- one order
 

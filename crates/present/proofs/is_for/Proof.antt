@@ -1,6 +1,6 @@
 use borrow.Author.Needs.{needs}
-use Rattle.session.proofs.present.is_for.Statement.{statement}
-use Rattle.session.proofs.present.is_for.Tie as tie
+use Rattle.present.proofs.is_for.Statement.{statement}
+use Rattle.present.proofs.is_for.Tie as tie
 
 -- The two numbers are those of the definition.
 pub is-for-spec : {M : Type 1} → statement M

@@ -1,12 +1,12 @@
 use mathlib.Core.Path.{sym, _∙_}
 use Rattle.wire.proofs.Numbers.{Bytes}
 use Rattle.slots.proofs.Ways.{sound-long}
-use Rattle.session.proofs.TouchedStays.{found-slot, marked-figure}
+use Rattle.present.proofs.TouchedStays.{found-slot, marked-figure}
 use denote.Ref.{now}
 use native.Mathlib.Omega.{arith}
 use borrow.Author.Needs.{needs}
-use Rattle.session.proofs.present.window_held.Statement.{statement}
-use Rattle.session.proofs.present.window_held.Tie as tie
+use Rattle.present.proofs.window_held.Statement.{statement}
+use Rattle.present.proofs.window_held.Tie as tie
 
 -- It is followed, or no order is for it and the mark has it.
 pub window-held-spec : {M : Type 1} → statement M

@@ -1,10 +1,10 @@
 -- What its slot shows once it is followed.
 use denote.Ref.{now}
 use Rattle.wire.specs.Parts.{slice}
-use Rattle.session.proofs.PresentFigure.{window-figure}
+use Rattle.present.proofs.PresentFigure.{window-figure}
 use borrow.Author.Needs.{needs}
-use Rattle.session.proofs.present.window_followed.Statement.{statement}
-use Rattle.session.proofs.present.window_followed.Tie as tie
+use Rattle.present.proofs.window_followed.Statement.{statement}
+use Rattle.present.proofs.window_followed.Tie as tie
 
 pub window-followed-spec : {M : Type 1} → statement M
 unfolding slice

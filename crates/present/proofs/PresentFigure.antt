@@ -2,13 +2,10 @@
 -- the sums over the slots are those over the ids. Assumes nothing.
 use mathlib.Core.Path.{_≡_, refl, sym, ap, _∙_}
 use mathlib.Core.Bool.{Bool, true, false}
-use mathlib.Core.List.{List, [], _∷_}
-use mathlib.Core.Logic.{inl, inr}
+use mathlib.Core.List.{List}
 use Prim.Native.Nat.{ℕ, _+_, _≤_}
 use native.Mathlib.Omega.{arith}
 use mir.Val.{boolByte}
-use denote.Enum.Declared.{tagOf}
-use types.Run.{OneOf}
 use lib.ListN.{replicate}
 use borrow.Author.Tests.{eq-eqb, ne-eqb}
 use Rattle.wire.specs.Tests.{pick}
@@ -42,11 +39,8 @@ use Rattle.journal.specs.Journal.{countOf}
 use Rattle.journal.specs.View.{Memory, meetsRule, stateOf}
 use Rattle.journal.specs.Replay.{fromMark, Replayed}
 use Rattle.journal.proofs.Validations.{from-mark-means}
-use Rattle.session.specs.declared.LookupTarget.{LookupTarget}
-use Rattle.session.specs.declared.LookupTarget.the-variants.{Window, Notification, Cell, Desktop, Windows, Notifications, Shares}
-use Rattle.session.proofs.LookupTarget.{the-type}
-use Rattle.session.specs.TableFigure.{unmarked, windowIn, figureIn}
-use Rattle.session.specs.PresentFigure.{windowHeld, heldAt, shownOne, FigureIs, figureHeld, noFigure, figureFor, PresentHasFigure}
+use Rattle.present.specs.TableFigure.{unmarked, windowIn, figureIn}
+use Rattle.present.specs.PresentFigure.{windowHeld, heldAt, shownOne, FigureIs, figureHeld, noFigure, PresentHasFigure}
 
 -- ---- marks do not count
 
@@ -159,25 +153,3 @@ pub all-held : (x index bodies journal : List ℕ) (n : ℕ) {w p k : ℕ} → k
     → p ≡ sumBelow k (heldAt pixelsOf x index bodies journal n) → _≡_ {A = Figure} (record { windows = w; pixels = p }) (figureHeld x index bodies journal n)
 unfolding figureHeld
 all-held x index bodies journal n ek ew ep = rw (ew, ep, ek)
-
--- with a target
-pub figure-as : (x index bodies journal : List ℕ) (n : ℕ) {target v : LookupTarget} {f : Figure} → target ≡ v → f ≡ figureFor v x index bodies journal n
-    → f ≡ figureFor target x index bodies journal n
-figure-as x index bodies journal n e g = g ∙ ap (λ (t : LookupTarget). figureFor t x index bodies journal n) (sym e)
-
--- with no other target than the desktop state, by its tag
-pub figure-other : (x index bodies journal : List ℕ) (n : ℕ) (target : LookupTarget) → OneOf (0 ∷ 1 ∷ 2 ∷ 4 ∷ 5 ∷ 6 ∷ []) (tagOf the-type target)
-    → noFigure ≡ figureFor target x index bodies journal n
-unfolding figureFor
-figure-other x index bodies journal n (Window w) k = refl
-figure-other x index bodies journal n (Notification w i) k = refl
-figure-other x index bodies journal n (Cell cache entry) k = refl
-figure-other x index bodies journal n Desktop (inl e) = absurd (omega (arith, e))
-figure-other x index bodies journal n Desktop (inr (inl e)) = absurd (omega (arith, e))
-figure-other x index bodies journal n Desktop (inr (inr (inl e))) = absurd (omega (arith, e))
-figure-other x index bodies journal n Desktop (inr (inr (inr (inl e)))) = absurd (omega (arith, e))
-figure-other x index bodies journal n Desktop (inr (inr (inr (inr (inl e))))) = absurd (omega (arith, e))
-figure-other x index bodies journal n Desktop (inr (inr (inr (inr (inr e))))) = absurd (omega (arith, e))
-figure-other x index bodies journal n Windows k = refl
-figure-other x index bodies journal n Notifications k = refl
-figure-other x index bodies journal n (Shares g h) k = refl

@@ -7,11 +7,11 @@ use Rattle.area.specs.Area.{sumBelow}
 use Rattle.area.specs.Cutting.{mostPoints}
 use Rattle.figure.specs.Figure.{pixelsOf}
 use Rattle.figure.proofs.FigureSums.{sum-more, sum-zero}
-use Rattle.session.specs.PresentFigure.{heldAt, shownOne}
-use Rattle.session.proofs.PresentFigure.{all-held}
+use Rattle.present.specs.PresentFigure.{heldAt, shownOne}
+use Rattle.present.proofs.PresentFigure.{all-held}
 use borrow.Author.Needs.{needs}
-use Rattle.session.proofs.present.count_held.Statement.{statement}
-use Rattle.session.proofs.present.count_held.Tie as tie
+use Rattle.present.proofs.count_held.Statement.{statement}
+use Rattle.present.proofs.count_held.Tie as tie
 
 abbrev Inv-loop : tie.InvT-loop
 Inv-loop x index bodies journal count windows₀ pixels₀ i₀ windows pixels i =

@@ -2,9 +2,9 @@ use native.Mathlib.Omega.{arith}
 use Prim.Native.Nat.{_-_}
 use denote.Ref.{now}
 use borrow.Author.Needs.{needs}
-use Rattle.session.proofs.TouchedStays.{TouchInv, touch-start, touch-cut, touch-found, touch-next, touch-end}
-use Rattle.session.proofs.present.is_touched.Statement.{statement}
-use Rattle.session.proofs.present.is_touched.Tie as tie
+use Rattle.present.proofs.TouchedStays.{TouchInv, touch-start, touch-cut, touch-found, touch-next, touch-end}
+use Rattle.present.proofs.is_touched.Statement.{statement}
+use Rattle.present.proofs.is_touched.Tie as tie
 
 -- Whether one of the orders left is for the window is whether one of all is.
 abbrev Inv-loop : tie.InvT-loop

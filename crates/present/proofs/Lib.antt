@@ -1,0 +1,2 @@
+pub mod PresentFigure
+pub mod TouchedStays

@@ -1,0 +1,3 @@
+pub mod TableFigure
+pub mod PresentFigure
+pub mod Touched
