@@ -24,7 +24,7 @@ fn body_ok(bodies: &[u8], i: usize, low: usize, high: usize, m: u8) -> bool
 {
     let base = body::start(i);
     let end = body::start(i + 1);
-    body::sound(&bodies[base..end], low, high, m, m)
+    body_rule::sound(&bodies[base..end], low, high, m, m)
 }
 
 // Whether slot i holds a window, for the slots that windows have: their length is known to the compiler.
@@ -34,7 +34,7 @@ fn window_ok(bodies: &[u8], i: usize) -> bool
 {
     let base = body::WINDOW * i;
     let end = base + body::WINDOW;
-    body::window_sound(&bodies[base..end])
+    body_rule::window_sound(&bodies[base..end])
 }
 
 // Whether slot i of the windows is free or holds one.

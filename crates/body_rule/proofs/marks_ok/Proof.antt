@@ -1,10 +1,10 @@
-use Rattle.body.proofs.Ways.{marks-told}
+use Rattle.body_rule.proofs.Ways.{marks-told}
 use Rattle.wire.proofs.Numbers.{Bytes}
 use native.Mathlib.Omega.{arith}
 use denote.Ref.{now}
 use borrow.Author.Needs.{needs}
-use Rattle.body.proofs.marks_ok.Statement.{statement}
-use Rattle.body.proofs.marks_ok.Tie as tie
+use Rattle.body_rule.proofs.marks_ok.Statement.{statement}
+use Rattle.body_rule.proofs.marks_ok.Tie as tie
 
 -- Each byte of the number that is read is a mark.
 bytes : (u : tie.After-shared-slice-known) → Bytes (now (u .before .args .slot))

@@ -1,10 +1,10 @@
-use Rattle.body.proofs.Ways.{last-bytes}
+use Rattle.body_rule.proofs.Ways.{last-bytes}
 use Rattle.wire.proofs.Numbers.{Bytes}
 use native.Mathlib.Omega.{arith}
 use denote.Ref.{now}
 use borrow.Author.Needs.{needs}
-use Rattle.body.proofs.last_bytes.Statement.{statement}
-use Rattle.body.proofs.last_bytes.Tie as tie
+use Rattle.body_rule.proofs.last_bytes.Statement.{statement}
+use Rattle.body_rule.proofs.last_bytes.Tie as tie
 
 -- Each byte of the number that is read is a field, and its row says which numbers it takes.
 bytes : (u : tie.After-shared-slice-known) → Bytes (now (u .before .args .slot))

@@ -1,11 +1,11 @@
 -- As `sound`, of a window's rows and marks of 0.
-use Rattle.body.proofs.Ways.{marks-over, marks-within}
+use Rattle.body_rule.proofs.Ways.{marks-over, marks-within}
 use Rattle.rows.specs.Rows.{rowsFrom}
 use denote.Ref.{now}
 use borrow.Author.Needs.{needs}
 use borrow.Author.Tests.{not-true, not-false}
-use Rattle.body.proofs.window_sound.Statement.{statement}
-use Rattle.body.proofs.window_sound.Tie as tie
+use Rattle.body_rule.proofs.window_sound.Statement.{statement}
+use Rattle.body_rule.proofs.window_sound.Tie as tie
 
 pub window-sound-spec : {M : Type 1} → statement M
 window-sound-spec =

@@ -1,11 +1,11 @@
 -- The marks, and the fields.
-use Rattle.body.proofs.Ways.{marks-over, marks-within}
+use Rattle.body_rule.proofs.Ways.{marks-over, marks-within}
 use Rattle.rows.specs.Rows.{rowsFrom}
 use denote.Ref.{now}
 use borrow.Author.Needs.{needs}
 use borrow.Author.Tests.{not-true, not-false}
-use Rattle.body.proofs.sound.Statement.{statement}
-use Rattle.body.proofs.sound.Tie as tie
+use Rattle.body_rule.proofs.sound.Statement.{statement}
+use Rattle.body_rule.proofs.sound.Tie as tie
 
 pub sound-spec : {M : Type 1} → statement M
 sound-spec =

@@ -1,9 +1,9 @@
-use Rattle.body.proofs.Ways.{first-unset, first-rest}
+use Rattle.body_rule.proofs.Ways.{first-unset, first-rest}
 use denote.Ref.{now}
 use borrow.Author.Needs.{needs}
 use borrow.Author.Tests.{not-true, not-false}
-use Rattle.body.proofs.first_sets.Statement.{statement}
-use Rattle.body.proofs.first_sets.Tie as tie
+use Rattle.body_rule.proofs.first_sets.Statement.{statement}
+use Rattle.body_rule.proofs.first_sets.Tie as tie
 
 -- The show state by itself, then the others.
 pub first-sets-spec : {M : Type 1} → statement M

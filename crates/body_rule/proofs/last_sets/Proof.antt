@@ -1,8 +1,8 @@
-use Rattle.body.proofs.Ways.{last-sets}
+use Rattle.body_rule.proofs.Ways.{last-sets}
 use denote.Ref.{now}
 use borrow.Author.Needs.{needs}
-use Rattle.body.proofs.last_sets.Statement.{statement}
-use Rattle.body.proofs.last_sets.Tie as tie
+use Rattle.body_rule.proofs.last_sets.Statement.{statement}
+use Rattle.body_rule.proofs.last_sets.Tie as tie
 
 -- The overlay description and the bytes after it are the last rows.
 pub last-sets-spec : {M : Type 1} → statement M
