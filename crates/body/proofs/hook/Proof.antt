@@ -1,3 +1,4 @@
+-- 2 writes the mark, else nothing is written.
 use Rattle.body.proofs.Ways.{hook-none, hook-set}
 use denote.Ref.{now}
 use borrow.Author.Needs.{needs}

@@ -1,3 +1,4 @@
+-- Without an icon nothing is written, else the one mark.
 use Rattle.body.proofs.Ways.{point-none, point-set}
 use denote.Ref.{now}
 use borrow.Author.Needs.{needs}

@@ -1,3 +1,4 @@
+-- The rows of a window go by constants, any others row by row: the same definition.
 use Rattle.body.proofs.Ways.{is-window, window-long, window-well, window-stored}
 use denote.Ref.{now}
 use lib.ListN.{length}

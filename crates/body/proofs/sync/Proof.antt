@@ -1,3 +1,4 @@
+-- 8 writes the mark, else 4 clears it, else nothing is written.
 use Rattle.body.proofs.Ways.{sync-starts, sync-none, sync-ends}
 use denote.Ref.{now}
 use borrow.Author.Needs.{needs}

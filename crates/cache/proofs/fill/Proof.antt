@@ -1,3 +1,4 @@
+-- One copy, into the bytes of this cell.
 use Rattle.cache.specs.Cells.{fillOf, carriedPicture}
 use borrow.Author.Needs.{needs}
 use Rattle.cache.proofs.fill.Statement.{statement}

@@ -1,3 +1,4 @@
+-- The icon from its bits per pixel on, in one copy.
 use Rattle.cache.specs.Cells.{putOf, carriedPicture}
 use borrow.Author.Needs.{needs}
 use Rattle.cache.proofs.put.Statement.{statement}

@@ -1,3 +1,4 @@
+-- The rule of a picture, on the bytes of this cell.
 use native.Mathlib.Omega.{arith}
 use denote.Ref.{now}
 use mathlib.Core.Path.{_≡_, ap, _∙_}

@@ -1,3 +1,4 @@
+-- 2 and 3 by the length, then what the flags say.
 use Rattle.order.proofs.Verdicts.{numbered, too-short, other-length, framed}
 use denote.Ref.{now}
 use borrow.Author.Needs.{needs}

@@ -1,3 +1,4 @@
+-- The picture is cut, ends elsewhere, has a number outside its set, or the order is good.
 use Rattle.rows.proofs.Fields.{within-short, within-ends}
 use Rattle.order.proofs.Verdicts.{end-cut, end-over, end-bad, end-good}
 use denote.Ref.{now}

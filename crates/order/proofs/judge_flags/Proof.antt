@@ -1,3 +1,4 @@
+-- Each test is a line of the ladder, in its order: 4, 5, 6, then the fields.
 use Rattle.order.proofs.Verdicts.{other-byte, not-one, not-closed, clashing, flags-good}
 use borrow.Author.Tests.{not-true, not-false}
 use denote.Ref.{now}

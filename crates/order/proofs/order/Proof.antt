@@ -1,3 +1,4 @@
+-- The type bit chooses the kind.
 use Rattle.order.proofs.Verdicts.{order-window, order-notification, order-desktop}
 use denote.Ref.{now}
 use borrow.Author.Needs.{needs}

@@ -1,3 +1,4 @@
+-- Head and number, one after the other.
 use mathlib.Core.Path.{refl}
 use borrow.Author.Needs.{needs}
 use Rattle.pdu_write.proofs.Ways.{end, put, puts}

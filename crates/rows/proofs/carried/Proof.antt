@@ -1,3 +1,4 @@
+-- A field that is not flagged takes no bytes.
 use Rattle.rows.proofs.Table.{carried-none, carried-all}
 use Rattle.rows.specs.Rows.{kindRow, lenOf}
 use denote.Ref.{now}

@@ -1,3 +1,4 @@
+-- The count says how long the field is: it lies within the order or is cut.
 use Rattle.rows.proofs.Fields.{few, counted-ends, counted-short}
 use denote.Ref.{now}
 use native.Mathlib.Omega.{arith}

@@ -1,3 +1,4 @@
+-- The first number is cut, or the one in which the bytes that are left end.
 use Prim.Native.Nat.{_-_}
 use Rattle.rows.proofs.Fields.{pieces, cut-first, cut-later}
 use denote.Ref.{now}

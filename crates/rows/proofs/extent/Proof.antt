@@ -1,3 +1,4 @@
+-- Fixed bytes, and so many units as the count says.
 use Rattle.rows.proofs.Fields.{few}
 use Rattle.rows.proofs.Ended.{width-fixed, width-counted}
 use Rattle.rows.specs.Rows.{kindRow, Good}

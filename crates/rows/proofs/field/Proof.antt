@@ -1,3 +1,4 @@
+-- A field of fixed length lies within the order or is cut.
 use Rattle.rows.proofs.Fields.{fixed-ends, fixed-short}
 use denote.Ref.{now}
 use borrow.Author.Needs.{needs}

@@ -1,3 +1,4 @@
+-- What stood stays, else what is added.
 use Rattle.rows.proofs.Fields.{bad-none, bad-stood}
 use Rattle.rows.proofs.first_bad.Statement.{statement}
 use Rattle.rows.proofs.first_bad.Tie as tie

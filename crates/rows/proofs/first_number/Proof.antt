@@ -1,3 +1,4 @@
+-- The head is one byte or two.
 use Rattle.rows.proofs.Fields.{first-byte, first-word}
 use denote.Ref.{now}
 use borrow.Author.Needs.{needs}

@@ -1,3 +1,4 @@
+-- A row without a set takes any number, else its rule decides on the first one.
 use Rattle.rows.proofs.Fields.{in-any, in-rule}
 use Rattle.rows.specs.Rows.{kindRow, Good}
 use denote.Ref.{now}

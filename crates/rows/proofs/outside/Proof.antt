@@ -1,3 +1,4 @@
+-- In its set nothing is told, else its place.
 use Rattle.rows.proofs.Fields.{in-set, outside-set}
 use borrow.Author.Needs.{needs}
 use Rattle.rows.proofs.outside.Statement.{statement}

@@ -1,3 +1,4 @@
+-- The fixed bytes of the row and its highest count.
 use Rattle.rows.proofs.Table.{kind-room}
 use Rattle.rows.specs.Rows.{roomOf}
 use Rattle.rows.specs.declared.Row.{Row}

@@ -1,3 +1,4 @@
+-- Each kind has its row.
 use Rattle.rows.proofs.Table.{kind-row, kind-numbers}
 use mathlib.Core.Path.{refl, _∙_}
 use borrow.Author.Needs.{needs}

@@ -1,3 +1,4 @@
+-- A field that is not flagged takes no bytes, else it is walked over.
 use Rattle.rows.proofs.Fields.{step-absent, step-carried}
 use Rattle.rows.proofs.Table.{flag-is}
 use Rattle.rows.specs.Rows.{kindRow, fieldOf, Good}

@@ -1,3 +1,4 @@
+-- The packed reply is written as one number.
 use mathlib.Core.Path.{ap, _∙_}
 use Prim.Native.Nat.{ℕ}
 use denote.Ref.{now}

@@ -1,3 +1,4 @@
+-- Both halves of the report, one after the other.
 use mathlib.Core.Path.{ap, _∙_}
 use mathlib.Core.List.{List}
 use Prim.Native.Nat.{ℕ}

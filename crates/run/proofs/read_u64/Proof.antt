@@ -1,3 +1,4 @@
+-- Two numbers of four bytes, the upper one times 2^32.
 use native.Mathlib.Omega.{arith}
 use denote.Ref.{now}
 use Rattle.run.proofs.Calls.{num8-is}

@@ -1,3 +1,4 @@
+-- The call's own outcome, its reply packed.
 use mathlib.Core.Path.{refl}
 use denote.Ref.{now}
 use Rattle.session.specs.Calls.{reset}

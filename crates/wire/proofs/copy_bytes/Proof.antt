@@ -1,3 +1,4 @@
+-- After i turns the first i bytes stand where they belong.
 use mathlib.Core.Path.{_≡_, refl, _∙_}
 use mathlib.Core.List.{append-assoc}
 use Prim.Native.Nat.{_+_, _-_, _<_, _≤_}

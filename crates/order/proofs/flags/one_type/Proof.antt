@@ -1,3 +1,4 @@
+-- Of the three bits the count of ones is 1.
 use Rattle.order.proofs.TypeBits.{type-ones}
 use lib.Dec.{eqb}
 use Prim.Native.Nat.{ℕ}

@@ -1,3 +1,4 @@
+-- The two numbers read are those of the definition.
 use Rattle.order.proofs.Pictures.{cached-join}
 use denote.Ref.{now}
 use borrow.Author.Needs.{needs}

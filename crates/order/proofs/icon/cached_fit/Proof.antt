@@ -1,3 +1,4 @@
+-- Three bytes are left, or the number that is cut is told.
 use Prim.Native.Nat.{_-_}
 use Rattle.order.proofs.Pictures.{head-within, cached-ends, cached-short}
 use denote.Ref.{now}

@@ -1,3 +1,4 @@
+-- Entry, then cache id, as the definition asks them.
 use borrow.Author.Needs.{needs}
 use Rattle.order.proofs.icon.cached_numbers_bad.Statement.{statement}
 use Rattle.order.proofs.icon.cached_numbers_bad.Tie as tie

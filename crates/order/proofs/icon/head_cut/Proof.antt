@@ -1,3 +1,4 @@
+-- Under 2 bytes the entry is cut, under 4 a byte, else a number of 2.
 use Rattle.order.proofs.Pictures.{head-entry, head-byte, head-word}
 use borrow.Author.Needs.{needs}
 use Rattle.order.proofs.icon.head_cut.Statement.{statement}

@@ -1,3 +1,4 @@
+-- The numbers read are those of the definition.
 use native.Mathlib.Omega.{arith}
 use Rattle.order.proofs.Pictures.{icon-join, laid-is}
 use denote.Ref.{now}

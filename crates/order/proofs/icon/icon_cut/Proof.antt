@@ -1,3 +1,4 @@
+-- The first part that ends past the order is the one that is cut.
 use Prim.Native.Nat.{_-_}
 use Rattle.order.proofs.Pictures.{head-within, cut-head, cut-mask, cut-table, cut-color}
 use native.Mathlib.Omega.{arith}

@@ -1,3 +1,4 @@
+-- The parts end within the order, or one of them is cut.
 use Rattle.order.proofs.Pictures.{icon-ends, icon-short}
 use denote.Ref.{now}
 use borrow.Author.Needs.{needs}

@@ -1,3 +1,4 @@
+-- With a color table its length stands between the two others, without one there are two.
 use Rattle.order.proofs.Pictures.{parts-table, parts-plain}
 use denote.Ref.{now}
 use borrow.Author.Needs.{needs}

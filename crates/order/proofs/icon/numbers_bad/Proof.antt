@@ -1,3 +1,4 @@
+-- Each test is a line of the definition, in its order.
 use borrow.Author.Needs.{needs}
 use Rattle.order.proofs.icon.numbers_bad.Statement.{statement}
 use Rattle.order.proofs.icon.numbers_bad.Tie as tie

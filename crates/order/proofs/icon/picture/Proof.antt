@@ -1,3 +1,4 @@
+-- The flags choose icon, cached icon or none.
 use Rattle.rows.proofs.Fields.{within-of}
 use Rattle.order.proofs.Pictures.{picture-icon, picture-cached, picture-none, picture-within}
 use denote.Ref.{now}

@@ -1,3 +1,4 @@
+-- Not carried, outside its set, or past by its length.
 use Rattle.rows.proofs.Ended.{past-absent, past-outside, past-carried}
 use Rattle.rows.proofs.Table.{flag-is}
 use Rattle.wire.specs.Tests.{hasAll}

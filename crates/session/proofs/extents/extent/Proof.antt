@@ -1,3 +1,4 @@
+-- What validation answers with nothing looked up, in every store that lends so many places.
 use mathlib.Core.Path.{refl}
 use borrow.Author.Needs.{needs}
 use Rattle.session.proofs.extents.extent.Statement.{statement}

@@ -1,3 +1,4 @@
+-- The extent in the one store that these parts are.
 use mathlib.Core.Path.{sym}
 use denote.Ref.{now}
 use Rattle.store.specs.Store.{five}
