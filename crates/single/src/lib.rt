@@ -1,6 +1,6 @@
 // Orders that say one thing are judged at a glance, with no walk over fields: a window's delete, its icon or cached icon,
-// the desktop's stacking list with the active window. Where their fields end is told by the one table of rows. Nothing is said
-// of an order that is none of these: `order::judge` judges it.
+// the desktop's stacking list with the active window. Where their fields end is told by the one table of rows. Any other order,
+// and a bad one of these, is left to `order::judge`.
 ghost use mathlib.Core.Path.{_≡_};
 ghost use mathlib.Core.Bool.{true};
 ghost use Prim.Native.Nat.{_≤_};
