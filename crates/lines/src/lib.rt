@@ -16,7 +16,7 @@ pub mod records;
 mod windows;
 
 // The most bytes that a lookup hands out.
-pub const FOUND: usize = session::lookups::WINDOW;
+pub const FOUND: usize = lookups::WINDOW;
 
 // The kind and the number, and for a granted call the count and the bytes.
 pub fn reply(out: &mut [u8], kind: u8, r: Reply) -> usize

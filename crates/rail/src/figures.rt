@@ -2,7 +2,7 @@
 ghost use Rattle.store.specs.Store.{five};
 ghost use Rattle.journal.specs.View.{memory};
 ghost use Rattle.rail.specs.FigureExports.{FigureExport};
-use session::packed::packed;
+use replies::packed;
 
 // Writes the figure of the table at the mark to out: windows 4, pixels 8.
 #[no_mangle]

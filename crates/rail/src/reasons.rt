@@ -2,8 +2,8 @@
 ghost use Rattle.store.specs.Store.{five};
 ghost use Rattle.journal.specs.View.{memory};
 ghost use Rattle.rail.specs.Explanations.{ExplainExport};
+use replies::packed;
 use session::Reply;
-use session::packed::packed;
 
 // Explains an order: the number, and 65,536 times the offset of the field at fault (0 where the number is 0).
 #[no_mangle]

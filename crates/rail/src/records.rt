@@ -4,8 +4,8 @@ ghost use Rattle.journal.specs.View.{memory};
 ghost use Rattle.session.specs.Outcome.{recordTo};
 ghost use Rattle.rail.specs.States.{Exported};
 ghost use Rattle.rail.specs.RecordExports.{CheckExport, BodyExport};
+use replies::packed;
 use session::Reply;
-use session::packed::packed;
 
 // Writes the record of the orders since the checkpoint to out.
 #[no_mangle]
@@ -23,7 +23,7 @@ pub extern "C" fn rail_record_write(
     ensures { λ r. ⌜ Exported (recordTo (now (out .entry))) (memory (now (index .entry)) (now (bodies .entry)) (five (now (a .entry)) (now (b .entry)) (now (c .entry)) (now (d .entry)) (now (e .entry))) (now (journal .entry))) r (now (out .exit)) (memory (now (index .entry)) (now (bodies .entry)) (five (now (a .entry)) (now (b .entry)) (now (c .entry)) (now (d .entry)) (now (e .entry))) (now (journal .entry))) ⌝ }
 {
     let lent = store::places(a, b, c, d, e);
-    let r = session::records::write(index, bodies, lent, journal, out);
+    let r = state_calls::records::write(index, bodies, lent, journal, out);
     packed(r)
 }
 

@@ -8,13 +8,12 @@ ghost use Rattle.session.specs.Outcome.{plain, lookup};
 ghost use Rattle.session.specs.Holders.{holderFrom};
 ghost use Rattle.session.specs.declared.LookupTarget.the-variants.{Window, Notification, Cell, Desktop, Windows, Notifications, Shares};
 ghost use Rattle.rail.specs.States.{sizeOf, Exported};
+use lookups::look;
 use protocol::NotifyIconId;
 use protocol::WindowId;
+use replies::holders::holder_of;
+use replies::packed;
 use session::LookupTarget;
-use session::calls;
-use session::holders::holder_of;
-use session::lookups::look;
-use session::packed::packed;
 
 // The bytes of a part of the state memory (of the store, those of a place), of a lookup with its pictures, of a picture, of the
 // chunk memory, of the longest session record, of a list, or of a figure.
@@ -27,9 +26,9 @@ pub extern "C" fn rail_size(what: u32) -> u32
         1 => session::BODIES as u32,
         2 => store::PLACE as u32,
         3 => session::JOURNAL as u32,
-        4 => session::lookups::WINDOW as u32,
+        4 => lookups::WINDOW as u32,
         5 => (layout::NOTIFICATION + layout::PICTURE) as u32,
-        6 => session::lookups::DESKTOP as u32,
+        6 => lookups::DESKTOP as u32,
         7 => layout::PICTURE as u32,
         8 => chunk::MEMORY as u32,
         9 => record::MOST as u32,
@@ -53,7 +52,7 @@ pub extern "C" fn rail_reset(
     ensures { λ r. ⌜ Exported (plain (reset (placesIn (five (now (a .entry)) (now (b .entry)) (now (c .entry)) (now (d .entry)) (now (e .entry)))))) (memory (now (index .entry)) (now (bodies .entry)) (five (now (a .entry)) (now (b .entry)) (now (c .entry)) (now (d .entry)) (now (e .entry))) (now (journal .entry))) r [] (memory (now (index .exit)) (now (bodies .exit)) (five (now (a .entry)) (now (b .entry)) (now (c .entry)) (now (d .entry)) (now (e .entry))) (now (journal .exit))) ⌝ }
 {
     let lent = store::places(a, b, c, d, e);
-    let r = calls::reset(index, bodies, lent, journal);
+    let r = state_calls::reset(index, bodies, lent, journal);
     packed(r)
 }
 
@@ -72,7 +71,7 @@ pub extern "C" fn rail_deliver(
     ensures { λ r. ⌜ Exported (plain (deliver (now (order .entry)))) (memory (now (index .entry)) (now (bodies .entry)) (five (now (a .entry)) (now (b .entry)) (now (c .entry)) (now (d .entry)) (now (e .entry))) (now (journal .entry))) r [] (memory (now (index .entry)) (now (bodies .entry)) (five (now (a .entry)) (now (b .entry)) (now (c .entry)) (now (d .entry)) (now (e .entry))) (now (journal .exit))) ⌝ }
 {
     let lent = store::places(a, b, c, d, e);
-    let r = calls::deliver(index, bodies, lent, journal, order);
+    let r = state_calls::deliver(index, bodies, lent, journal, order);
     packed(r)
 }
 
@@ -89,7 +88,7 @@ pub extern "C" fn rail_checkpoint(
 ) -> u32
     ensures { λ r. ⌜ Exported (plain checkpoint) (memory (now (index .entry)) (now (bodies .entry)) (five (now (a .entry)) (now (b .entry)) (now (c .entry)) (now (d .entry)) (now (e .entry))) (now (journal .entry))) r [] (memory (now (index .exit)) (now (bodies .exit)) (five (now (a .exit)) (now (b .exit)) (now (c .exit)) (now (d .exit)) (now (e .exit))) (now (journal .exit))) ⌝ }
 {
-    let r = calls::checkpoint(index, bodies, a, b, c, d, e, journal);
+    let r = state_calls::checkpoint(index, bodies, a, b, c, d, e, journal);
     packed(r)
 }
 
@@ -108,7 +107,7 @@ pub extern "C" fn rail_undo(
     ensures { λ r. ⌜ Exported (plain (undo k)) (memory (now (index .entry)) (now (bodies .entry)) (five (now (a .entry)) (now (b .entry)) (now (c .entry)) (now (d .entry)) (now (e .entry))) (now (journal .entry))) r [] (memory (now (index .entry)) (now (bodies .entry)) (five (now (a .entry)) (now (b .entry)) (now (c .entry)) (now (d .entry)) (now (e .entry))) (now (journal .exit))) ⌝ }
 {
     let lent = store::places(a, b, c, d, e);
-    let r = calls::undo(index, bodies, lent, journal, k);
+    let r = state_calls::undo(index, bodies, lent, journal, k);
     packed(r)
 }
 

@@ -22,7 +22,7 @@ pub(crate) fn begin(
     e: &[u8; FEW],
     journal: &mut [u8; session::JOURNAL],
 ) -> bool {
-    session::calls::reset(index, bodies, store::places(a, b, c, d, e), journal);
+    state_calls::reset(index, bodies, store::places(a, b, c, d, e), journal);
     marks::head()
 }
 
@@ -54,7 +54,7 @@ fn mark(
     journal: &mut [u8; session::JOURNAL],
     number: u64,
 ) -> bool {
-    session::calls::checkpoint(index, bodies, a, b, c, d, e, journal);
+    state_calls::checkpoint(index, bodies, a, b, c, d, e, journal);
     line(index, bodies, a, b, c, d, e, journal, number)
 }
 
@@ -71,7 +71,7 @@ fn deliver(
     order: &[u8],
 ) {
     let lent = store::places(a, b, c, d, e);
-    session::calls::deliver(index, bodies, lent, journal, order);
+    state_calls::deliver(index, bodies, lent, journal, order);
 }
 
 // Reads an item, and marks or delivers.

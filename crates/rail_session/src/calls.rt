@@ -45,7 +45,7 @@ fn lent_checkpoint(
     e: &mut [u8],
     l: Lending,
 ) -> Reply {
-    session::calls::checkpoint(
+    state_calls::checkpoint(
         index,
         bodies,
         lent_of(a, STORE, l),
@@ -100,7 +100,7 @@ fn on_state(
     if kind == b'M' {
         return checkpoint(index, bodies, journal, memory, l);
     }
-    session::calls::reset(index, bodies, lending::places(memory, l), journal)
+    state_calls::reset(index, bodies, lending::places(memory, l), journal)
 }
 
 // E, M.
@@ -128,9 +128,9 @@ fn on_journal(memory: &[u8; MEMORY], journal: &mut [u8], kind: u8, s: &[u8], l: 
     let index = lending::part(memory, INDEX, l);
     let bodies = lending::part(memory, BODIES, l);
     if kind == b'B' {
-        return session::calls::undo(index, bodies, lent, journal, wire::read_u32(s, 0) as u64);
+        return state_calls::undo(index, bodies, lent, journal, wire::read_u32(s, 0) as u64);
     }
-    session::calls::deliver(index, bodies, lent, journal, s)
+    state_calls::deliver(index, bodies, lent, journal, s)
 }
 
 // E, M, D, B.

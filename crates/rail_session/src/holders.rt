@@ -1,6 +1,6 @@
 // The holders of a picture in an item: kind 1, and two numbers of 4.
+use replies::holders::holder_of;
 use session::PictureHolder;
-use session::holders::holder_of;
 
 // The bytes of a holder.
 const HOLDER: usize = 9;

@@ -13,7 +13,7 @@ use session::LookupTarget;
 use session::Reply;
 
 fn look(memory: &[u8; MEMORY], l: Lending, target: LookupTarget, found: &mut [u8]) -> Reply {
-    session::lookups::look(
+    lookups::look(
         lending::part(memory, INDEX, l),
         lending::part(memory, BODIES, l),
         lending::part(memory, STORE, l),

@@ -35,7 +35,7 @@ fn written(r: Reply) -> usize {
 
 // The record of the state memory as it is lent, written to memory.
 fn write(state: &[u8; MEMORY], memory: &mut [u8], l: Lending) -> Reply {
-    session::records::write(
+    state_calls::records::write(
         lending::part(state, lending::INDEX, l),
         lending::part(state, lending::BODIES, l),
         lending::places(state, l),

@@ -54,7 +54,7 @@ fn holder_at(arg: &[u8], at: usize) -> PictureHolder
     let kind = wire::read_u8(arg, at);
     let first = wire::read_u32(arg, at + 1);
     let second = wire::read_u32(arg, at + 5);
-    session::holders::holder_of(kind, first, second)
+    replies::holders::holder_of(kind, first, second)
 }
 
 // What a lookup of kinds 4 to 7 and 10 to 12 looks for.
@@ -96,7 +96,7 @@ fn single_length(kind: u8) -> usize
         return 4;
     }
     if kind == 4 {
-        return 4 + session::lookups::WINDOW;
+        return 4 + lookups::WINDOW;
     }
     if kind == 5 {
         return 4 + layout::NOTIFICATION + layout::PICTURE;
@@ -116,7 +116,7 @@ fn single_length(kind: u8) -> usize
     if kind == 12 {
         return 5;
     }
-    4 + session::lookups::DESKTOP
+    4 + lookups::DESKTOP
 }
 
 // The bytes that the block of a call takes.
@@ -134,7 +134,7 @@ fn put_reply(out: &mut [u8], r: Reply)
     requires { ⌜ 4 ≤ length (now out) ⌝ }
     ensures { λ _. ⌜ now (out .exit) ≡ splice (now (out .entry)) 0 (bytesOf 4 (packedOf r)) ⌝ }
 {
-    let head = session::packed::packed(r);
+    let head = replies::packed(r);
     wire::write_u32(out, 0, head);
 }
 
@@ -143,7 +143,7 @@ fn reset_block(index: &mut [u8], bodies: &mut [u8], lent: usize, journal: &mut [
     requires { ⌜ length (now out) ≡ 4 ⌝ }
     ensures { λ _. ⌜ InEachStore lent (λ store. Done (oneCall (reset lent)) (memory (now (index .entry)) (now (bodies .entry)) store (now (journal .entry))) (memory (now (index .exit)) (now (bodies .exit)) store (now (journal .exit))) (now (out .exit))) ⌝ }
 {
-    let r = session::calls::reset(index, bodies, lent, journal);
+    let r = state_calls::reset(index, bodies, lent, journal);
     put_reply(out, r);
 }
 
@@ -160,10 +160,10 @@ fn journal_change(
     ensures { λ r. ⌜ InEachStore lent (λ store. CallOutcome (plain (changeOf lent kind (now (arg .entry)))) (memory (now (index .entry)) (now (bodies .entry)) store (now (journal .entry))) (replied r) (memory (now (index .entry)) (now (bodies .entry)) store (now (journal .exit)))) ⌝ }
 {
     if kind == 1 {
-        return session::calls::deliver(index, bodies, lent, journal, arg);
+        return state_calls::deliver(index, bodies, lent, journal, arg);
     }
     let k = read_u64(arg);
-    session::calls::undo(index, bodies, lent, journal, k)
+    state_calls::undo(index, bodies, lent, journal, k)
 }
 
 // Where the bytes of an update begin in what its item carries: after the limit.
@@ -244,7 +244,7 @@ fn look_up(
 {
     let end = out.len();
     wire::clear(out, 0, end);
-    let r = session::lookups::look(
+    let r = lookups::look(
         index,
         bodies,
         a,
@@ -266,7 +266,7 @@ fn put_record(index: &[u8], bodies: &[u8], lent: usize, journal: &[u8], out: &mu
 {
     let end = out.len();
     wire::clear(out, 0, end);
-    let r = session::records::write(index, bodies, lent, journal, &mut out[4..end]);
+    let r = state_calls::records::write(index, bodies, lent, journal, &mut out[4..end]);
     put_reply(out, r);
 }
 
@@ -362,7 +362,7 @@ fn call(
     ensures { λ _. ⌜ Done (stepOf (placesIn (five (now (a .entry)) (now (b .entry)) (now (c .entry)) (now (d .entry)) (now (e .entry)))) kind (now (arg .entry))) (memory (now (index .entry)) (now (bodies .entry)) (five (now (a .entry)) (now (b .entry)) (now (c .entry)) (now (d .entry)) (now (e .entry))) (now (journal .entry))) (memory (now (index .exit)) (now (bodies .exit)) (five (now (a .exit)) (now (b .exit)) (now (c .exit)) (now (d .exit)) (now (e .exit))) (now (journal .exit))) (now (out .exit)) ⌝ }
 {
     if kind == 2 {
-        let r = session::calls::checkpoint(index, bodies, a, b, c, d, e, journal);
+        let r = state_calls::checkpoint(index, bodies, a, b, c, d, e, journal);
         put_reply(out, r);
     } else {
         table_call(index, bodies, a, b, c, d, e, journal, kind, arg, out);
@@ -458,7 +458,7 @@ pub fn run(
     ensures { λ r. ⌜ Runs (now (script .entry)) (memory (now (index .entry)) (now (bodies .entry)) (five (now (a .entry)) (now (b .entry)) (now (c .entry)) (now (d .entry)) (now (e .entry))) (now (journal .entry))) (now (out .entry)) r (memory (now (index .exit)) (now (bodies .exit)) (five (now (a .exit)) (now (b .exit)) (now (c .exit)) (now (d .exit)) (now (e .exit))) (now (journal .exit))) (now (out .exit)) ⌝ }
 {
     let lent = store::places(a, b, c, d, e);
-    let r = session::calls::reset(index, bodies, lent, journal);
+    let r = state_calls::reset(index, bodies, lent, journal);
     if r.number != 0 {
         return 1;
     }

@@ -1,17 +1,9 @@
-// The state calls: a table at the last checkpoint and a journal of the orders since, in lent memory: index, bodies, a store of
-// pictures in five parts, journal. A call that cannot change a memory takes it shared, and one that needs no picture is told how
-// many places are lent; bytes past the needed lengths stay as they were.
+// The state calls, what they are asked and what they answer: types, definitions and laws. The calls that change a state are
+// those of `state_calls`, the lookups those of `lookups`. The state is a table at the last checkpoint and a journal of the orders since,
+// in lent memory: index, bodies, a store of pictures in five parts, journal. A call that cannot change a memory takes it shared, and
+// one that needs no picture is told how many places are lent; bytes past the needed lengths stay as they were.
 use protocol::NotifyIconId;
 use protocol::WindowId;
-
-pub mod calls;
-mod extents;
-mod figures;
-pub mod holders;
-pub mod lookups;
-pub mod packed;
-pub mod records;
-mod replies;
 
 // The needed bytes of index with the figures behind it, bodies and journal.
 pub const INDEX: usize = figure::LENGTH;

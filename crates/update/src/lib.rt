@@ -89,7 +89,7 @@ pub fn update(
             count: w.count + (n as usize),
             end: w.end + at,
         };
-        let r = session::calls::deliver_on(journal, &mut d, &s[at..end], extent, near, held);
+        let r = state_calls::deliver_on(journal, &mut d, &s[at..end], extent, near, held);
         if r.number != 0 {
             return reported(r.number, n, at, w);
         }
@@ -105,7 +105,7 @@ pub fn update(
 pub fn standing(r: Report) -> u32
     ensures { λ n. ⌜ n ≡ standingHalf r ⌝ }
 {
-    session::packed::packed(Reply {
+    replies::packed(Reply {
         number: r.number,
         count: r.count,
         bytes: r.bytes,
