@@ -21,6 +21,6 @@ pub extern "C" fn rail_update(
     ensures { λ r. ⌜ UpdateExport limit (now (orders .entry)) (memory (now (index .entry)) (now (bodies .entry)) (five (now (a .entry)) (now (b .entry)) (now (c .entry)) (now (d .entry)) (now (e .entry))) (now (journal .entry))) r (memory (now (index .entry)) (now (bodies .entry)) (five (now (a .entry)) (now (b .entry)) (now (c .entry)) (now (d .entry)) (now (e .entry))) (now (journal .exit))) ⌝ }
 {
     let lent = store::places(a, b, c, d, e);
-    let r = update::update(index, bodies, lent, journal, limit, orders);
-    update::packed(r)
+    let r = update_call::update(index, bodies, lent, journal, limit, orders);
+    update_call::packed(r)
 }

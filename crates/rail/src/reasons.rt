@@ -21,7 +21,7 @@ pub extern "C" fn rail_explain(
     ensures { λ r. ⌜ ExplainExport (now (order .entry)) (memory (now (index .entry)) (now (bodies .entry)) (five (now (a .entry)) (now (b .entry)) (now (c .entry)) (now (d .entry)) (now (e .entry))) (now (journal .entry))) r ⌝ }
 {
     let lent = store::places(a, b, c, d, e);
-    let x = explain::explain(index, bodies, lent, journal, order);
+    let x = explain_call::explain(index, bodies, lent, journal, order);
     packed(Reply {
         number: x.number,
         count: 0,

@@ -8,7 +8,7 @@ use libc::STDERR_FILENO;
 mod words;
 
 // What is read of the state: its parts, and the most places.
-const STATE: usize = explain::PLACES_AT + (places::MOST as usize) * store::PLACE;
+const STATE: usize = explain_call::PLACES_AT + (places::MOST as usize) * store::PLACE;
 
 // What is read of the order: a byte more than OrderSize can say.
 const ORDER: usize = 65536;
@@ -95,7 +95,7 @@ fn run(state: &mut [u8], order: &mut [u8]) {
     let o = read(2, order);
     let n = s.len;
     let k = o.len;
-    tell(explain::in_one(&state[0..n], &order[0..k]));
+    tell(explain_call::in_one(&state[0..n], &order[0..k]));
     tell_unfit(s.fit, o.fit);
 }
 

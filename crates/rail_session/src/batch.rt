@@ -27,7 +27,7 @@ fn update(memory: &[u8; MEMORY], journal: &mut [u8], s: &[u8], l: Lending) -> Re
     let lent = lending::places(memory, l);
     let index = lending::part(memory, lending::INDEX, l);
     let bodies = lending::part(memory, lending::BODIES, l);
-    update::update(index, bodies, lent, journal, limit, orders(s))
+    update_call::update(index, bodies, lent, journal, limit, orders(s))
 }
 
 // Makes the call and lays its line, whose length it answers.

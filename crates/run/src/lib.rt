@@ -181,8 +181,8 @@ fn put_report(out: &mut [u8], r: Report)
     requires { ⌜ length (now out) ≡ 8 ⌝ }
     ensures { λ _. ⌜ now (out .exit) ≡ bytesOf 4 (standingHalf r) ++ bytesOf 4 (grantedHalf r) ⌝ }
 {
-    let low = update::standing(r);
-    let high = update::granted(r);
+    let low = update_call::standing(r);
+    let high = update_call::granted(r);
     wire::write_u32(out, 0, low);
     wire::write_u32(out, 4, high);
 }
@@ -202,7 +202,7 @@ fn update_all(
     let limit = wire::read_u32(arg, 0);
     let start = after_limit(arg);
     let end = arg.len();
-    let r = update::update(index, bodies, lent, journal, limit, &arg[start..end]);
+    let r = update_call::update(index, bodies, lent, journal, limit, &arg[start..end]);
     put_report(out, r);
 }
 

@@ -1,8 +1,8 @@
 use denote.Ref.{now}
 use Rattle.explain.proofs.Answers.{table-refused, table-full, table-done}
 use borrow.Author.Needs.{needs}
-use Rattle.explain.proofs.on_table.Statement.{statement}
-use Rattle.explain.proofs.on_table.Tie as tie
+use Rattle.explain_call.proofs.on_table.Statement.{statement}
+use Rattle.explain_call.proofs.on_table.Tie as tie
 
 -- The number of the plan; else 12; else 0.
 pub on-table-spec : {M : Type 1} → statement M

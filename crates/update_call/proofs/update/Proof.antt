@@ -13,9 +13,9 @@ use Rattle.slots.specs.Families.{indexLength}
 use Rattle.journal.specs.View.{Memory, memory, InEachStore}
 use Rattle.journal.proofs.Indexed.{unmet, indexed}
 use Rattle.session.proofs.Lent.{a-store, a-store-lends}
 use Rattle.update.proofs.Courses.{Going, unfit-outcome, going-start, going-fits, going-ready, going-end, end-after, end-within, going-refused, going-more}
-use Rattle.update.proofs.update.Statement.{statement}
-use Rattle.update.proofs.update.Tie as tie
+use Rattle.update_call.proofs.update.Statement.{statement}
+use Rattle.update_call.proofs.update.Tie as tie
 
 -- in each store that lends so many places
 abbrev Inv-loop : tie.InvT-loop

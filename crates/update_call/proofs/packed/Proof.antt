@@ -1,8 +1,8 @@
 -- The two halves, one above the other.
 use Rattle.update.specs.Packed.{packedReport}
 use borrow.Author.Needs.{needs}
-use Rattle.update.proofs.packed.Statement.{statement}
-use Rattle.update.proofs.packed.Tie as tie
+use Rattle.update_call.proofs.packed.Statement.{statement}
+use Rattle.update_call.proofs.packed.Tie as tie
 
 pub packed-spec : {M : Type 1} → statement M
 packed-spec =

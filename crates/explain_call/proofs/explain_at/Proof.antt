@@ -5,10 +5,10 @@ use native.Mathlib.Omega.{arith}
 use denote.Ref.{now}
 use Rattle.wire.specs.Parts.{slice}
 use Rattle.journal.specs.View.{memory}
 use Rattle.explain.specs.Explain.{explain}
 use borrow.Author.Needs.{needs}
-use Rattle.explain.proofs.explain_at.Statement.{statement}
-use Rattle.explain.proofs.explain_at.Tie as tie
+use Rattle.explain_call.proofs.explain_at.Statement.{statement}
+use Rattle.explain_call.proofs.explain_at.Tie as tie
 
 pub explain-at-spec : {M : Type 1} → statement M
 unfolding slice

@@ -9,10 +9,10 @@ use Rattle.journal.specs.View.{Memory, memory}
 use Rattle.journal.specs.Journal.{logOf}
 use Rattle.journal.proofs.Indexed.{Indexed, unmet, indexed}
 use Rattle.session.proofs.Lent.{a-store, a-store-lends}
 use Rattle.explain.proofs.Answers.{judgeable, explained-unmet, explained-is}
 use borrow.Author.Needs.{needs}
-use Rattle.explain.proofs.explain.Statement.{statement}
-use Rattle.explain.proofs.explain.Tie as tie
+use Rattle.explain_call.proofs.explain.Statement.{statement}
+use Rattle.explain_call.proofs.explain.Tie as tie
 
 -- 1 where the rule is not met; else the order judged on what the validation established.
 abbrev mem : tie.Start → List (List ℕ) → Memory

@@ -1,8 +1,8 @@
 use denote.Ref.{now}
 use Rattle.explain.proofs.Answers.{state-window, state-notification, state-desktop, state-refused}
 use borrow.Author.Needs.{needs}
-use Rattle.explain.proofs.on_state.Statement.{statement}
-use Rattle.explain.proofs.on_state.Tie as tie
+use Rattle.explain_call.proofs.on_state.Statement.{statement}
+use Rattle.explain_call.proofs.on_state.Tie as tie
 
 -- The number and offset that judging the bytes tells; else those on the table.
 pub on-state-spec : {M : Type 1} → statement M

@@ -1,9 +1,9 @@
 -- The tests are firstSize's, on what is left of the update; OrderSize is read at its index.
 use denote.Ref.{now}
 use Rattle.update.proofs.Cuts.{ends-missing, ends-rest, ends-sized}
 use borrow.Author.Needs.{needs}
-use Rattle.update.proofs.cut.Statement.{statement}
-use Rattle.update.proofs.cut.Tie as tie
+use Rattle.update_call.proofs.cut.Statement.{statement}
+use Rattle.update_call.proofs.cut.Tie as tie
 
 pub cut-spec : {M : Type 1} → statement M
 cut-spec =

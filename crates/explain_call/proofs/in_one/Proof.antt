@@ -1,12 +1,12 @@
 use mathlib.Core.List.{[], _∷_}
 use lib.ListN.{drop}
 use denote.Ref.{now}
 use Rattle.explain.specs.OneFile.{placesAt, memoryIn}
 use Rattle.explain.proofs.Answers.{explained-unmet}
 use Rattle.explain.proofs.OneFile.{file-short, file-lends}
 use borrow.Author.Needs.{needs}
-use Rattle.explain.proofs.in_one.Statement.{statement}
-use Rattle.explain.proofs.in_one.Tie as tie
+use Rattle.explain_call.proofs.in_one.Statement.{statement}
+use Rattle.explain_call.proofs.in_one.Tie as tie
 
 -- 1 where the parts are not whole; else the explanation on them, whatever store lends as many places.
 pub in-one-spec : {M : Type 1} → statement M
