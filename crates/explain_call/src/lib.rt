@@ -59,7 +59,7 @@ pub fn explain(index: &[u8], bodies: &[u8], lent: usize, journal: &[u8], s: &[u8
     ensures { λ r. ⌜ InEachStore lent (λ store. r ≡ explain (now (s .entry)) (memory (now (index .entry)) (now (bodies .entry)) store (now (journal .entry)))) ⌝ }
 {
     let mut d = [0u8; slots::LENGTH];
-    let w = journal::extent(index, bodies, lent, journal, &mut d);
+    let w = journal_replay::extent(index, bodies, lent, journal, &mut d);
     if w.end == 0 {
         return Explanation { number: 1, at: 0 };
     }

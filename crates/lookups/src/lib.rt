@@ -445,7 +445,7 @@ fn look_in(
 {
     let lent = store::places(a, b, c, d, e);
     let mut x = [0u8; slots::LENGTH];
-    let w = journal::validate(index, bodies, lent, journal, want, &mut x, m);
+    let w = journal_replay::validate(index, bodies, lent, journal, want, &mut x, m);
     if w.end == 0 {
         return refused(1);
     }

@@ -76,7 +76,7 @@ fn window_followed(index: &[u8], bodies: &[u8], journal: &[u8], count: usize, w:
 {
     let mut d = [0u8; slots::LENGTH];
     let mut m = [0u8; follow::WINDOW];
-    journal::from_mark(
+    journal_replay::from_mark(
         index,
         bodies,
         journal,

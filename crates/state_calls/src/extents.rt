@@ -10,7 +10,7 @@ pub fn extent(index: &[u8], bodies: &[u8], lent: usize, journal: &[u8]) -> Journ
     ensures { λ r. ⌜ InEachStore lent (λ store. r ≡ extentOf (memory (now (index .entry)) (now (bodies .entry)) store (now (journal .entry)))) ⌝ }
 {
     let mut d = [0u8; slots::LENGTH];
-    journal::extent(index, bodies, lent, journal, &mut d)
+    journal_replay::extent(index, bodies, lent, journal, &mut d)
 }
 
 // With the five parts of the store.

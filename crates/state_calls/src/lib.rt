@@ -44,7 +44,7 @@ fn set_mark(index: &mut [u8], bodies: &[u8], journal: &mut [u8]) -> Reply
 pub fn reset(index: &mut [u8], bodies: &mut [u8], lent: usize, journal: &mut [u8]) -> Reply
     ensures { λ r. ⌜ InEachStore lent (λ store. CallOutcome (plain (reset lent)) (memory (now (index .entry)) (now (bodies .entry)) store (now (journal .entry))) (replied r) (memory (now (index .exit)) (now (bodies .exit)) store (now (journal .exit)))) ⌝ }
 {
-    if journal::too_short(index, bodies, lent, journal) {
+    if journal_replay::too_short(index, bodies, lent, journal) {
         return refused(1);
     }
     table::empty(index, bodies, lent);
@@ -88,7 +88,7 @@ pub fn deliver(index: &[u8], bodies: &[u8], lent: usize, journal: &mut [u8], s: 
     ensures { λ r. ⌜ InEachStore lent (λ store. CallOutcome (plain (deliver (now (s .entry)))) (memory (now (index .entry)) (now (bodies .entry)) store (now (journal .entry))) (replied r) (memory (now (index .entry)) (now (bodies .entry)) store (now (journal .exit)))) ⌝ }
 {
     let mut d = [0u8; slots::LENGTH];
-    let w = journal::extent(index, bodies, lent, journal, &mut d);
+    let w = journal_replay::extent(index, bodies, lent, journal, &mut d);
     if w.end == 0 {
         return refused(1);
     }
@@ -117,7 +117,7 @@ fn advance(
     requires { ⌜ Stands (memory (now index) (now bodies) (five (now a) (now b) (now c) (now d) (now e)) (now journal)) w ⌝ }
     ensures { λ r. ⌜ CallOutcome (plain checkpoint) (memory (now (index .entry)) (now (bodies .entry)) (five (now (a .entry)) (now (b .entry)) (now (c .entry)) (now (d .entry)) (now (e .entry))) (now (journal .entry))) (replied r) (memory (now (index .exit)) (now (bodies .exit)) (five (now (a .exit)) (now (b .exit)) (now (c .exit)) (now (d .exit)) (now (e .exit))) (now (journal .exit))) ⌝ }
 {
-    journal::apply(index, bodies, a, b, c, d, e, journal, w.count);
+    journal_apply::apply(index, bodies, a, b, c, d, e, journal, w.count);
     set_mark(index, bodies, journal)
 }
 
@@ -151,7 +151,7 @@ pub fn undo(index: &[u8], bodies: &[u8], lent: usize, journal: &mut [u8], k: u64
         return refused(13);
     }
     let count = w.count - (k as usize);
-    let end = journal::end_of(journal, count);
+    let end = journal_apply::end_of(journal, count);
     wire::write_u16(journal, 0, count as u16);
     granted(JournalExtent { count, end })
 }

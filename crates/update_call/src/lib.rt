@@ -61,7 +61,7 @@ pub fn update(
     ensures { λ r. ⌜ InEachStore lent (λ store. UpdateOutcome limit (now (s .entry)) (memory (now (index .entry)) (now (bodies .entry)) store (now (journal .entry))) r (memory (now (index .entry)) (now (bodies .entry)) store (now (journal .exit)))) ⌝ }
 {
     let mut d = [0u8; slots::LENGTH];
-    let w = journal::extent(index, bodies, lent, journal, &mut d);
+    let w = journal_replay::extent(index, bodies, lent, journal, &mut d);
     if w.end == 0 {
         return Report {
             number: 1,

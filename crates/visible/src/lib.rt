@@ -12,7 +12,7 @@ pub fn at_mark(index: &[u8], bodies: &[u8], lent: usize, journal: &[u8], out: &m
     ensures { λ r. ⌜ InEachStore lent (λ store. FigureOutcome (memory (now (index .entry)) (now (bodies .entry)) store (now (journal .entry))) (now (out .entry)) r (now (out .exit))) ⌝ }
 {
     let mut d = [0u8; slots::LENGTH];
-    let w = journal::extent(index, bodies, lent, journal, &mut d);
+    let w = journal_replay::extent(index, bodies, lent, journal, &mut d);
     if w.end == 0 {
         return Reply {
             number: 1,

@@ -1,10 +1,10 @@
 use native.Mathlib.Omega.{arith}
 use denote.Ref.{now}
 use Rattle.wire.proofs.Numbers.{Bytes}
 use Rattle.journal.proofs.LoopInvariants.{order-asks, change-asks, order-gives}
 use borrow.Author.Needs.{needs}
-use Rattle.journal.proofs.follow_order.Statement.{statement}
-use Rattle.journal.proofs.follow_order.Tie as tie
+use Rattle.journal_replay.proofs.follow_order.Statement.{statement}
+use Rattle.journal_replay.proofs.follow_order.Tie as tie
 
 -- All three equations are the callees', with the plan that was judged.
 abbrev start : tie.After-shared-slice-known → tie.Start

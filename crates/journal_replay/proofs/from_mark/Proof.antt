@@ -1,10 +1,10 @@
 use native.Mathlib.Omega.{arith}
 use denote.Ref.{now}
 use Rattle.slots.proofs.Ways.{sound-long}
 use Rattle.journal.proofs.Validations.{copy-sound, from-copies}
 use borrow.Author.Needs.{needs}
-use Rattle.journal.proofs.from_mark.Statement.{statement}
-use Rattle.journal.proofs.from_mark.Tie as tie
+use Rattle.journal_replay.proofs.from_mark.Statement.{statement}
+use Rattle.journal_replay.proofs.from_mark.Tie as tie
 
 -- The callees' equations, joined: a copy of a sound index is sound, and the memory of what is looked up keeps its length.
 abbrev start : tie.After-copy-part → tie.Start

@@ -2,9 +2,9 @@ use native.Mathlib.Omega.{arith}
 use Prim.Native.Nat.{_-_}
 use denote.Ref.{now}
 use borrow.Author.Needs.{needs}
 use Rattle.journal.proofs.LoopInvariants.{EndInv, end-start, end-room, end-next, end-end}
-use Rattle.journal.proofs.end_of.Statement.{statement}
-use Rattle.journal.proofs.end_of.Tie as tie
+use Rattle.journal_apply.proofs.end_of.Statement.{statement}
+use Rattle.journal_apply.proofs.end_of.Tie as tie
 
 -- What is left of the orders ends where all of them end.
 

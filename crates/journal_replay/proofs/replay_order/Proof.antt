@@ -1,9 +1,9 @@
 use denote.Ref.{now}
 use Rattle.places.proofs.HeldTaken.{held-none}
 use Rattle.journal.proofs.StepsWithRoom.{step-replays}
 use borrow.Author.Needs.{needs}
-use Rattle.journal.proofs.replay_order.Statement.{statement}
-use Rattle.journal.proofs.replay_order.Tie as tie
+use Rattle.journal_replay.proofs.replay_order.Statement.{statement}
+use Rattle.journal_replay.proofs.replay_order.Tie as tie
 
 -- Where something is looked up, the callee's contract; else a step with room, and nothing to follow.
 pub replay-order-spec : {M : Type 1} → statement M

@@ -3,9 +3,9 @@ use Prim.Native.Nat.{_-_}
 use denote.Ref.{now}
 use borrow.Author.Needs.{needs}
 use Rattle.wire.proofs.Numbers.{Bytes}
 use Rattle.journal.proofs.LoopInvariants.{ReplayInv, replay-start, replay-cut, replay-refused, replay-next, replay-end}
-use Rattle.journal.proofs.replay.Statement.{statement}
-use Rattle.journal.proofs.replay.Tie as tie
+use Rattle.journal_replay.proofs.replay.Statement.{statement}
+use Rattle.journal_replay.proofs.replay.Tie as tie
 
 -- The replay of the orders left, from the memories so far, is the replay of all of them from the first memories.
 abbrev Inv-loop : tie.InvT-loop

@@ -1,9 +1,9 @@
 use denote.Ref.{now}
 use borrow.Author.Tests.{not-true, not-false}
 use Rattle.journal.proofs.Validations.{replayable-short, replayable-unsound, kept-asks, replayable-counted}
 use borrow.Author.Needs.{needs}
-use Rattle.journal.proofs.can_replay.Statement.{statement}
-use Rattle.journal.proofs.can_replay.Tie as tie
+use Rattle.journal_replay.proofs.can_replay.Statement.{statement}
+use Rattle.journal_replay.proofs.can_replay.Tie as tie
 
 -- Each test of the definition in its turn.
 abbrev start : tie.After-too-short → tie.Start

@@ -1,8 +1,8 @@
 use mathlib.Core.Path.{refl}
 use Rattle.journal.proofs.Validations.{validated-nothing}
 use borrow.Author.Needs.{needs}
-use Rattle.journal.proofs.extent.Statement.{statement}
-use Rattle.journal.proofs.extent.Tie as tie
+use Rattle.journal_replay.proofs.extent.Statement.{statement}
+use Rattle.journal_replay.proofs.extent.Tie as tie
 
 -- Validation's own statement: the memory of what is looked up has no bytes.
 pub extent-spec : {M : Type 1} → statement M

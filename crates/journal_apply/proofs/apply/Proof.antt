@@ -5,9 +5,9 @@ use Prim.Native.Nat.{ℕ}
 use denote.Ref.{now}
 use borrow.Author.Needs.{needs}
 use Rattle.store.specs.Store.{five}
 use Rattle.journal.proofs.LoopInvariants.{ApplyInv, apply-start, apply-next, apply-end, end-room, same-part}
-use Rattle.journal.proofs.apply.Statement.{statement}
-use Rattle.journal.proofs.apply.Tie as tie
+use Rattle.journal_apply.proofs.apply.Statement.{statement}
+use Rattle.journal_apply.proofs.apply.Tie as tie
 
 -- The orders left make of the table so far what all make of the first one.
 

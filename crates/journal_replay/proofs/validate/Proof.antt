@@ -5,11 +5,11 @@ use denote.Ref.{now}
 use borrow.Author.Tests.{not-true, not-false}
 use Rattle.wire.proofs.Numbers.{Bytes}
 use Rattle.table.proofs.Rule.{table-has}
 use Rattle.journal.specs.Replay.{replayable}
 use Rattle.journal.proofs.Validations.{Replayable, replayable-has, not-validated, validated-none, validated-some}
 use borrow.Author.Needs.{needs}
-use Rattle.journal.proofs.validate.Statement.{statement}
-use Rattle.journal.proofs.validate.Tie as tie
+use Rattle.journal_replay.proofs.validate.Statement.{statement}
+use Rattle.journal_replay.proofs.validate.Tie as tie
 
 -- What cannot be replayed does not meet the rule; else the replay from the mark ends at 0 just where it is not met.
 abbrev start : tie.After-can-replay → tie.Start

@@ -1,7 +1,7 @@
 use mathlib.Core.Path.{refl}
 use borrow.Author.Needs.{needs}
-use Rattle.journal.proofs.too_short.Statement.{statement}
-use Rattle.journal.proofs.too_short.Tie as tie
+use Rattle.journal_replay.proofs.too_short.Statement.{statement}
+use Rattle.journal_replay.proofs.too_short.Tie as tie
 
 -- The definition's tests, joined as it joins them.
 pub too-short-spec : {M : Type 1} → statement M
