@@ -1,12 +1,12 @@
 use Rattle.rows.proofs.Ended.{passed-none, passed-next}
 use Rattle.rows.proofs.Absent.{content-to-size-absent}
 use Rattle.rows.proofs.Fields.{row-good}
 use Rattle.rows.specs.Ends.{Passed}
 use denote.Ref.{now}
 use native.Mathlib.Omega.{arith}
 use borrow.Author.Needs.{needs}
-use Rattle.rows.proofs.ends.content_to_size.Statement.{statement}
-use Rattle.rows.proofs.ends.content_to_size.Tie as tie
+use Rattle.row_ends.proofs.content_to_size.Statement.{statement}
+use Rattle.row_ends.proofs.content_to_size.Tie as tie
 
 -- Row by row: what is passed so far.
 abbrev S1 : tie.After-past → tie.Start

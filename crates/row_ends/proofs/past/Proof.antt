@@ -1,15 +1,15 @@
 -- Not carried, outside its set, or past by its length.
 use Rattle.rows.proofs.Ended.{past-absent, past-outside, past-carried}
 use Rattle.rows.proofs.Table.{flag-is}
 use Rattle.wire.specs.Tests.{hasAll}
 use Rattle.rows.specs.Rows.{kindRow}
 use Prim.Native.Nat.{ℕ}
 use denote.Ref.{now}
 use mathlib.Core.Path.{_≡_, ap, _∙_}
 use borrow.Author.Tests.{not-true, not-false}
 use borrow.Author.Needs.{needs}
-use Rattle.rows.proofs.ends.past.Statement.{statement}
-use Rattle.rows.proofs.ends.past.Tie as tie
+use Rattle.row_ends.proofs.past.Statement.{statement}
+use Rattle.row_ends.proofs.past.Tie as tie
 
 told : (u : tie.After-is-flagged) → u .is-flagged .result ≡ hasAll (u .before .before .args .flags) (kindRow (u .before .before .args .flag) (u .before .before .args .width) (u .before .before .args .kind) .flag)
 told u = let a = u .before .before .args in u .is-flagged .ensures ∙ ap (λ (m : ℕ). hasAll (a .flags) m) (flag-is (a .flag) (a .width) (a .kind))

@@ -23,7 +23,7 @@ const FIELDS: u32 = 0x08CF_DFDF;
 // none of them ends there.
 pub const HEADER: usize = 7;
 
-pub const FIELDS_AT: usize = HEADER + crate::WIDTHS[0] as usize;
+pub const FIELDS_AT: usize = HEADER + rows::WIDTHS[0] as usize;
 
 // Past a field, where it is carried; past every order, where it is not in its set.
 fn past(s: &[u8], flags: u32, flag: u32, width: u8, kind: u8, at: usize) -> usize
@@ -31,13 +31,13 @@ fn past(s: &[u8], flags: u32, flag: u32, width: u8, kind: u8, at: usize) -> usiz
     requires { ⌜ at ≤ 0xFFFFFFFF ⌝ }
     ensures { λ r. ⌜ (r ≡ pastOf (kindRow flag width kind) flags (now (s .entry)) at) × (r ≤ at + 524288) ⌝ }
 {
-    if !crate::is_flagged(flags, flag) {
+    if !rows::is_flagged(flags, flag) {
         return at;
     }
-    if !crate::in_set(s, at, flag, width, kind) {
+    if !rows::in_set(s, at, flag, width, kind) {
         return at + 65536;
     }
-    let n = crate::extent(s, at, flag, width, kind);
+    let n = rows::extent(s, at, flag, width, kind);
     at + n
 }
 
@@ -49,9 +49,9 @@ fn owner_to_title(s: &[u8], flags: u32, at: usize) -> usize
     if flags & OWNER_TO_TITLE == 0 {
         return at;
     }
-    let f = crate::FLAGS;
-    let w = crate::WIDTHS;
-    let t = crate::KINDS;
+    let f = rows::FLAGS;
+    let w = rows::WIDTHS;
+    let t = rows::KINDS;
     let p = past(s, flags, f[1], w[1], t[1], at);
     let p = past(s, flags, f[2], w[2], t[2], p);
     let p = past(s, flags, f[3], w[3], t[3], p);
@@ -66,9 +66,9 @@ fn client_area(s: &[u8], flags: u32, at: usize) -> usize
     if flags & CLIENT_AREA == 0 {
         return at;
     }
-    let f = crate::FLAGS;
-    let w = crate::WIDTHS;
-    let t = crate::KINDS;
+    let f = rows::FLAGS;
+    let w = rows::WIDTHS;
+    let t = rows::KINDS;
     let p = past(s, flags, f[5], w[5], t[5], at);
     let p = past(s, flags, f[6], w[6], t[6], p);
     let p = past(s, flags, f[7], w[7], t[7], p);
@@ -83,9 +83,9 @@ fn content_to_size(s: &[u8], flags: u32, at: usize) -> usize
     if flags & CONTENT_TO_SIZE == 0 {
         return at;
     }
-    let f = crate::FLAGS;
-    let w = crate::WIDTHS;
-    let t = crate::KINDS;
+    let f = rows::FLAGS;
+    let w = rows::WIDTHS;
+    let t = rows::KINDS;
     let p = past(s, flags, f[9], w[9], t[9], at);
     let p = past(s, flags, f[10], w[10], t[10], p);
     let p = past(s, flags, f[11], w[11], t[11], p);
@@ -101,9 +101,9 @@ fn rectangles(s: &[u8], flags: u32, at: usize) -> usize
     if flags & RECTANGLES == 0 {
         return at;
     }
-    let f = crate::FLAGS;
-    let w = crate::WIDTHS;
-    let t = crate::KINDS;
+    let f = rows::FLAGS;
+    let w = rows::WIDTHS;
+    let t = rows::KINDS;
     let p = past(s, flags, f[14], w[14], t[14], at);
     let p = past(s, flags, f[15], w[15], t[15], p);
     past(s, flags, f[16], w[16], t[16], p)
@@ -117,9 +117,9 @@ fn overlay_to_edge(s: &[u8], flags: u32, at: usize) -> usize
     if flags & OVERLAY_TO_EDGE == 0 {
         return at;
     }
-    let f = crate::FLAGS;
-    let w = crate::WIDTHS;
-    let t = crate::KINDS;
+    let f = rows::FLAGS;
+    let w = rows::WIDTHS;
+    let t = rows::KINDS;
     let p = past(s, flags, f[17], w[17], t[17], at);
     let p = past(s, flags, f[18], w[18], t[18], p);
     let p = past(s, flags, f[19], w[19], t[19], p);
@@ -145,9 +145,9 @@ pub fn window(s: &[u8], flags: u32) -> usize
 pub fn desktop(s: &[u8], flags: u32) -> usize
     ensures { λ r. ⌜ r ≡ endsOf desktopRows flags (now (s .entry)) 7 ⌝ }
 {
-    let f = crate::FLAGS;
-    let w = crate::WIDTHS;
-    let t = crate::KINDS;
+    let f = rows::FLAGS;
+    let w = rows::WIDTHS;
+    let t = rows::KINDS;
     let p = past(s, flags, f[29], w[29], t[29], HEADER);
     past(s, flags, f[30], w[30], t[30], p)
 }

@@ -1,12 +1,12 @@
 use Rattle.rows.proofs.Ended.{ends-done}
 use Rattle.rows.proofs.Absent.{bare-ends, fields-begin}
 use denote.Ref.{now}
 use Prim.Native.Nat.{_≤_}
 use mathlib.Core.Path.{sym, _∙_}
 use native.Mathlib.Omega.{arith}
 use borrow.Author.Needs.{needs}
-use Rattle.rows.proofs.ends.window.Statement.{statement}
-use Rattle.rows.proofs.ends.window.Tie as tie
+use Rattle.row_ends.proofs.window.Statement.{statement}
+use Rattle.row_ends.proofs.window.Tie as tie
 
 -- the end so far
 end1 : (u : tie.After-owner-to-title) → u .owner-to-title .result ≤ 2097163

@@ -1,11 +1,11 @@
 use Rattle.rows.proofs.Ended.{ends-next, ends-done}
 use Rattle.rows.proofs.Fields.{row-good}
 use denote.Ref.{now}
 use mathlib.Core.Path.{sym, _∙_}
 use native.Mathlib.Omega.{arith}
 use borrow.Author.Needs.{needs}
-use Rattle.rows.proofs.ends.desktop.Statement.{statement}
-use Rattle.rows.proofs.ends.desktop.Tie as tie
+use Rattle.row_ends.proofs.desktop.Statement.{statement}
+use Rattle.row_ends.proofs.desktop.Tie as tie
 
 -- Row by row from behind the header.
 pub desktop-spec : {M : Type 1} → statement M
