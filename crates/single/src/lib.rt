@@ -1,6 +1,6 @@
 // Orders that say one thing are judged at a glance, with no walk over fields: a window's delete, its icon or cached icon,
 // the desktop's stacking list with the active window. Where their fields end is told by the one table of rows. Any other order,
-// and a bad one of these, is left to `order::judge`.
+// and a bad one of these, is left to `order_judge::judge`.
 ghost use mathlib.Core.Path.{_≡_};
 ghost use mathlib.Core.Bool.{true};
 ghost use Prim.Native.Nat.{_≤_};
@@ -36,7 +36,7 @@ pub const ID_AT: usize = row_ends::HEADER;
 // Where an order for a window without a field ends, and its icon or cached icon begins; where a cached icon ends.
 pub const ICON_AT: u32 = row_ends::FIELDS_AT as u32;
 
-const CACHED_END: usize = row_ends::FIELDS_AT + order::icon::CACHED_LENGTH;
+const CACHED_END: usize = row_ends::FIELDS_AT + order_icon::CACHED_LENGTH;
 
 // The order begins with the type byte and its own size, and index end lies within it.
 fn is_framed(s: &[u8], end: usize) -> bool
@@ -71,7 +71,7 @@ pub fn is_cached(s: &[u8]) -> bool
     if !is_framed(s, row_ends::FIELDS_AT) {
         return false;
     }
-    order::icon::is_whole_cached(s, row_ends::FIELDS_AT)
+    order_icon::is_whole_cached(s, row_ends::FIELDS_AT)
 }
 
 // The order is good and brings a window's icon, small or big, and nothing else.
@@ -85,7 +85,7 @@ pub fn is_icon(s: &[u8]) -> bool
     if !is_framed(s, row_ends::FIELDS_AT) {
         return false;
     }
-    order::icon::is_whole(s, row_ends::FIELDS_AT)
+    order_icon::is_whole(s, row_ends::FIELDS_AT)
 }
 
 // The order is good and brings the desktop's stacking list and active window, and nothing else.
