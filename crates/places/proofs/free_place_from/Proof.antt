@@ -13,8 +13,6 @@ use borrow.Author.Needs.{needs}
 use Rattle.places.proofs.free_place_from.Statement.{statement}
 use Rattle.places.proofs.free_place_from.Tie as tie
 
--- ---- the places of the two
-
 abbrev start : tie.After-larger → tie.Start
 start u = u .before .before .before .before .before .before
 
@@ -78,131 +76,63 @@ higher-passed u =
 long : (u : tie.Start) → 157 ≤ length (now (u .args .bytes))
 long u = valid-long (now (u .args .bytes)) (u .pre .0 .0)
 
--- ---- the ways
-
-free-place-requires : tie.Need-free-place-requires
-free-place-requires c κs = search needs
-
-returns : tie.Need-returns
-returns c = search needs
-
-add-a : tie.Need-add-a
-add-a c = search needs
-
-shared-slice-read-a : tie.Need-shared-slice-read-a
-shared-slice-read-a c =
-    let l = long (c .before .before .before) in
-    search needs
-
-add-b : tie.Need-add-b
-add-b c = search needs
-
-shared-slice-read-b : tie.Need-shared-slice-read-b
-shared-slice-read-b c =
-    let l = long (c .before .before .before .before) in
-    search needs
-
-smaller-requires : tie.Need-smaller-requires
-smaller-requires c κs = search needs
-
-larger-requires : tie.Need-larger-requires
-larger-requires c κs = search needs
-
-is-theirs-requires : tie.Need-is-theirs-requires
-is-theirs-requires c κs =
-    let s = start (c .before) in
-    (long s, s .pre .0 .1, s .pre .0 .2, lower-points c)
-
-cast-t17 : tie.Need-cast-t17
-cast-t17 c = search needs
-
-sub-t18 : tie.Need-sub-t18
-sub-t18 c =
-    let l = lower-points (c .before .before) in
-    search needs
-
-returns-2 : tie.Need-returns-2
-returns-2 c =
-    let u = c .before .before in
-    let l = u .before in
-    let s = start l in
-    first-lower (now (s .args .bytes)) (s .pre .0 .0) (s .args .cell) (s .args .pointer) (s .pre .0 .1) (s .pre .0 .2) (s .args .held) (s .pre .1) (lower l) (higher l) (l .before .smaller .ensures) (l .larger .ensures)
-    (lower-points u) (lower-first u) (c .before .is-theirs .ensures) (c .if3 .taken)
-
-is-theirs-requires-2 : tie.Need-is-theirs-requires-2
-is-theirs-requires-2 c κs =
-    let s = start (c .before .before) in
-    (long s, s .pre .0 .1, s .pre .0 .2, higher-points c)
-
-cast-t20 : tie.Need-cast-t20
-cast-t20 c = search needs
-
-sub-t21 : tie.Need-sub-t21
-sub-t21 c =
-    let l = higher-points (c .before .before) in
-    search needs
-
-returns-3 : tie.Need-returns-3
-returns-3 c =
-    let u = c .before .before in
-    let l = u .before .before in
-    let s = start l in
-    first-higher (now (s .args .bytes)) (s .pre .0 .0) (s .args .cell) (s .args .pointer) (s .pre .0 .1) (s .pre .0 .2) (s .args .held) (s .pre .1) (lower l) (higher l) (l .before .smaller .ensures) (l .larger .ensures)
-    (higher-points u) (higher-first u) (lower-passed (u .before)) (c .before .is-theirs2 .ensures) (c .if5 .taken)
-
-shared-slice-read-if6 : tie.Need-shared-slice-read-if6
-shared-slice-read-if6 c =
-    let l = long (start (c .before .before .before)) in
-    search needs
-
-add-is-theirs : tie.Need-add-is-theirs
-add-is-theirs c =
-    let s = start (c .before .before .before .before) in
-    let m = valid-first (now (s .args .bytes)) (s .pre .0 .0) in
-    search needs
-
-is-theirs-requires-3 : tie.Need-is-theirs-requires-3
-is-theirs-requires-3 c κs =
-    let s = start (c .before .before .before .before) in
-    (long s, s .pre .0 .1, s .pre .0 .2, omega arith)
-
-returns-4 : tie.Need-returns-4
-returns-4 c =
-    let u = c .before .before .before .before in
-    let l = u .before .before in
-    let s = start l in
-    first-after (now (s .args .bytes)) (s .pre .0 .0) (s .args .cell) (s .args .pointer) (s .pre .0 .1) (s .pre .0 .2) (s .args .held) (s .pre .1) (lower l) (higher l) (l .before .smaller .ensures) (l .larger .ensures)
-    (c .before .before .if6 .taken) (lower-passed (u .before)) (higher-passed u) (c .before .is-theirs3 .ensures) (c .if7 .taken)
-
-free-place-requires-2 : tie.Need-free-place-requires-2
-free-place-requires-2 c κs = search needs
-
-returns-5 : tie.Need-returns-5
-returns-5 c = search needs
-
 pub free-place-from-spec : {M : Type 1} → statement M
 free-place-from-spec =
     tie.close
     (tie.spec
-    free-place-requires
-    returns
-    add-a
-    shared-slice-read-a
-    add-b
-    shared-slice-read-b
-    smaller-requires
-    larger-requires
-    is-theirs-requires
-    cast-t17
-    sub-t18
-    returns-2
-    is-theirs-requires-2
-    cast-t20
-    sub-t21
-    returns-3
-    shared-slice-read-if6
-    add-is-theirs
-    is-theirs-requires-3
-    returns-4
-    free-place-requires-2
-    returns-5)
+    (λ c κs. search needs)
+    (λ c. search needs)
+    (λ c. search needs)
+    (λ c.  -- shared-slice-read-a
+    let l = long (c .before .before .before) in
+    search needs)
+    (λ c. search needs)
+    (λ c.  -- shared-slice-read-b
+    let l = long (c .before .before .before .before) in
+    search needs)
+    (λ c κs. search needs)
+    (λ c κs. search needs)
+    (λ c κs.  -- is-theirs-requires
+    let s = start (c .before) in
+    (long s, s .pre .0 .1, s .pre .0 .2, lower-points c))
+    (λ c. search needs)
+    (λ c.  -- sub-t18
+    let l = lower-points (c .before .before) in
+    search needs)
+    (λ c.  -- returns-2
+    let u = c .before .before in
+    let l = u .before in
+    let s = start l in
+    first-lower (now (s .args .bytes)) (s .pre .0 .0) (s .args .cell) (s .args .pointer) (s .pre .0 .1) (s .pre .0 .2) (s .args .held) (s .pre .1) (lower l) (higher l) (l .before .smaller .ensures) (l .larger .ensures)
+    (lower-points u) (lower-first u) (c .before .is-theirs .ensures) (c .if3 .taken))
+    (λ c κs.  -- is-theirs-requires-2
+    let s = start (c .before .before) in
+    (long s, s .pre .0 .1, s .pre .0 .2, higher-points c))
+    (λ c. search needs)
+    (λ c.  -- sub-t21
+    let l = higher-points (c .before .before) in
+    search needs)
+    (λ c.  -- returns-3
+    let u = c .before .before in
+    let l = u .before .before in
+    let s = start l in
+    first-higher (now (s .args .bytes)) (s .pre .0 .0) (s .args .cell) (s .args .pointer) (s .pre .0 .1) (s .pre .0 .2) (s .args .held) (s .pre .1) (lower l) (higher l) (l .before .smaller .ensures) (l .larger .ensures)
+    (higher-points u) (higher-first u) (lower-passed (u .before)) (c .before .is-theirs2 .ensures) (c .if5 .taken))
+    (λ c.  -- shared-slice-read-if6
+    let l = long (start (c .before .before .before)) in
+    search needs)
+    (λ c.  -- add-is-theirs
+    let s = start (c .before .before .before .before) in
+    let m = valid-first (now (s .args .bytes)) (s .pre .0 .0) in
+    search needs)
+    (λ c κs.  -- is-theirs-requires-3
+    let s = start (c .before .before .before .before) in
+    (long s, s .pre .0 .1, s .pre .0 .2, omega arith))
+    (λ c.  -- returns-4
+    let u = c .before .before .before .before in
+    let l = u .before .before in
+    let s = start l in
+    first-after (now (s .args .bytes)) (s .pre .0 .0) (s .args .cell) (s .args .pointer) (s .pre .0 .1) (s .pre .0 .2) (s .args .held) (s .pre .1) (lower l) (higher l) (l .before .smaller .ensures) (l .larger .ensures)
+    (c .before .before .if6 .taken) (lower-passed (u .before)) (higher-passed u) (c .before .is-theirs3 .ensures) (c .if7 .taken))
+    (λ c κs. search needs)
+    (λ c. search needs))

@@ -16,55 +16,28 @@ Inv-loop marks₀ pointers from end h₀ marks h = (h ≤ end) × (length marks 
 abbrev μ-loop : tie.MeasureT-loop
 μ-loop marks₀ pointers from end h₀ marks h = end - h
 
-add-end : tie.Need-add-end Inv-loop μ-loop
-add-end c = search needs
-
-loop-holds : tie.Need-loop-holds Inv-loop μ-loop
-loop-holds c = (search needs, c .pre .1 .0, c .pre .1 .1)
-
-shared-slice-read-v : tie.Need-shared-slice-read-v Inv-loop μ-loop
-shared-slice-read-v c = search needs
-
-cast-v : tie.Need-cast-v Inv-loop μ-loop
-cast-v c = omega (arith, c .before .before .before .pre .0 .1 (c .before .before .loop .h))
-
-element-write-marks : tie.Need-element-write-marks Inv-loop μ-loop
-element-write-marks c = c .before .before .before .pre .0 .1 (c .before .before .loop .h)
-
-add-h : tie.Need-add-h Inv-loop μ-loop
-add-h c = search needs
-
-loop-less : tie.Need-loop-less Inv-loop μ-loop
-loop-less c = search needs
-
-loop-again : tie.Need-loop-again Inv-loop μ-loop
-loop-again c =
-    let w = c .before .before .loop in
-    let s = c .before .before .before in
-    let ps = now (s .args .pointers) in (
-      search needs,
-      simp length-set (w .inv .1),
-      marks-next (λ k. getD ps k 0) (w .marks) (w .h) (getD ps (w .h) 0) (w .inv .1) refl (s .pre .0 .1 (w .h)) (w .inv .2),
-    )
-
-returns : tie.Need-returns Inv-loop μ-loop
-returns c =
-    let w = c .before .loop in
-    let e : w .h ≡ c .before .before .args .from + 12 = omega (arith, w .inv .0, c .loop-test .left) in
-    (w .inv .1, rw e at (w .inv .2))
-
 pub mark-group-spec : {M : Type 1} → statement M
 mark-group-spec =
     tie.close
     (tie.spec
     Inv-loop
     μ-loop
-    add-end
-    loop-holds
-    shared-slice-read-v
-    cast-v
-    element-write-marks
-    add-h
-    loop-less
-    loop-again
-    returns)
+    (λ c. search needs)
+    (λ c. (search needs, c .pre .1 .0, c .pre .1 .1))  -- loop-holds
+    (λ c. search needs)
+    (λ c. omega (arith, c .before .before .before .pre .0 .1 (c .before .before .loop .h)))  -- cast-v
+    (λ c. c .before .before .before .pre .0 .1 (c .before .before .loop .h))  -- element-write-marks
+    (λ c. search needs)
+    (λ c. search needs)
+    (λ c.  -- loop-again
+    let w = c .before .before .loop in
+    let s = c .before .before .before in
+    let ps = now (s .args .pointers) in (
+      search needs,
+      simp length-set (w .inv .1),
+      marks-next (λ k. getD ps k 0) (w .marks) (w .h) (getD ps (w .h) 0) (w .inv .1) refl (s .pre .0 .1 (w .h)) (w .inv .2),
+    ))
+    (λ c.  -- returns
+    let w = c .before .loop in
+    let e : w .h ≡ c .before .before .args .from + 12 = omega (arith, w .inv .0, c .loop-test .left) in
+    (w .inv .1, rw e at (w .inv .2))))
