@@ -232,7 +232,7 @@ fn plan_at(index: &[u8], s: &[u8], o: RecordOrder, fresh: bool, i: usize) -> Pla
     if o.flags & protocol::ICON == 0 {
         return Plan::ChangeRecord(change_at(o, fresh, i, held, pointer, 0));
     }
-    let f = places::free_place(index, held, pointer);
+    let f = places_free::free_place(index, held, pointer);
     let Found::At(p) = f else {
         return Plan::Refuse(17);
     };
