@@ -49,7 +49,7 @@ fn runs(cell: &[u8], bits: u8) -> usize
 {
     let a = wire::read_u16(cell, 8) as usize;
     let b = wire::read_u16(cell, 10) as usize;
-    if order::icon::has_table(bits) {
+    if order_icon::has_table(bits) {
         let c = wire::read_u16(cell, 12) as usize;
         return a + b + c;
     }

@@ -43,7 +43,7 @@ fn on_state(d: &[u8], s: &[u8], w: JournalExtent) -> Explanation
     requires { ⌜ Judgeable (now d) w ⌝ }
     ensures { λ r. ⌜ r ≡ onState (now (d .entry)) (now (s .entry)) w ⌝ }
 {
-    let j = order::judge(s);
+    let j = order_judge::judge(s);
     match j {
         Judged::Window(_) => on_table(d, s, w),
         Judged::Notification(_) => on_table(d, s, w),

@@ -28,9 +28,9 @@ pub(crate) fn remove(index: &mut [u8], i: usize)
     ensures { λ _. ⌜ now (index .exit) ≡ removedOf (now (index .entry)) i ⌝ }
 {
     let icon = places::CELLS + places::ICONS_EACH * i;
-    places::release(index, icon);
-    places::release(index, icon + 1);
-    places::release(index, icon + 2);
+    places_change::release(index, icon);
+    places_change::release(index, icon + 1);
+    places_change::release(index, icon + 2);
     wire::write_u8(index, places::LENGTH + slots::SLOT * i, 0);
 }
 
@@ -41,15 +41,15 @@ fn picture(index: &mut [u8], c: Change)
 {
     let flags = c.flags;
     if flags & protocol::ICON != 0 {
-        places::take_at(index, c.cell, c.pointer, c.place);
+        places_change::take_at(index, c.cell, c.pointer, c.place);
         return;
     }
     if flags & protocol::CACHED_ICON != 0 {
-        places::share(index, c.pointer, c.cell);
+        places_change::share(index, c.pointer, c.cell);
         return;
     }
     if flags & protocol::OVERLAY_NONE != 0 {
-        places::release(index, c.pointer);
+        places_change::release(index, c.pointer);
     }
 }
 
@@ -75,7 +75,7 @@ pub(crate) fn clear(index: &mut [u8])
     requires { ⌜ indexLength ≤ length (now index) ⌝ }
     ensures { λ _. ⌜ now (index .exit) ≡ clearedOf (now (index .entry)) ⌝ }
 {
-    places::release_records(index);
+    places_change::release_records(index);
     wire::clear(index, places::LENGTH, SLOTS);
 }
 

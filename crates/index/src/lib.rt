@@ -232,7 +232,7 @@ fn plan_at(index: &[u8], s: &[u8], o: RecordOrder, fresh: bool, i: usize) -> Pla
     if o.flags & protocol::ICON == 0 {
         return Plan::ChangeRecord(change_at(o, fresh, i, held, pointer, 0));
     }
-    let f = places::free_place(index, held, pointer);
+    let f = places_free::free_place(index, held, pointer);
     let Found::At(p) = f else {
         return Plan::Refuse(17);
     };
@@ -299,7 +299,7 @@ pub fn judge_near(index: &[u8], s: &[u8], near: usize) -> Plan
     requires { ⌜ soundIndex (now index) ≡ true ⌝ }
     ensures { λ r. ⌜ r ≡ planOf (now (index .entry)) (now (s .entry)) ⌝ }
 {
-    let j = order::judge(s);
+    let j = order_judge::judge(s);
     let r = match j {
         Judged::Window(o) => of_window(o),
         Judged::Notification(o) => of_notification(o),
@@ -348,7 +348,7 @@ fn step_judged(index: &mut [u8], s: &[u8], near: usize, held: u8, full: bool) ->
     requires { ⌜ (soundIndex (now index) ≡ true) × HeldBelow (now index) held ⌝ }
     ensures { λ r. ⌜ StepOutcome full (now (index .entry)) (planOf (now (index .entry)) (now (s .entry))) r (now (index .exit)) ⌝ }
 {
-    let j = order::judge(s);
+    let j = order_judge::judge(s);
     let r = match j {
         Judged::Window(o) => of_window(o),
         Judged::Notification(o) => of_notification(o),

@@ -139,7 +139,7 @@ fn at(
             full,
         );
     }
-    let f = places::free_place_from(index, beside, pointer, held);
+    let f = places_held::free_place_from(index, beside, pointer, held);
     let Found::At(p) = f else {
         return no_slot(17);
     };
@@ -248,7 +248,7 @@ fn share_at(index: &mut [u8], s: &[u8], o: RecordOrder, i: usize, full: bool) ->
     }
     let pointer = crate::pointer_of(i, o.flags);
     let held = crate::beside(c, pointer);
-    places::share(index, pointer, held);
+    places_change::share(index, pointer, held);
     Stepped {
         number: 0,
         slot: i,
@@ -278,7 +278,7 @@ fn take_at(index: &mut [u8], s: &[u8], o: RecordOrder, i: usize, held: u8, full:
     let c = crate::cell(s, o.icon);
     let pointer = crate::pointer_of(i, o.flags);
     let beside = crate::beside(c, pointer);
-    let f = places::free_place_from(index, beside, pointer, held);
+    let f = places_held::free_place_from(index, beside, pointer, held);
     let Found::At(p) = f else {
         return no_slot(17);
     };
@@ -289,7 +289,7 @@ fn take_at(index: &mut [u8], s: &[u8], o: RecordOrder, i: usize, held: u8, full:
             held: 0,
         };
     }
-    places::take_at(index, beside, pointer, p);
+    places_change::take_at(index, beside, pointer, p);
     Stepped {
         number: 0,
         slot: i,

@@ -30,7 +30,7 @@ pub fn put(
     ensures { λ _. ⌜ now (heads .exit) ≡ headsAfter (now (heads .entry)) p (now (s .entry)) icon ⌝ }
     ensures { λ _. ⌜ five (now (a .exit)) (now (b .exit)) (now (c .exit)) (now (d .exit)) (now (e .exit)) ≡ storeAfter (five (now (a .entry)) (now (b .entry)) (now (c .entry)) (now (d .entry)) (now (e .entry))) p (now (s .entry)) icon ⌝ }
 {
-    let parts = order::icon::icon_parts(s, icon);
+    let parts = order_icon::icon_parts(s, icon);
     let mask = parts.mask;
     wire::copy_part(heads, HEAD * p, s, icon, mask - icon);
     store::put(a, b, c, d, e, p, &s[mask..]);
@@ -62,7 +62,7 @@ pub fn show(
 {
     let at = HEAD * p;
     let end = at + HEAD;
-    let parts = order::icon::icon_parts(&heads[at..end], 0);
+    let parts = order_icon::icon_parts(&heads[at..end], 0);
     let from = parts.mask - 3;
     let n = parts.end - parts.mask;
     wire::copy_part(out, 0, heads, at + 3, from);

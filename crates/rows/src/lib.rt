@@ -6,8 +6,6 @@ ghost use lib.ListN.{length};
 ghost use Rattle.rows.specs.Rows.{rowOf, numbersRow, showRow, switchRow, textRow, rectanglesRow, idsRow, edgeRow, kindRow, rowsFrom, roomOf, firstOf, lenOf, numberOk, okOf, cutOf, firstBad, stepOf, walkOf, fieldOf, Good, Within};
 ghost use Rattle.wire.specs.Tests.{pick, both, hasAll};
 
-pub mod ends;
-
 // Fields that end within the order, with the offset of the first number outside its set (0 for none); or the offset of the
 // first number or run that does not fit whole.
 pub enum Fit {

@@ -30,7 +30,7 @@ fn begins_at(s: &[u8], flags: u32, icon: u32) -> usize
 fn carried_from(s: &[u8]) -> usize
     ensures { λ r. ⌜ Carries (now (s .entry)) r ⌝ }
 {
-    let j = order::judge(s);
+    let j = order_judge::judge(s);
     match j {
         Judged::Window(o) => begins_at(s, o.flags, o.icon),
         Judged::Notification(o) => begins_at(s, o.flags, o.icon),

@@ -1,6 +1,6 @@
 // Orders that say one thing are judged at a glance, with no walk over fields: a window's delete, its icon or cached icon,
 // the desktop's stacking list with the active window. Where their fields end is told by the one table of rows. Any other order,
-// and a bad one of these, is left to `order::judge`.
+// and a bad one of these, is left to `order_judge::judge`.
 ghost use mathlib.Core.Path.{_≡_};
 ghost use mathlib.Core.Bool.{true};
 ghost use Prim.Native.Nat.{_≤_};
@@ -31,12 +31,12 @@ const SIZE_AT: usize = 1;
 
 pub const FLAGS_AT: usize = 3;
 
-pub const ID_AT: usize = rows::ends::HEADER;
+pub const ID_AT: usize = row_ends::HEADER;
 
 // Where an order for a window without a field ends, and its icon or cached icon begins; where a cached icon ends.
-pub const ICON_AT: u32 = rows::ends::FIELDS_AT as u32;
+pub const ICON_AT: u32 = row_ends::FIELDS_AT as u32;
 
-const CACHED_END: usize = rows::ends::FIELDS_AT + order::icon::CACHED_LENGTH;
+const CACHED_END: usize = row_ends::FIELDS_AT + order_icon::CACHED_LENGTH;
 
 // The order begins with the type byte and its own size, and index end lies within it.
 fn is_framed(s: &[u8], end: usize) -> bool
@@ -51,10 +51,10 @@ fn is_framed(s: &[u8], end: usize) -> bool
 pub fn is_delete(s: &[u8]) -> bool
     ensures { λ r. ⌜ r ≡ goodWith deleteFlags (now (s .entry)) ⌝ }
 {
-    if rows::ends::FIELDS_AT != s.len() {
+    if row_ends::FIELDS_AT != s.len() {
         return false;
     }
-    is_framed(s, rows::ends::FIELDS_AT) & (wire::read_u32(s, FLAGS_AT) == DELETE)
+    is_framed(s, row_ends::FIELDS_AT) & (wire::read_u32(s, FLAGS_AT) == DELETE)
 }
 
 // The order is good and brings a window's cached icon, small or big, and nothing else.
@@ -68,10 +68,10 @@ pub fn is_cached(s: &[u8]) -> bool
     if (flags != CACHED) & (flags != CACHED_BIG) {
         return false;
     }
-    if !is_framed(s, rows::ends::FIELDS_AT) {
+    if !is_framed(s, row_ends::FIELDS_AT) {
         return false;
     }
-    order::icon::is_whole_cached(s, rows::ends::FIELDS_AT)
+    order_icon::is_whole_cached(s, row_ends::FIELDS_AT)
 }
 
 // The order is good and brings a window's icon, small or big, and nothing else.
@@ -82,10 +82,10 @@ pub fn is_icon(s: &[u8]) -> bool
     if (flags != ICON) & (flags != ICON_BIG) {
         return false;
     }
-    if !is_framed(s, rows::ends::FIELDS_AT) {
+    if !is_framed(s, row_ends::FIELDS_AT) {
         return false;
     }
-    order::icon::is_whole(s, rows::ends::FIELDS_AT)
+    order_icon::is_whole(s, row_ends::FIELDS_AT)
 }
 
 // The order is good and brings the desktop's stacking list and active window, and nothing else.
@@ -95,7 +95,7 @@ pub fn is_list(s: &[u8]) -> bool
     if wire::read_u32(s, FLAGS_AT) != LIST {
         return false;
     }
-    let end = rows::ends::desktop(s, LIST);
+    let end = row_ends::desktop(s, LIST);
     if end != s.len() {
         return false;
     }

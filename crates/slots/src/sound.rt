@@ -102,7 +102,7 @@ pub fn is_sound(index: &[u8]) -> bool
     if index.len() < crate::LENGTH {
         return false;
     }
-    if !places::is_valid(index) {
+    if !places_valid::is_valid(index) {
         return false;
     }
     if !slots_ok(index, 0, crate::WINDOWS, 0) {

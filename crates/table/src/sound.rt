@@ -160,7 +160,7 @@ fn holders_ok(index: &[u8], bodies: &[u8]) -> bool
     requires { ⌜ (soundIndex (now index) ≡ true) × (bodiesLength ≤ length (now bodies)) ⌝ }
     ensures { λ r. ⌜ r ≡ eachBelow holderCount (holderOk (now (index .entry)) (now (bodies .entry))) ⌝ }
 {
-    let marks = places::marks(index);
+    let marks = places_free::marks(index);
     places_ok(&marks, bodies)
 }
 

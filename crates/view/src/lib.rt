@@ -211,7 +211,7 @@ pub fn picture(bytes: &[u8]) -> PictureRecord
     let first = wire::read_u16(bytes, 5);
     let second = wire::read_u16(bytes, 7);
     let mut content = [0u8; 4224];
-    if order::icon::has_table(bits) {
+    if order_icon::has_table(bits) {
         let third = wire::read_u16(bytes, 9);
         parts::put_bytes(&mut content, bytes, 11, 4224);
         return PictureRecord {

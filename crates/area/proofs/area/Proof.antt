@@ -16,52 +16,27 @@ Inv-loop s n sum₀ i₀ sum i = (i ≤ n) × (sum ≡ areaBy s i)
 abbrev μ-loop : tie.MeasureT-loop
 μ-loop s n sum₀ i₀ sum i = n - i
 
-listed-requires : tie.Need-listed-requires Inv-loop μ-loop
-listed-requires c κs = search needs
-
-loop-holds : tie.Need-loop-holds Inv-loop μ-loop
-loop-holds c = (omega arith, sym (area-none (now (c .before .before .args .s))))
-
-rect-at-requires : tie.Need-rect-at-requires Inv-loop μ-loop
-rect-at-requires c κs = search needs
-
-piece-requires : tie.Need-piece-requires Inv-loop μ-loop
-piece-requires c κs = search needs
-
-add-sum : tie.Need-add-sum Inv-loop μ-loop
-add-sum c =
-    let w = c .before .before .before in
-    omega (arith, area-most (now (w .before .before .before .args .s)) (w .loop .i))
-
-add-i : tie.Need-add-i Inv-loop μ-loop
-add-i c = search needs
-
-loop-less : tie.Need-loop-less Inv-loop μ-loop
-loop-less c = search needs
-
-loop-again : tie.Need-loop-again Inv-loop μ-loop
-loop-again c = let w = c .before .before .before in
-    let a = w .before .before .before .args in
-    (omega arith, grown (now (a .s)) (w .loop .i) (c .before .rect-at .ensures) (w .loop .inv .1) (c .piece .ensures .0))
-
-returns : tie.Need-returns Inv-loop μ-loop
-returns c = let w = c .before in
-    let s = now (w .before .before .before .args .s) in
-    let e : w .loop .i ≡ w .before .listed .result = omega arith in
-    whole s (w .before .listed .ensures .0) (w .loop .inv .1 ∙ ap (areaBy s) e)
-
 pub area-spec : {M : Type 1} → statement M
 area-spec =
     tie.close
     (tie.spec
     Inv-loop
     μ-loop
-    listed-requires
-    loop-holds
-    rect-at-requires
-    piece-requires
-    add-sum
-    add-i
-    loop-less
-    loop-again
-    returns)
+    (λ c κs. search needs)
+    (λ c. (omega arith, sym (area-none (now (c .before .before .args .s)))))  -- loop-holds
+    (λ c κs. search needs)
+    (λ c κs. search needs)
+    (λ c.  -- add-sum
+    let w = c .before .before .before in
+    omega (arith, area-most (now (w .before .before .before .args .s)) (w .loop .i)))
+    (λ c. search needs)
+    (λ c. search needs)
+    (λ c.  -- loop-again
+    let w = c .before .before .before in
+    let a = w .before .before .before .args in
+    (omega arith, grown (now (a .s)) (w .loop .i) (c .before .rect-at .ensures) (w .loop .inv .1) (c .piece .ensures .0)))
+    (λ c.  -- returns
+    let w = c .before in
+    let s = now (w .before .before .before .args .s) in
+    let e : w .loop .i ≡ w .before .listed .result = omega arith in
+    whole s (w .before .listed .ensures .0) (w .loop .inv .1 ∙ ap (areaBy s) e)))

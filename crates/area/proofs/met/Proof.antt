@@ -15,50 +15,29 @@ Inv-loop s n q k₀ k = (k ≤ n) × (leftOver s n q ≡ leftOver s k q)
 abbrev μ-loop : tie.MeasureT-loop
 μ-loop s n q k₀ k = k
 
-loop-holds : tie.Need-loop-holds Inv-loop μ-loop
-loop-holds c = (search needs, refl)
-
-sub-i : tie.Need-sub-i Inv-loop μ-loop
-sub-i c = search needs
-
-rect-at-requires : tie.Need-rect-at-requires Inv-loop μ-loop
-rect-at-requires c κs = search needs
-
-meet-requires : tie.Need-meet-requires Inv-loop μ-loop
-meet-requires c κs = search needs
-
-returns : tie.Need-returns Inv-loop μ-loop
-returns c = let w = c .before .before .before .before in
-    let a = w .before .before .args in
-    let e = tells (now (a .s)) (w .loop .k - 1) (a .q) (c .before .before .rect-at .ensures) (c .before .meet .ensures) in
-    record { below = w .loop .inv .0; same = w .loop .inv .1; hit = λ h. sym e ∙ c .if1 .taken }
-
-loop-less : tie.Need-loop-less Inv-loop μ-loop
-loop-less c = search needs
-
-loop-again : tie.Need-loop-again Inv-loop μ-loop
-loop-again c = let w = c .before .before .before .before in
-    let a = w .before .before .args in
-    let e = tells (now (a .s)) (w .loop .k - 1) (a .q) (c .before .before .rect-at .ensures) (c .before .meet .ensures) in
-    (omega arith, w .loop .inv .1 ∙ one-less (now (a .s)) (w .loop .k) (a .q) (omega arith) (sym e ∙ c .if1 .left))
-
-returns-2 : tie.Need-returns-2 Inv-loop μ-loop
-returns-2 c = let w = c .before in
-    let a = w .before .before .args in
-    let e : w .loop .k ≡ 0 = omega arith in
-    record { below = omega arith; same = w .loop .inv .1 ∙ ap (λ (k : ℕ). leftOver (now (a .s)) k (a .q)) e; hit = λ h. absurd (omega arith) }
-
 pub met-spec : {M : Type 1} → statement M
 met-spec =
     tie.close
     (tie.spec
     Inv-loop
     μ-loop
-    loop-holds
-    sub-i
-    rect-at-requires
-    meet-requires
-    returns
-    loop-less
-    loop-again
-    returns-2)
+    (λ c. (search needs, refl))  -- loop-holds
+    (λ c. search needs)
+    (λ c κs. search needs)
+    (λ c κs. search needs)
+    (λ c.  -- returns
+    let w = c .before .before .before .before in
+    let a = w .before .before .args in
+    let e = tells (now (a .s)) (w .loop .k - 1) (a .q) (c .before .before .rect-at .ensures) (c .before .meet .ensures) in
+    record { below = w .loop .inv .0; same = w .loop .inv .1; hit = λ h. sym e ∙ c .if1 .taken })
+    (λ c. search needs)
+    (λ c.  -- loop-again
+    let w = c .before .before .before .before in
+    let a = w .before .before .args in
+    let e = tells (now (a .s)) (w .loop .k - 1) (a .q) (c .before .before .rect-at .ensures) (c .before .meet .ensures) in
+    (omega arith, w .loop .inv .1 ∙ one-less (now (a .s)) (w .loop .k) (a .q) (omega arith) (sym e ∙ c .if1 .left)))
+    (λ c.  -- returns-2
+    let w = c .before in
+    let a = w .before .before .args in
+    let e : w .loop .k ≡ 0 = omega arith in
+    record { below = omega arith; same = w .loop .inv .1 ∙ ap (λ (k : ℕ). leftOver (now (a .s)) k (a .q)) e; hit = λ h. absurd (omega arith) }))

@@ -10,12 +10,6 @@ use Rattle.figure.proofs.FigureSums.{hidden, by-list, visible}
 use Rattle.figure.proofs.pixels_at.Statement.{statement}
 use Rattle.figure.proofs.pixels_at.Tie as tie
 
-single-requires : tie.Need-single-requires
-single-requires c κs = let r = c .before in
-    let a = r .before .before .before .before .before .args in
-    let from = 1392 * a .i + 736 in
-    lists-one (take (from + 130 - from) (drop from (now (a .bodies)))) (sym (r .read-u16 .ensures) ∙ c .if2 .taken) (search needs)
-
 pub pixels-at-spec : {M : Type 1} → statement M
 pixels-at-spec =
     tie.close
@@ -28,7 +22,11 @@ pixels-at-spec =
     (λ c. search needs)
     (λ c. search needs)
     (λ c κs. search needs)
-    single-requires
+    (λ c κs.  -- single-requires
+    let r = c .before in
+    let a = r .before .before .before .before .before .args in
+    let from = 1392 * a .i + 736 in
+    lists-one (take (from + 130 - from) (drop from (now (a .bodies)))) (sym (r .read-u16 .ensures) ∙ c .if2 .taken) (search needs))
     (λ c.  -- returns-2
     let w = c .before .before .before .before in
     let u = w .before .before .before in

@@ -21,28 +21,21 @@ Inv-loop x index bodies journal count windows₀ pixels₀ i₀ windows pixels i
 abbrev μ-loop : tie.MeasureT-loop
 μ-loop x index bodies journal count windows₀ pixels₀ i₀ windows pixels i = 32 - i
 
-loop-holds : tie.Need-loop-holds Inv-loop μ-loop
-loop-holds c =
+pub count-held-spec : {M : Type 1} → statement M
+count-held-spec =
+    tie.close
+    (tie.spec
+    Inv-loop
+    μ-loop
+    (λ c.  -- loop-holds
     let a = c .before .before .before .before .args in
-    (omega arith, omega arith, omega arith, sum-zero (heldAt shownOne (now (a .x)) (now (a .index)) (now (a .bodies)) (now (a .journal)) (a .count)), sum-zero (heldAt pixelsOf (now (a .x)) (now (a .index)) (now (a .bodies)) (now (a .journal)) (a .count)))
-
-slot-held-requires : tie.Need-slot-held-requires Inv-loop μ-loop
-slot-held-requires c κs = (omega arith, c .before .before .before .before .before .before .pre)
-
-add-windows : tie.Need-add-windows Inv-loop μ-loop
-add-windows c = let s = c .before .slot-held .ensures in omega (arith, c .before .before .before .loop .inv .0, c .before .before .before .loop .inv .1, s .few)
-
-add-pixels : tie.Need-add-pixels Inv-loop μ-loop
-add-pixels c = let s = c .before .before .slot-held .ensures in omega (arith, c .before .before .before .before .loop .inv .0, c .before .before .before .before .loop .inv .2, s .most)
-
-add-i : tie.Need-add-i Inv-loop μ-loop
-add-i c = search needs
-
-loop-less : tie.Need-loop-less Inv-loop μ-loop
-loop-less c = search needs
-
-loop-again : tie.Need-loop-again Inv-loop μ-loop
-loop-again c =
+    (omega arith, omega arith, omega arith, sum-zero (heldAt shownOne (now (a .x)) (now (a .index)) (now (a .bodies)) (now (a .journal)) (a .count)), sum-zero (heldAt pixelsOf (now (a .x)) (now (a .index)) (now (a .bodies)) (now (a .journal)) (a .count))))
+    (λ c κs. (omega arith, c .before .before .before .before .before .before .pre))  -- slot-held-requires
+    (λ c. let s = c .before .slot-held .ensures in omega (arith, c .before .before .before .loop .inv .0, c .before .before .before .loop .inv .1, s .few))  -- add-windows
+    (λ c. let s = c .before .before .slot-held .ensures in omega (arith, c .before .before .before .before .loop .inv .0, c .before .before .before .before .loop .inv .2, s .most))  -- add-pixels
+    (λ c. search needs)
+    (λ c. search needs)
+    (λ c.  -- loop-again
     let l = c .before .before .before .before .loop in
     let a = c .before .before .before .before .before .before .before .before .before .args in
     let s = c .before .before .slot-held .ensures in (
@@ -51,14 +44,8 @@ loop-again c =
       omega (arith, l .inv .2, s .most),
       sum-more (l .i) (heldAt shownOne (now (a .x)) (now (a .index)) (now (a .bodies)) (now (a .journal)) (a .count)) (l .inv .3) (s .windows),
       sum-more (l .i) (heldAt pixelsOf (now (a .x)) (now (a .index)) (now (a .bodies)) (now (a .journal)) (a .count)) (l .inv .4) (s .pixels),
-    )
-
-returns : tie.Need-returns Inv-loop μ-loop
-returns c =
+    ))
+    (λ c.  -- returns
     let l = c .before .loop in
     let a = c .before .before .before .before .before .before .args in
-    all-held (now (a .x)) (now (a .index)) (now (a .bodies)) (now (a .journal)) (a .count) (omega (arith, c .loop-test .left, l .inv .0)) (l .inv .3) (l .inv .4)
-
-pub count-held-spec : {M : Type 1} → statement M
-count-held-spec =
-    tie.close (tie.spec Inv-loop μ-loop loop-holds slot-held-requires add-windows add-pixels add-i loop-less loop-again returns)
+    all-held (now (a .x)) (now (a .index)) (now (a .bodies)) (now (a .journal)) (a .count) (omega (arith, c .loop-test .left, l .inv .0)) (l .inv .3) (l .inv .4)))

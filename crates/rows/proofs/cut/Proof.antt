@@ -8,27 +8,14 @@ use borrow.Author.Needs.{needs}
 use Rattle.rows.proofs.cut.Statement.{statement}
 use Rattle.rows.proofs.cut.Tie as tie
 
-sub-a : tie.Need-sub-a
-sub-a c = search needs
-
-returns : tie.Need-returns
-returns c = let a = c .before .before .args in cut-first (a .r) (now (a .s)) (a .at) (c .if1 .taken)
-
-add-result : tie.Need-add-result
-add-result c = search needs
-
-div-result : tie.Need-div-result
-div-result c = search needs
-
-mul-result : tie.Need-mul-result
-mul-result c = let a = c .before .before .before .before .before .before .args in omega (arith, pieces (length (now (a .s)) - a .at - a .r .head) (a .r .piece))
-
-add-result-2 : tie.Need-add-result-2
-add-result-2 c = let a = c .before .before .before .before .before .before .args in omega (arith, c .before .before .before .before .if1 .left, pieces (length (now (a .s)) - a .at - a .r .head) (a .r .piece))
-
-returns-2 : tie.Need-returns-2
-returns-2 c = let a = c .before .before .before .before .before .before .args in cut-later (a .r) (now (a .s)) (a .at) (c .before .before .before .before .if1 .left)
-
 pub cut-spec : {M : Type 1} → statement M
 cut-spec =
-    tie.close (tie.spec sub-a returns add-result div-result mul-result add-result-2 returns-2)
+    tie.close
+    (tie.spec
+    (λ c. search needs)
+    (λ c. let a = c .before .before .args in cut-first (a .r) (now (a .s)) (a .at) (c .if1 .taken))  -- returns
+    (λ c. search needs)
+    (λ c. search needs)
+    (λ c. let a = c .before .before .before .before .before .before .args in omega (arith, pieces (length (now (a .s)) - a .at - a .r .head) (a .r .piece)))  -- mul-result
+    (λ c. let a = c .before .before .before .before .before .before .args in omega (arith, c .before .before .before .before .if1 .left, pieces (length (now (a .s)) - a .at - a .r .head) (a .r .piece)))  -- add-result-2
+    (λ c. let a = c .before .before .before .before .before .before .args in cut-later (a .r) (now (a .s)) (a .at) (c .before .before .before .before .if1 .left)))  -- returns-2
