@@ -73,7 +73,7 @@ pub fn deliver_on(
 {
     let full = (journal::MOST_ORDERS < w.count + 1)
         | (journal::MOST_BYTES < w.end - journal::START + s.len());
-    let r = index::step(d, s, near, held, full);
+    let r = index_step::step(d, s, near, held, full);
     if r.number == 0 {
         append(journal, s, w.count, w.end);
     }

@@ -52,7 +52,7 @@ pub fn empty(index: &mut [u8], bodies: &mut [u8], lent: usize)
     ensures { λ _. ⌜ Emptied (now (index .entry)) (now (bodies .entry)) lent (now (index .exit)) (now (bodies .exit)) ⌝ }
 {
     let n = fixed(lent);
-    index::changes::empty(index, n);
+    index_change::empty(index, n);
     body::prepare(&mut bodies[DESKTOP..HEADS], true);
 }
 
@@ -70,9 +70,9 @@ pub fn deliver(
     requires { ⌜ soundTable (now index) (now bodies) (placesIn (five (now a) (now b) (now c) (now d) (now e))) ≡ true ⌝ }
     ensures { λ r. ⌜ Delivered (now (index .entry)) (now (bodies .entry)) (five (now (a .entry)) (now (b .entry)) (now (c .entry)) (now (d .entry)) (now (e .entry))) (now (s .entry)) r (now (index .exit)) (now (bodies .exit)) (five (now (a .exit)) (now (b .exit)) (now (c .exit)) (now (d .exit)) (now (e .exit))) ⌝ }
 {
-    let p = index::judge(index, s);
+    let p = index_plan::judge(index, s);
     changes::bodies(bodies, s, p);
     changes::pictures(bodies, a, b, c, d, e, s, p);
-    index::changes::apply(index, p);
-    index::number(p)
+    index_change::apply(index, p);
+    index_plan::number(p)
 }
