@@ -130,7 +130,7 @@ fn can_replay(index: &[u8], bodies: &[u8], lent: usize, journal: &[u8]) -> bool
     if too_short(index, bodies, lent, journal) {
         return false;
     }
-    if !table::sound::is_sound(index, bodies, lent) {
+    if !table_sound::is_sound(index, bodies, lent) {
         return false;
     }
     let count = wire::read_u16(journal, 0) as usize;
@@ -219,7 +219,7 @@ pub fn apply(
     let mut i = 0;
     while i < count {
         let end = p + wire::read_u16(journal, p + 1) as usize;
-        table::deliver(index, bodies, a, b, c, d, e, &journal[p..end]);
+        table_change::deliver(index, bodies, a, b, c, d, e, &journal[p..end]);
         p = end;
         i += 1;
     }

@@ -43,7 +43,7 @@ pub fn reset(index: &mut [u8], bodies: &mut [u8], lent: usize, journal: &mut [u8
     if journal::too_short(index, bodies, lent, journal) {
         return refused(1);
     }
-    table::empty(index, bodies, lent);
+    table_change::empty(index, bodies, lent);
     set_mark(index, bodies, journal)
 }
 
