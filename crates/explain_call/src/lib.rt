@@ -19,8 +19,8 @@ fn on_table(d: &[u8], s: &[u8], w: JournalExtent) -> Explanation
     requires { ⌜ Judgeable (now d) w ⌝ }
     ensures { λ r. ⌜ r ≡ onTable (now (d .entry)) (now (s .entry)) w ⌝ }
 {
-    let p = index::judge(d, s);
-    let number = index::number(p);
+    let p = index_plan::judge(d, s);
+    let number = index_plan::number(p);
     if number != 0 {
         return Explanation {
             number,

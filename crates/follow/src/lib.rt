@@ -14,7 +14,6 @@ use places::Family;
 use places::Found;
 use protocol::NotifyIconId;
 use protocol::WindowId;
-use table::changes;
 
 // What is followed: nothing, a window by its id, a notification icon by its two ids (each with all pictures), the pictures
 // alone, or the desktop state.
@@ -147,7 +146,7 @@ fn follow_slot(
         return;
     }
     let room = slot_room(family);
-    changes::change_slot(&mut m[0..room], s, c);
+    table_change::change_slot(&mut m[0..room], s, c);
 }
 
 fn follow_record(
@@ -187,7 +186,7 @@ fn follow_desktop(m: &mut [u8], s: &[u8], p: Plan)
     let Plan::ChangeDesktop(flags) = p else {
         return;
     };
-    changes::desktop_slot(m, s, flags);
+    table_change::desktop_slot(m, s, flags);
 }
 
 // What an order that has been judged, at index q of the journal, makes of what is wanted.

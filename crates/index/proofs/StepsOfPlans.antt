@@ -99,9 +99,6 @@ module _ (full : Bool) (x : List ℕ) (o : RecordOrder) (i : ℕ) where
           let l = pick (c .fresh) (listedOf x i (o .window .id) (o .notify .id)) x in
           ap (pick (c .deleted) (removedOf x i)) (picture-none l c icon cached overlay)
 
-pub slot-as : (full : Bool) (x : List ℕ) (i : ℕ) {o q : RecordOrder} {r : Stepped} {x' : List ℕ} → o ≡ q → SlotOutcome full x o i r x' → SlotOutcome full x q i r x'
-slot-as full x i e h = rw (← e) h
-
 -- without the new bit no window is new
 pub old-window : (flags : ℕ) → bitAnd flags flagNew ≡ 0 → isNew Windows flags ≡ false
 old-window flags h = rw (eq-eqb (bitAnd flags flagNew) 0 h)

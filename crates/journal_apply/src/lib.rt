@@ -43,7 +43,7 @@ pub fn apply(
     let mut i = 0;
     while i < count {
         let end = p + wire::read_u16(journal, p + 1) as usize;
-        table::deliver(index, bodies, a, b, c, d, e, &journal[p..end]);
+        table_change::deliver(index, bodies, a, b, c, d, e, &journal[p..end]);
         p = end;
         i += 1;
     }

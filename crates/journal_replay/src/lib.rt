@@ -35,11 +35,11 @@ fn follow_order(d: &mut [u8], m: &mut [u8], s: &[u8], q: u16, want: Want, near: 
     ensures { λ r. ⌜ now (d .exit) ≡ indexAfter (now (d .entry)) (now (s .entry)) ⌝ }
     ensures { λ r. ⌜ now (m .exit) ≡ followedAfter want q (now (d .entry)) (now (s .entry)) (now (m .entry)) ⌝ }
 {
-    let p = index::judge_near(d, s, near);
+    let p = index_plan::judge_near(d, s, near);
     follow::follow(m, s, p, q, want);
-    index::changes::apply(d, p);
-    let number = index::number(p);
-    let slot = index::slot(p);
+    index_change::apply(d, p);
+    let number = index_plan::number(p);
+    let slot = index_plan::slot(p);
     Stepped {
         number,
         slot,
@@ -57,7 +57,7 @@ fn replay_order(d: &mut [u8], m: &mut [u8], s: &[u8], q: u16, want: Want, near: 
     let Want::Nothing = want else {
         return follow_order(d, m, s, q, want, near);
     };
-    index::step(d, s, near, 0, false)
+    index_step::step(d, s, near, 0, false)
 }
 
 // Replays count orders of the journal. Where they end, or 0 where one is cut or refused.
@@ -112,7 +112,7 @@ fn can_replay(index: &[u8], bodies: &[u8], lent: usize, journal: &[u8]) -> bool
     if too_short(index, bodies, lent, journal) {
         return false;
     }
-    if !table::sound::is_sound(index, bodies, lent) {
+    if !table_sound::is_sound(index, bodies, lent) {
         return false;
     }
     let count = wire::read_u16(journal, 0) as usize;

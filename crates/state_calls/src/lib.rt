@@ -47,7 +47,7 @@ pub fn reset(index: &mut [u8], bodies: &mut [u8], lent: usize, journal: &mut [u8
     if journal_replay::too_short(index, bodies, lent, journal) {
         return refused(1);
     }
-    table::empty(index, bodies, lent);
+    table_change::empty(index, bodies, lent);
     set_mark(index, bodies, journal)
 }
 
@@ -77,7 +77,7 @@ pub fn deliver_on(
 {
     let full = (journal::MOST_ORDERS < w.count + 1)
         | (journal::MOST_BYTES < w.end - journal::START + s.len());
-    let r = index::step(d, s, near, held, full);
+    let r = index_step::step(d, s, near, held, full);
     if r.number == 0 {
         append(journal, s, w.count, w.end);
     }

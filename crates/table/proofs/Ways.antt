@@ -17,18 +17,14 @@ use Rattle.wire.specs.Parts.{splice}
 use Rattle.wire.proofs.Numbers.{num1-is}
 use Rattle.wire.proofs.Parts.{part-back}
 use Rattle.rows.specs.declared.Row.{Row}
-use Rattle.rows.specs.Rows.{rowsFrom}
 use Rattle.order.specs.Icons.{partsOf}
 use Rattle.protocol.specs.Flags.{flagIcon}
 use Rattle.places.specs.declared.Family.the-variants.{Windows, Notifications}
 use Rattle.places.specs.Counts.{eachBelow}
 use Rattle.places.specs.Memory.{placesOf}
 use Rattle.places.proofs.Counting.{each-has, each-is}
-use Rattle.places.proofs.Bytes.{inside}
-use Rattle.places.proofs.Validity.{valid-has}
 use Rattle.slots.specs.Slots.{usedAt, isUsed}
 use Rattle.slots.specs.Sound.{eachFrom, soundIndex}
-use Rattle.slots.proofs.Soundness.{sound-has}
 use Rattle.index.specs.declared.Change.{Change}
 use Rattle.index.specs.declared.Plan.{Plan}
 use Rattle.index.specs.declared.Plan.the-variants.{ChangeRecord, ChangeDesktop, Refuse}
@@ -37,12 +33,13 @@ use Rattle.body.specs.Bodies.{windowFields, notificationFields, desktopFields, 
 use Rattle.body.specs.Stores.{storeOf, preparedOf, hookedOf, syncedOf, roomAll, EndsWell}
 use Rattle.body.proofs.Slots.{window-start, window-length, slot-within, slot-after, length-slot, slot-lent, slots-back}
 use Rattle.store.specs.Store.{placeLength}
-use Rattle.picture.specs.Pictures.{headLength, headOk, headsAfter, storeAfter}
+use Rattle.picture.specs.Pictures.{headLength, headsAfter, storeAfter}
 use Rattle.table.specs.declared.Brought.{Brought}
 use Rattle.table.specs.Table.{fieldRows}
 use Rattle.table.specs.Memory.{headsStart, headsOf, fixedBy, recordOk, holderOk, soundTable}
 use Rattle.table.specs.Changes.{slotAfter, putsPicture, slotsAfter, headsPut, desktopSlot, slotsBy, broughtBy, headsBy, storeBy, Able, Follows}
 use Rattle.table.proofs.Heads.{desk-start, desk-length, desk-ends}
+use Rattle.table.proofs.HeadsOnce.{place-room}
 
 lacks : (flags mask : ℕ) → bitAnd flags mask ≡ 0 → has flags mask ≡ false
 lacks flags mask h = rw (eq-eqb (bitAnd flags mask) 0 h)
@@ -206,8 +203,7 @@ module _ (s b : List ℕ) where
           × (partsOf s (c .icon) .end - partsOf s (c .icon) .mask ≤ placeLength)
       asks n =
           let q = icon-asks s c w (brings-icon c n) in
-          let low = w .place in
-          (simp (length-take, length-drop) (omega arith), q .0, q .1, q .2)
+          (place-room [] b (c .place) (w .place) big, q .0, q .1, q .2)
   asks-put (ChangeDesktop flags) is t w big = no (sym (ap there is) ∙ t)
   asks-put (Refuse n) is t w big = no (sym (ap there is) ∙ t)
 
@@ -245,7 +241,7 @@ module _ (s b : List ℕ) where
     pub put-there : (store : List (List ℕ)) (p : Plan) {g : Brought} {x : List ℕ} {q : List (List ℕ)} → g ≡ broughtBy p → g .there ≡ true → 61012 ≤ length b
         → length x ≡ length (take (length b - at) (drop at b)) → x ≡ headsAfter (take (length b - at) (drop at b)) (g .place) s (g .icon)
         → q ≡ storeAfter store (g .place) s (g .icon) → (take at b ++ (x ++ drop (length b - at) (drop at b)) ≡ headsBy s p b) × (q ≡ storeBy s p store)
-    put-there store p is t big size f h = rw start (there-put store p is t big (rw start at size) (rw start at f) h)
+    put-there store p {g} {x} {q} is t big size f h = rw start (there-put store p {g = g} {x = x} {q = q} is t big (rw start at size) (rw start at f) h)
 
 -- ---- soundness
 
@@ -270,31 +266,6 @@ module _ (rows : List Row) (x b : List ℕ) (i : ℕ) {n : ℕ} (e : n ≡ getD 
   pub record-held : {r : Bool} → n ≡ 1 → r ≡ bodyOk rows 0 0 (slotOf b i) → r ≡ recordOk rows x b i
   unfolding recordOk
   record-held h f = rw (used-is true (eq-eqb n 1 h)) f
-
-module _ (x b : List ℕ) (h : ℕ) (below : h < 156) where
-  pub holder-none : getD x (h + 1) 0 ≡ 0 → true ≡ holderOk x b h
-  unfolding holderOk
-  holder-none e = rw (inside x h below, e)
-
-  -- a pointer is at most the number of places
-  pub pointer-small : soundIndex x ≡ true → getD x (h + 1) 0 ≤ 64
-  pointer-small ok =
-      let v = valid-has x (sound-has x ok .holders) in
-      let w = v .within h in
-      let m = v .many in
-      let e = inside x h below in
-      omega arith
-
-  pub holder-head : {r : Bool} → 60116 ≤ length b → (getD x (h + 1) 0 ≡ 0 → ⊥) → r ≡ headOk (take (length b - 60116) (drop 60116 b)) (getD x (h + 1) 0 - 1) → r ≡ holderOk x b h
-  unfolding holderOk headsOf
-  holder-head long ne f =
-      let w : take (length b - 60116) (drop 60116 b) ≡ drop 60116 b = take-all (length b - 60116) (drop 60116 b) (simp length-drop (omega arith)) in
-      rw (inside x h below, ne-eqb (getD x (h + 1) 0) 0 ne) (f ∙ ap (λ (y : List ℕ). headOk y (getD x (h + 1) 0 - 1)) w)
-
-  -- the heads lie behind the slots
-  pub head-room : soundIndex x ≡ true → 61012 ≤ length b → (getD x (h + 1) 0 ≡ 0 → ⊥)
-      → 14 * (getD x (h + 1) 0 - 1) + 14 ≤ length (take (length b - 60116) (drop 60116 b))
-  head-room ok big ne = let s = pointer-small ok in simp (length-take, length-drop) (omega (arith, ne))
 
 -- every number below h passed
 module _ (test : ℕ → Bool) where
