@@ -1,8 +1,8 @@
 use denote.Ref.{now}
 use borrow.Author.Needs.{needs}
 use Rattle.chunk.proofs.Tests.{start-first, start-later}
-use Rattle.chunk.proofs.start.Statement.{statement}
-use Rattle.chunk.proofs.start.Tie as tie
+use Rattle.chunk_join.proofs.start.Statement.{statement}
+use Rattle.chunk_join.proofs.start.Tie as tie
 
 -- The start of the memory for a first chunk, else the end of what came.
 pub start-spec : {M : Type 1} → statement M

@@ -1,9 +1,9 @@
 use denote.Ref.{now}
 use borrow.Author.Needs.{needs}
 use Rattle.chunk.specs.Memory.{emptied}
 use Rattle.chunk.proofs.Ways.{reset-short, reset-long}
-use Rattle.chunk.proofs.reset.Statement.{statement}
-use Rattle.chunk.proofs.reset.Tie as tie
+use Rattle.chunk_join.proofs.reset.Statement.{statement}
+use Rattle.chunk_join.proofs.reset.Tie as tie
 
 -- Short memory stays; in longer memory both numbers become 0.
 pub reset-spec : {M : Type 1} → statement M

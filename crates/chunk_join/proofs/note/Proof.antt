@@ -4,9 +4,9 @@ use Prim.Native.Nat.{ℕ}
 use borrow.Author.Needs.{needs}
 use Rattle.wire.specs.Parts.{splice}
 use Rattle.wire.specs.Numbers.{bytesOf}
 use Rattle.chunk.specs.Memory.{gotPlace, noted}
-use Rattle.chunk.proofs.note.Statement.{statement}
-use Rattle.chunk.proofs.note.Tie as tie
+use Rattle.chunk_join.proofs.note.Statement.{statement}
+use Rattle.chunk_join.proofs.note.Tie as tie
 
 -- Two writes, the second into what the first made.
 pub note-spec : {M : Type 1} → statement M

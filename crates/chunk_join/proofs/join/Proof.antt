@@ -9,12 +9,12 @@ use borrow.Author.Needs.{needs}
 use borrow.Author.Tests.{not-true, not-false}
 use Rattle.wire.specs.Tests.{has}
 use Rattle.wire.specs.Parts.{slice, splice}
 use Rattle.chunk.specs.Chunk.{most, headSize, flagLast, totalIn, isLast}
 use Rattle.chunk.specs.Memory.{memorySize, fit, endAt, refusesAt, joinedAt, noted, emptied}
 use Rattle.chunk.proofs.Begun.{fit-long}
 use Rattle.chunk.proofs.Ways.{unfit, short, refusal, end-within, joined-long, awaits, whole}
-use Rattle.chunk.proofs.join.Statement.{statement}
-use Rattle.chunk.proofs.join.Tie as tie
+use Rattle.chunk_join.proofs.join.Statement.{statement}
+use Rattle.chunk_join.proofs.join.Tie as tie
 
 -- ---- facts of the way to a chunk that is not refused
 

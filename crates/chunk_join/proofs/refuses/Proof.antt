@@ -1,8 +1,8 @@
 use denote.Ref.{now}
 use borrow.Author.Needs.{needs}
 use Rattle.chunk.proofs.Tests.{refuses-one, refuses-first, refuses-later}
-use Rattle.chunk.proofs.refuses.Statement.{statement}
-use Rattle.chunk.proofs.refuses.Tie as tie
+use Rattle.chunk_join.proofs.refuses.Statement.{statement}
+use Rattle.chunk_join.proofs.refuses.Tie as tie
 
 -- Each kind of chunk by those of the definition's tests that can hold for it, each on the number that the definition reads.
 pub refuses-spec : {M : Type 1} → statement M

@@ -1,8 +1,8 @@
 use denote.Ref.{now}
 use borrow.Author.Needs.{needs}
 use Rattle.chunk.proofs.Tests.{unfit-short, unfit-over, fit-is}
-use Rattle.chunk.proofs.is_fit.Statement.{statement}
-use Rattle.chunk.proofs.is_fit.Tie as tie
+use Rattle.chunk_join.proofs.is_fit.Statement.{statement}
+use Rattle.chunk_join.proofs.is_fit.Tie as tie
 
 -- Short memory fails at once; of longer memory the two numbers read are those of the rule.
 pub is-fit-spec : {M : Type 1} → statement M

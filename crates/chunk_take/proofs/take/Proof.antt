@@ -1,8 +1,8 @@
 use mathlib.Core.Path.{sym}
 use borrow.Author.Needs.{needs}
 use Rattle.chunk.proofs.Answers.{more-taken, whole-length, whole-inside, whole-taken, refused-taken}
-use Rattle.chunk.proofs.take.Statement.{statement}
-use Rattle.chunk.proofs.take.Tie as tie
+use Rattle.chunk_take.proofs.take.Statement.{statement}
+use Rattle.chunk_take.proofs.take.Tie as tie
 
 -- What joining gives, told again; a whole message is read where it stands in the memory.
 pub take-spec : {M : Type 1} → statement M
