@@ -71,7 +71,7 @@ fn read_plain(s: &[u8], words: &mut [u32; 12]) -> u32 {
 // The same for r in the counter profile, else by the plain rules.
 fn read_words(kind: u8, s: &[u8], words: &mut [u32; 12]) -> u32 {
     if kind == b'r' {
-        return profile::read_words(s, words);
+        return profile_pdu::read_words(s, words);
     }
     read_plain(s, words)
 }
@@ -129,7 +129,7 @@ fn write_plain(words: &[u32; 12], s: &[u8], memory: &mut [u8]) -> Written {
 // The same for p in the counter profile, else by the plain rules.
 fn write(kind: u8, words: &[u32; 12], s: &[u8], memory: &mut [u8]) -> Written {
     if kind == b'p' {
-        return profile::write_words(words, s, memory);
+        return profile_pdu::write_words(words, s, memory);
     }
     write_plain(words, s, memory)
 }

@@ -3,9 +3,9 @@ use mathlib.Core.Path.{sym, _∙_}
 use denote.Ref.{now}
 use borrow.Author.Needs.{needs}
 use borrow.Author.Tests.{ne-eqb, not-true, not-false}
 use Rattle.profile.proofs.Counter.{plain-refusal, wrong-end, read-through}
-use Rattle.profile.proofs.read_words.Statement.{statement}
-use Rattle.profile.proofs.read_words.Tie as tie
+use Rattle.profile_pdu.proofs.read_words.Statement.{statement}
+use Rattle.profile_pdu.proofs.read_words.Tie as tie
 
 pub read-words-spec : {M : Type 1} → statement M
 read-words-spec =

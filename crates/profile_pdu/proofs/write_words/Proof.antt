@@ -1,9 +1,9 @@
 -- Written unless the profile's number applies, which is that of the record where the plain rules grant it.
 use denote.Ref.{now}
 use borrow.Author.Needs.{needs}
 use Rattle.profile.proofs.Counter.{counter-wrote}
-use Rattle.profile.proofs.write_words.Statement.{statement}
-use Rattle.profile.proofs.write_words.Tie as tie
+use Rattle.profile_pdu.proofs.write_words.Statement.{statement}
+use Rattle.profile_pdu.proofs.write_words.Tie as tie
 
 pub write-words-spec : {M : Type 1} → statement M
 write-words-spec =
