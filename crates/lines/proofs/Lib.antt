@@ -1,4 +1,1 @@
-pub mod Choices
-pub mod Numbers
-pub mod Parts
 pub mod Examples

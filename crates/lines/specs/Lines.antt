@@ -11,11 +11,11 @@ use Rattle.session.specs.declared.LookupTarget.{LookupTarget}
 use Rattle.session.specs.declared.LookupTarget.the-variants.{Window, Notification, Cell, Desktop, Windows, Notifications, Shares}
 use Rattle.update.specs.declared.Report.{Report}
 use Rattle.view.specs.Views.{pictureView}
-use Rattle.lines.specs.Pictures.{cellText}
-use Rattle.lines.specs.Windows.{windowText}
-use Rattle.lines.specs.Notifications.{notificationText}
-use Rattle.lines.specs.Desktop.{desktopText}
-use Rattle.lines.specs.Lists.{bothText}
+use Rattle.field_text.specs.Pictures.{cellText}
+use Rattle.window_text.specs.Windows.{windowText}
+use Rattle.desktop_text.specs.Notifications.{notificationText}
+use Rattle.desktop_text.specs.Desktop.{desktopText}
+use Rattle.list_text.specs.Lists.{bothText}
 
 -- what only a granted call has
 abbrev pub ifGranted : Reply → List ℕ → List ℕ

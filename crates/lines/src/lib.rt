@@ -7,13 +7,7 @@ use session::LookupTarget;
 use session::Reply;
 use update::Report;
 
-mod desktop;
-mod fields;
-mod lists;
-mod notifications;
-mod pictures;
 pub mod records;
-mod windows;
 
 // The most bytes that a lookup hands out.
 pub const FOUND: usize = lookups::WINDOW;
@@ -58,10 +52,10 @@ fn handed_out(out: &mut [u8], at: usize, target: LookupTarget, bytes: &[u8; FOUN
     ensures { λ n. ⌜ Laid (now (out .entry)) at (recordText target (now (bytes .entry))) (now (out .exit)) n ⌝ }
 {
     match target {
-        LookupTarget::Window(w) => windows::line(out, at, w, bytes),
-        LookupTarget::Notification(w, n) => notifications::line(out, at, w, n, bytes),
-        LookupTarget::Cell(_, _) => pictures::cell(out, at, bytes),
-        LookupTarget::Desktop => desktop::line(out, at, bytes),
+        LookupTarget::Window(w) => window_text::line(out, at, w, bytes),
+        LookupTarget::Notification(w, n) => desktop_text::notifications::line(out, at, w, n, bytes),
+        LookupTarget::Cell(_, _) => field_text::pictures::cell(out, at, bytes),
+        LookupTarget::Desktop => desktop_text::desktop::line(out, at, bytes),
         LookupTarget::Windows => at,
         LookupTarget::Notifications => at,
         LookupTarget::Shares(_, _) => shared(out, at, bytes),
@@ -87,5 +81,5 @@ pub fn listed(out: &mut [u8], kind: u8, r: Reply, windows: &[u8], icons: &[u8]) 
     if r.number != 0 {
         return n;
     }
-    lists::both(out, n, windows, icons)
+    list_text::both(out, n, windows, icons)
 }

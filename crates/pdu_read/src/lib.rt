@@ -51,7 +51,7 @@ fn read_execute(s: &[u8], words: &mut [u32; 12]) -> u32
     if !pdu::execute_allowed(e) {
         return 8;
     }
-    pdu_words::execute_words(words, e);
+    pdu_to_words::execute_words(words, e);
     0
 }
 
@@ -70,7 +70,7 @@ fn read_activate(s: &[u8], words: &mut [u32; 12]) -> u32
     if !pdu::activate_allowed(e) {
         return 8;
     }
-    pdu_words::activate_words(words, e);
+    pdu_to_words::activate_words(words, e);
     0
 }
 
@@ -89,7 +89,7 @@ fn read_system_command(s: &[u8], words: &mut [u32; 12]) -> u32
     if !pdu::system_command_allowed(e) {
         return 8;
     }
-    pdu_words::system_command_words(words, e);
+    pdu_to_words::system_command_words(words, e);
     0
 }
 
@@ -102,7 +102,7 @@ fn read_handshake(s: &[u8], words: &mut [u32; 12]) -> u32
     let e = Handshake {
         build_number: wire::read_u32(s, 4),
     };
-    pdu_words::handshake_words(words, e);
+    pdu_to_words::handshake_words(words, e);
     0
 }
 
@@ -121,7 +121,7 @@ fn read_notify_event(s: &[u8], words: &mut [u32; 12]) -> u32
         },
         message: wire::read_u32(s, 12),
     };
-    pdu_words::notify_event_words(words, e);
+    pdu_to_words::notify_event_words(words, e);
     0
 }
 
@@ -136,7 +136,7 @@ fn read_window_move(s: &[u8], words: &mut [u32; 12]) -> u32
     let top = signs::read_word(s, 10);
     let right = signs::read_word(s, 12);
     let bottom = signs::read_word(s, 14);
-    pdu_words::four_words(words, 0x08, id, left, top, right, bottom);
+    pdu_to_words::four_words(words, 0x08, id, left, top, right, bottom);
     0
 }
 
@@ -164,7 +164,7 @@ fn read_move_size(s: &[u8], words: &mut [u32; 12]) -> u32
     let start = start_number(wire::read_u16(s, 8));
     let x = signs::read_word(s, 12);
     let y = signs::read_word(s, 14);
-    pdu_words::four_words(words, 0x09, id, start, kind as u32, x, y);
+    pdu_to_words::four_words(words, 0x09, id, start, kind as u32, x, y);
     0
 }
 
@@ -183,8 +183,8 @@ fn read_min_max_info(s: &[u8], words: &mut [u32; 12]) -> u32
     let b = wire::read_u16(s, 18) as u32;
     let c = wire::read_u16(s, 20) as u32;
     let d = wire::read_u16(s, 22) as u32;
-    pdu_words::four_words(words, 0x0A, id, width, height, pos_x, pos_y);
-    pdu_words::track_words(words, a, b, c, d);
+    pdu_to_words::four_words(words, 0x0A, id, width, height, pos_x, pos_y);
+    pdu_to_words::track_words(words, a, b, c, d);
     0
 }
 
@@ -197,7 +197,7 @@ fn read_client_information(s: &[u8], words: &mut [u32; 12]) -> u32
     let e = ClientInformation {
         flags: wire::read_u32(s, 4),
     };
-    pdu_words::client_information_words(words, e);
+    pdu_to_words::client_information_words(words, e);
     0
 }
 
@@ -210,7 +210,7 @@ fn read_system_menu(s: &[u8], words: &mut [u32; 12]) -> u32
     let id = wire::read_u32(s, 4);
     let left = signs::read_word(s, 8);
     let top = signs::read_word(s, 10);
-    pdu_words::four_words(words, 0x0C, id, left, top, 0, 0);
+    pdu_to_words::four_words(words, 0x0C, id, left, top, 0, 0);
     0
 }
 
@@ -225,7 +225,7 @@ fn read_get_application_id(s: &[u8], words: &mut [u32; 12]) -> u32
             id: wire::read_u32(s, 4),
         },
     };
-    pdu_words::get_application_id_words(words, e);
+    pdu_to_words::get_application_id_words(words, e);
     0
 }
 
@@ -241,7 +241,7 @@ fn read_application_id_response(s: &[u8], words: &mut [u32; 12]) -> u32
         },
         application_id: Span { at: 8, len: 520 },
     };
-    pdu_words::application_id_response_words(words, e);
+    pdu_to_words::application_id_response_words(words, e);
     0
 }
 
@@ -264,7 +264,7 @@ fn read_execute_result(s: &[u8], words: &mut [u32; 12]) -> u32
     if !pdu::execute_result_allowed(e) {
         return 8;
     }
-    pdu_words::execute_result_words(words, e);
+    pdu_to_words::execute_result_words(words, e);
     0
 }
 
@@ -277,7 +277,7 @@ fn read_byte_setting(s: &[u8], number: u32, words: &mut [u32; 12]) -> u32
         return 7;
     }
     let value = wire::read_u8(s, 8);
-    pdu_words::byte_setting_words(words, number, value);
+    pdu_to_words::byte_setting_words(words, number, value);
     0
 }
 
@@ -294,7 +294,7 @@ fn read_area_setting(s: &[u8], number: u32, words: &mut [u32; 12]) -> u32
         right: wire::read_u16(s, 12),
         bottom: wire::read_u16(s, 14),
     };
-    pdu_words::area_setting_words(words, number, place);
+    pdu_to_words::area_setting_words(words, number, place);
     0
 }
 
@@ -320,7 +320,7 @@ fn read_high_contrast(s: &[u8], words: &mut [u32; 12]) -> u32
     if !pdu::high_contrast_allowed(e) {
         return 8;
     }
-    pdu_words::high_contrast_words(words, e);
+    pdu_to_words::high_contrast_words(words, e);
     0
 }
 
@@ -353,7 +353,7 @@ fn read_handshake_ex(s: &[u8], words: &mut [u32; 12]) -> u32
         build_number: wire::read_u32(s, 4),
         flags: wire::read_u32(s, 8),
     };
-    pdu_words::handshake_ex_words(words, e);
+    pdu_to_words::handshake_ex_words(words, e);
     0
 }
 
@@ -400,7 +400,7 @@ fn answer(number: u32, words: [u32; 12]) -> Read
     if number != 0 {
         return Read::Refused(number as u8);
     }
-    Read::Message(pdu_words::record_from(&words))
+    Read::Message(pdu_from_words::record_from(&words))
 }
 
 // The record of a message, its strings where they stand in s, or the first refusal.

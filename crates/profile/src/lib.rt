@@ -1,5 +1,4 @@
-// The counter profile: messages read and written by the plain rules, then by the end that sends them and the program that they start.
-use pdu::Written;
+// The counter profile: messages are judged by the plain rules, then by the end that sends them and the program that they start.
 ghost use Prim.Native.Nat.{_+_, _≤_};
 ghost use mathlib.Core.Bool.{true};
 ghost use mathlib.Core.Path.{_≡_};
@@ -8,15 +7,14 @@ ghost use Rattle.wire.specs.Tests.{both};
 ghost use Rattle.wire.specs.Parts.{slice};
 ghost use Rattle.pdu.specs.Writing.{grants};
 ghost use Rattle.pdu_words.specs.FromWords.{Stands, pduOf};
-ghost use Rattle.pdu_read.specs.Told.{Told};
 ghost use Rattle.profile.specs.Ends.{serverOnly, readTaken};
 ghost use Rattle.profile.specs.Programs.{begins, published, plainFlags};
-ghost use Rattle.profile.specs.Counter.{counterRead, verdict, CounterOutcome};
+ghost use Rattle.profile.specs.Counter.{verdict};
 
 // A kind from the wrong end; a program not permitted.
-const WRONG_END: u8 = 20;
+pub const WRONG_END: u8 = 20;
 
-const NOT_PERMITTED: u8 = 21;
+pub const NOT_PERMITTED: u8 = 21;
 
 // ---- the end that sends a message
 
@@ -31,7 +29,7 @@ fn is_server_only(kind: u32, setting: u32) -> bool
 }
 
 // Reading takes a message of this type: Handshake from either end.
-fn is_read(kind: u32, setting: u32) -> bool
+pub fn is_read(kind: u32, setting: u32) -> bool
     ensures { λ r. ⌜ r ≡ readTaken kind setting ⌝ }
 {
     (kind == 0x05) | is_server_only(kind, setting)
@@ -83,7 +81,7 @@ fn is_permitted(flags: u32, at: u32, len: u32, src: &[u8]) -> bool
 }
 
 // The number of the profile where the plain rules grant the words: 20, 21, or 0.
-fn verdict(w: &[u32; 12], src: &[u8]) -> u8
+pub fn verdict(w: &[u32; 12], src: &[u8]) -> u8
     ensures { λ r. ⌜ (Stands (now (w .entry)) → grants (pduOf (now (w .entry))) (now (src .entry)) ≡ true → r ≡ verdict (pduOf (now (w .entry))) (now (src .entry))) ⌝ }
 {
     if is_server_only(w[0], w[1]) {
@@ -97,30 +95,4 @@ fn verdict(w: &[u32; 12], src: &[u8]) -> u8
     } else {
         NOT_PERMITTED
     }
-}
-
-// ---- reading and writing
-
-// Reads a message: the number, and the words of its record where that is 0.
-pub fn read_words(message: &[u8], words: &mut [u32; 12]) -> u32
-    ensures { λ r. ⌜ Told (counterRead (now (message .entry))) (now (words .entry)) r (now (words .exit)) ⌝ }
-{
-    let mut w = [0u32; 12];
-    let number = pdu_read::read_words(message, &mut w);
-    if number != 0 {
-        return number;
-    }
-    if !is_read(w[0], w[1]) {
-        return WRONG_END as u32;
-    }
-    *words = w;
-    0
-}
-
-// Writes the record that words stand for, its strings taken from src, to the start of out.
-pub fn write_words(w: &[u32; 12], src: &[u8], out: &mut [u8]) -> Written
-    ensures { λ r. ⌜ CounterOutcome (now (w .entry)) (now (src .entry)) (now (out .entry)) r (now (out .exit)) ⌝ }
-{
-    let number = verdict(w, src);
-    pdu_write::write_unless(w, src, out, number)
 }

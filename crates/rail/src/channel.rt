@@ -8,7 +8,7 @@ ghost use Rattle.rail.specs.Chunks.{ChunkExport};
 pub extern "C" fn rail_chunk_reset(memory: &mut [u8]) -> u32
     ensures { λ r. ⌜ ResetOutcome (now (memory .entry)) r (now (memory .exit)) ⌝ }
 {
-    chunk::reset(memory) as u32
+    chunk_join::reset(memory) as u32
 }
 
 // Takes one chunk. The number; 256 times the messages handed out, 1 or 0; 65,536 times the bytes of the
@@ -17,7 +17,7 @@ pub extern "C" fn rail_chunk_reset(memory: &mut [u8]) -> u32
 pub extern "C" fn rail_chunk(memory: &mut [u8], bytes: &[u8], words: &mut [u32; 12]) -> u32
     ensures { λ r. ⌜ ChunkExport (now (memory .entry)) (now (bytes .entry)) (now (words .entry)) r (now (memory .exit)) (now (words .exit)) ⌝ }
 {
-    match chunk::join(memory, bytes) {
+    match chunk_join::join(memory, bytes) {
         Joined::More(got) => 65536 * got,
         Joined::Whole(len) => {
             let end = len as usize;

@@ -28,7 +28,7 @@ fn whole_line(memory: &[u8], len: usize, out: &mut [u8]) -> bool {
 
 // K: joins the chunk s and prints what the whole message reads as, the refusal, or that more is awaited.
 fn chunk_call(memory: &mut [u8], s: &[u8], out: &mut [u8]) -> bool {
-    let answer = chunk::join(memory, s);
+    let answer = chunk_join::join(memory, s);
     let Joined::Whole(len) = answer else {
         return item::number_line(b'K', number_of(answer), out);
     };
@@ -40,7 +40,7 @@ fn reset_call(memory: &mut [u8], s: &[u8], out: &mut [u8]) -> bool {
     if s.len() != 0 {
         return item::bad_item();
     }
-    let number = chunk::reset(memory);
+    let number = chunk_join::reset(memory);
     item::number_line(b'E', number as u32, out)
 }
 

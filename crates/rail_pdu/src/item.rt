@@ -64,14 +64,14 @@ fn read_plain(s: &[u8], words: &mut [u32; 12]) -> u32 {
     let Read::Message(p) = answer else {
         return number_of(answer);
     };
-    pdu_words::words_of(words, p);
+    pdu_to_words::words_of(words, p);
     0
 }
 
 // The same for r in the counter profile, else by the plain rules.
 fn read_words(kind: u8, s: &[u8], words: &mut [u32; 12]) -> u32 {
     if kind == b'r' {
-        return profile::read_words(s, words);
+        return profile_pdu::read_words(s, words);
     }
     read_plain(s, words)
 }
@@ -120,16 +120,16 @@ fn written(kind: u8, memory: &[u8], n: usize, number: u8, out: &mut [u8]) -> boo
 
 // Writes the record that words stand for, its strings in s, by the plain rules.
 fn write_plain(words: &[u32; 12], s: &[u8], memory: &mut [u8]) -> Written {
-    if !pdu_words::is_record(words) {
+    if !pdu_words_rule::is_record(words) {
         return Written::Refused(8);
     }
-    pdu_write::write_pdu(pdu_words::record_from(words), s, memory)
+    pdu_write::write_pdu(pdu_from_words::record_from(words), s, memory)
 }
 
 // The same for p in the counter profile, else by the plain rules.
 fn write(kind: u8, words: &[u32; 12], s: &[u8], memory: &mut [u8]) -> Written {
     if kind == b'p' {
-        return profile::write_words(words, s, memory);
+        return profile_pdu::write_words(words, s, memory);
     }
     write_plain(words, s, memory)
 }

@@ -9,7 +9,7 @@ mod show;
 // A proved loop has to end, and nothing says that the input does: the items are counted down from
 // a number that no run uses up.
 fn run(memory: &mut [u8], payload: &mut [u8], out: &mut [u8]) {
-    chunk::reset(memory);
+    chunk_join::reset(memory);
     let mut lack = 0;
     let mut turns = u64::MAX;
     while turns > 0 {

@@ -1,7 +1,7 @@
 -- The number, and what a granted call has besides.
 use Rattle.print.specs.Templates.{ascii, asciiFrom}
 use Rattle.lines.specs.Lines.{replyText}
-use Rattle.lines.proofs.Choices.{ends, goes-on}
+use Rattle.field_text.proofs.Choices.{ends, goes-on}
 use borrow.Author.Needs.{needs}
 use Rattle.lines.proofs.reply.Statement.{statement}
 use Rattle.lines.proofs.reply.Tie as tie

@@ -1,7 +1,7 @@
 -- The number that the bytes have.
 use Rattle.print.specs.Templates.{ascii, asciiFrom}
 use Rattle.lines.specs.Lines.{sharedText}
-use Rattle.lines.proofs.Numbers.{as-number}
+use Rattle.field_text.proofs.Numbers.{as-number}
 use borrow.Author.Needs.{needs}
 use Rattle.lines.proofs.shared.Statement.{statement}
 use Rattle.lines.proofs.shared.Tie as tie

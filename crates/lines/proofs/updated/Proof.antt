@@ -4,7 +4,7 @@ use borrow.Author.Tests.{eq-eqb, ne-eqb}
 use Rattle.print.proofs.Laid.{then}
 use Rattle.print.specs.Templates.{ascii, asciiFrom}
 use Rattle.lines.specs.Lines.{updateText}
-use Rattle.lines.proofs.Choices.{second, stays}
+use Rattle.field_text.proofs.Choices.{second, stays}
 use borrow.Author.Needs.{needs}
 use Rattle.lines.proofs.updated.Statement.{statement}
 use Rattle.lines.proofs.updated.Tie as tie

@@ -2,7 +2,7 @@
 use Rattle.print.proofs.Laid.{then}
 use Rattle.print.specs.Templates.{ascii, asciiFrom}
 use Rattle.lines.specs.Records.{contentsText}
-use Rattle.lines.proofs.Choices.{ends, goes-on}
+use Rattle.field_text.proofs.Choices.{ends, goes-on}
 use borrow.Author.Needs.{needs}
 use Rattle.lines.proofs.records.contents.Statement.{statement}
 use Rattle.lines.proofs.records.contents.Tie as tie

@@ -3,8 +3,8 @@ use denote.Ref.{now}
 use Rattle.print.proofs.Laid.{as-text}
 use Rattle.print.specs.Templates.{ascii, asciiFrom}
 use Rattle.lines.specs.Records.{writtenText}
-use Rattle.lines.proofs.Choices.{ends, goes-on}
-use Rattle.lines.proofs.Parts.{whole-hex}
+use Rattle.field_text.proofs.Choices.{ends, goes-on}
+use Rattle.field_text.proofs.Parts.{whole-hex}
 use borrow.Author.Needs.{needs}
 use Rattle.lines.proofs.records.written.Statement.{statement}
 use Rattle.lines.proofs.records.written.Tie as tie

@@ -1,0 +1,2 @@
+pub mod Notifications
+pub mod Desktop

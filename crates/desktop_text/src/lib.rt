@@ -1,0 +1,3 @@
+// The desktop as text, and its notification icons.
+pub mod desktop;
+pub mod notifications;
