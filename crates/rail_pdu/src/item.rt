@@ -64,7 +64,7 @@ fn read_plain(s: &[u8], words: &mut [u32; 12]) -> u32 {
     let Read::Message(p) = answer else {
         return number_of(answer);
     };
-    pdu_to_words::words_of(words, p);
+    pdu_words_of::words_of(words, p);
     0
 }
 

@@ -4,8 +4,8 @@ use borrow.Author.Needs.{needs}
 use Rattle.pdu.specs.declared.Setting.{Setting}
 use Rattle.pdu.specs.Settings.{numberOf, dataOf}
 use Rattle.pdu_words.specs.Words.{settingWords}
-use Rattle.pdu_to_words.proofs.settings.setting_words.Statement.{statement}
-use Rattle.pdu_to_words.proofs.settings.setting_words.Tie as tie
+use Rattle.pdu_words_of.proofs.setting_words.Statement.{statement}
+use Rattle.pdu_words_of.proofs.setting_words.Tie as tie
 
 pub setting-words-spec : {M : Type 1} → statement M
 unfolding numberOf dataOf

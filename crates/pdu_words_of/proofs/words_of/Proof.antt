@@ -2,8 +2,8 @@
 use mathlib.Core.Path.{sym, ap, _∙_}
 use borrow.Author.Needs.{needs}
 use Rattle.pdu_words.specs.Words.{wordsOf}
-use Rattle.pdu_to_words.proofs.words_of.Statement.{statement}
-use Rattle.pdu_to_words.proofs.words_of.Tie as tie
+use Rattle.pdu_words_of.proofs.words_of.Statement.{statement}
+use Rattle.pdu_words_of.proofs.words_of.Tie as tie
 
 pub words-of-spec : {M : Type 1} → statement M
 unfolding wordsOf
