@@ -16,10 +16,10 @@ use Rattle.wire.proofs.Parts.{slice-cong, length-splice, drop-splice}
 use Rattle.wire.proofs.Numbers.{num-cong, num-before, num-after, num-put, length-bytes, fits1}
 use Rattle.rows.specs.declared.Row.{Row}
 use Rattle.body.specs.Bodies.{fieldsOf, fieldsOk, bodyOf, bodyOk, setFlagged}
-use Rattle.body.specs.Stores.{storeOf, pointedOf, hookedOf, syncedOf, roomAll, EndsWell}
+use Rattle.body.specs.Stores.{storeOf, hookedOf, syncedOf, roomAll, EndsWell}
 use Rattle.body.proofs.Placed.{Placed, All, fields-cong, fields-ok-cong}
 use Rattle.body.proofs.Stored.{stored, both-true}
-use Rattle.protocol.specs.Flags.{desktopArcBegan, desktopArcCompleted, desktopHooked, flagsIcon}
+use Rattle.protocol.specs.Flags.{desktopArcBegan, desktopArcCompleted, desktopHooked}
 
 -- ---- a body by its parts
 
@@ -134,22 +134,6 @@ module _ (slot : List ℕ) (long : 2 ≤ length slot) where
           same = length-splice slot 1 (bytesOf 1 v) f;
         }
 
-    pub pointed-first : (flags : ℕ) → Marked slot (pointedOf flags 0 v slot) (pick (has flags flagsIcon) v (numAt 1 slot 0)) (numAt 1 slot 1)
-    unfolding pointedOf
-    pointed-first flags = go (has flags flagsIcon)
-      where
-        go : (b : Bool) → Marked slot (pick b (splice slot 0 (bytesOf 1 v)) slot) (pick b v (numAt 1 slot 0)) (numAt 1 slot 1)
-        go true = mark-first
-        go false = mark-none
-
-    pub pointed-second : (flags : ℕ) → Marked slot (pointedOf flags 1 v slot) (numAt 1 slot 0) (pick (has flags flagsIcon) v (numAt 1 slot 1))
-    unfolding pointedOf
-    pointed-second flags = go (has flags flagsIcon)
-      where
-        go : (b : Bool) → Marked slot (pick b (splice slot 1 (bytesOf 1 v)) slot) (numAt 1 slot 0) (pick b v (numAt 1 slot 1))
-        go true = mark-second
-        go false = mark-none
-
   pub hooked : (flags : ℕ) → Marked slot (hookedOf flags slot) (pick (has flags desktopHooked) 1 (numAt 1 slot 0)) (numAt 1 slot 1)
   unfolding hookedOf
   hooked flags = go (has flags desktopHooked)
@@ -176,30 +160,6 @@ pick-le true x y n h g = h
 pick-le false x y n h g = g
 
 module _ (rows : List Row) (flags : ℕ) (slot : List ℕ) (long : 2 ≤ length slot) where
-  module _ (v : ℕ) (small : v < 256) where
-    pub pointed-first-body : bodyOf rows (pointedOf flags 0 v slot)
-        ≡ record { first = pick (has flags flagsIcon) v (numAt 1 slot 0); second = numAt 1 slot 1; fields = fieldsOf rows 2 slot }
-    pointed-first-body =
-        marked-body rows slot (pointedOf flags 0 v slot) (pick (has flags flagsIcon) v (numAt 1 slot 0)) (numAt 1 slot 1) (pointed-first slot long v small flags)
-
-    pub pointed-second-body : bodyOf rows (pointedOf flags 1 v slot)
-        ≡ record { first = numAt 1 slot 0; second = pick (has flags flagsIcon) v (numAt 1 slot 1); fields = fieldsOf rows 2 slot }
-    pointed-second-body =
-        marked-body rows slot (pointedOf flags 1 v slot) (numAt 1 slot 0) (pick (has flags flagsIcon) v (numAt 1 slot 1)) (pointed-second slot long v small flags)
-
-    module _ (m n : ℕ) (ok : bodyOk rows m n slot ≡ true) where
-      pub pointed-first-ok : v ≤ m → bodyOk rows m n (pointedOf flags 0 v slot) ≡ true
-      pointed-first-ok h =
-          let f = fine rows m n slot ok in
-          marked-ok rows slot (pointedOf flags 0 v slot) (pick (has flags flagsIcon) v (numAt 1 slot 0)) (numAt 1 slot 1) (pointed-first slot long v small flags)
-          m n (pick-le (has flags flagsIcon) v (numAt 1 slot 0) m h (f .first)) (f .second) (f .fields)
-
-      pub pointed-second-ok : v ≤ n → bodyOk rows m n (pointedOf flags 1 v slot) ≡ true
-      pointed-second-ok h =
-          let f = fine rows m n slot ok in
-          marked-ok rows slot (pointedOf flags 1 v slot) (numAt 1 slot 0) (pick (has flags flagsIcon) v (numAt 1 slot 1)) (pointed-second slot long v small flags)
-          m n (f .first) (pick-le (has flags flagsIcon) v (numAt 1 slot 1) n h (f .second)) (f .fields)
-
   pub hooked-body : bodyOf rows (hookedOf flags slot)
       ≡ record { first = pick (has flags desktopHooked) 1 (numAt 1 slot 0); second = numAt 1 slot 1; fields = fieldsOf rows 2 slot }
   hooked-body = marked-body rows slot (hookedOf flags slot) (pick (has flags desktopHooked) 1 (numAt 1 slot 0)) (numAt 1 slot 1) (hooked slot long flags)

@@ -10,7 +10,7 @@ use Rattle.wire.specs.Parts.{slice, splice}
 use Rattle.rows.specs.declared.Row.{Row}
 use Rattle.rows.specs.declared.Fit.the-variants.{Ends}
 use Rattle.rows.specs.Rows.{allRows, noRow, rowsFrom, roomOf, stepOf, onFit, walkOf}
-use Rattle.protocol.specs.Flags.{desktopArcBegan, desktopArcCompleted, desktopHooked, flagsIcon}
+use Rattle.protocol.specs.Flags.{desktopArcBegan, desktopArcCompleted, desktopHooked}
 
 -- the flagged fields put into their places, the first row's at index off
 unfoldable pub storeOf : List Row → ℕ → ℕ → List ℕ → ℕ → List ℕ → List ℕ
@@ -22,10 +22,6 @@ storeOf (r ∷ rs) off flags s at slot =
 -- a new record's slot: zeros
 unfoldable pub preparedOf : Bool → List ℕ → List ℕ
 preparedOf fresh slot = pick fresh (splice slot 0 (replicate (length slot) 0)) slot
-
--- a mark set where an icon or cached icon is carried
-unfoldable pub pointedOf : ℕ → ℕ → ℕ → List ℕ → List ℕ
-pointedOf flags mark v slot = pick (has flags flagsIcon) (splice slot mark (bytesOf 1 v)) slot
 
 -- the desktop's marks: 2 sets hooked; 8 starts syncing, 4 ends it
 unfoldable pub hookedOf : ℕ → List ℕ → List ℕ

@@ -1,17 +1,14 @@
--- The icon cache in memory: 12 cells of 4240 bytes. A cell holds an icon as an order carries it, from the bits per pixel on,
--- at byte 3, so that its numbers stand where `partsOf` of an icon looks for them. Assumes nothing.
-use Prim.Native.Nat.{ℕ, _+_, _*_, _-_}
+-- A cell holds an icon as an order carries it, from the bits per pixel on, at byte 3, so that its numbers stand where
+-- `partsOf` of an icon looks for them. Assumes nothing.
+use Prim.Native.Nat.{ℕ, _+_, _-_}
 use mathlib.Core.Bool.{Bool}
 use mathlib.Core.List.{List, [], _∷_}
 use lib.Dec.{leb}
 use lib.ListN.{length}
 use Rattle.wire.specs.Tests.{all}
 use Rattle.wire.specs.Numbers.{numAt}
-use Rattle.wire.specs.Parts.{slice, splice}
+use Rattle.wire.specs.Parts.{slice}
 use Rattle.order.specs.Icons.{partsOf, bitsOk, sideOk}
-
-unfoldable pub cellOf : List ℕ → ℕ → List ℕ
-cellOf cells c = slice cells (4240 * c) 4240
 
 -- the picture in a filled cell: bits per pixel, sides, lengths, mask, color table, color
 unfoldable pub pictureOf : List ℕ → List ℕ
@@ -27,11 +24,3 @@ cellOk cell = numbersOk (numAt 1 cell 3) (numAt 2 cell 4) (numAt 2 cell 6) (part
 -- what an icon at index icon, up to the order's end, carries of the picture
 unfoldable pub carriedPicture : List ℕ → ℕ → List ℕ
 carriedPicture s icon = slice s (icon + 3) (length s - (icon + 3))
-
--- cell c filled with it
-unfoldable pub fillOf : List ℕ → ℕ → List ℕ → ℕ → List ℕ
-fillOf cells c s icon = splice cells (4240 * c + 3) (carriedPicture s icon)
-
--- a cell, by itself, filled with it
-unfoldable pub putOf : List ℕ → List ℕ → ℕ → List ℕ
-putOf cell s icon = splice cell 3 (carriedPicture s icon)

@@ -8,7 +8,7 @@ ghost use Rattle.area.specs.Cutting.{mostPoints};
 ghost use Rattle.body.specs.Bodies.{windowFields, bodyOf};
 ghost use Rattle.places.specs.declared.Family.the-variants.{Windows};
 ghost use Rattle.slots.specs.Families.{capacity, indexLength};
-ghost use Rattle.figure.specs.Figure.{isShown, pixelsOf, shownAt, pixelsAt, windowLength, windowsLength, figureOf, figureLength, figureBytes};
+ghost use Rattle.figure.specs.Figure.{isShown, pixelsOf, shownAt, pixelsAt, windowLength, windowsLength, figureLength, figureBytes};
 ghost use Rattle.figure.specs.Kept.{keptLength, keptFigure, figuresOk, keptOf};
 
 // The windows that are shown, and their pixels in all.
@@ -93,23 +93,6 @@ fn pixels_at(index: &[u8], bodies: &[u8], i: usize, shown: bool) -> u64
         return area::single(part);
     }
     pixels(&bodies[from..from + body::WINDOW])
-}
-
-// How many windows are shown and the pixels of their visibility rectangles, those of a window that overlap counted once.
-pub fn count(index: &[u8], bodies: &[u8]) -> Figure
-    requires { ⌜ (indexLength ≤ length (now index)) × (windowsLength ≤ length (now bodies)) ⌝ }
-    ensures { λ r. ⌜ r ≡ figureOf (now (index .entry)) (now (bodies .entry)) ⌝ }
-{
-    let mut windows = 0;
-    let mut pixels = 0;
-    let mut i = 0;
-    while i < slots::WINDOWS {
-        let shown = is_shown(index, bodies, i);
-        windows += shown as u32;
-        pixels += pixels_at(index, bodies, i, shown);
-        i += 1;
-    }
-    Figure { windows, pixels }
 }
 
 // The totals that are stored.

@@ -5,11 +5,11 @@ use mathlib.Core.List.{List, [], _∷_, _++_, append-assoc, append-nil}
 use Prim.Native.Nat.{ℕ, _+_, _-_, _≤_}
 use native.Mathlib.Omega.{arith}
 use lib.Dec.{leb}
-use lib.ListN.{length, take, replicate, length-append, length-take}
+use lib.ListN.{length, take, length-append, length-take}
 use borrow.Author.Tests.{leb-true}
 use Rattle.wire.specs.Tests.{both}
 use Rattle.wire.specs.Numbers.{numAt}
-use Rattle.wire.specs.Parts.{slice, splice, padded}
+use Rattle.wire.specs.Parts.{slice, padded}
 use Rattle.wire.proofs.Tests.{both-right}
 use Rattle.wire.proofs.Parts.{length-slice, slice-mid, length-padded, take-padded}
 use Rattle.wire.proofs.Numbers.{num1-is, num-cong, num-padded}
@@ -23,7 +23,7 @@ use Rattle.body.proofs.Placed.{Placed, All, placed}
 use Rattle.cache.specs.Cells.{pictureOf, cellOk}
 use Rattle.layout.specs.Valid.{ValidField, ValidFields, ValidBody}
 use Rattle.layout.specs.Layouts.{pictureSize, fieldsBytes, recordBytes, pictureBytes, SizesHold, KeepsRecord, KeepsPicture}
-use Rattle.layout.proofs.LayoutsWritten.{length-record, padded-put}
+use Rattle.layout.proofs.LayoutsWritten.{length-record}
 
 -- ---- the bytes of each kind
 
@@ -167,14 +167,3 @@ module _ (cell : List ℕ) (ok : cellOk cell ≡ true) (long : 4240 ≤ length c
   pub keeps-picture : KeepsPicture cell
   unfolding pictureBytes
   keeps-picture = record { long = length-padded {A = ℕ} 0 pictureSize (pictureOf cell); back = picture-begins; read = picture-read }
-
--- the picture put, then zeros
-pub picture-put : (cell out : List ℕ) {end : ℕ} {x y : List ℕ} → end ≡ partsOf cell 0 .end → cellOk cell ≡ true → 4240 ≤ length cell → pictureSize ≤ length out
-    → x ≡ splice out 0 (slice cell 3 (end - 3)) → y ≡ splice x (end - 3) (replicate (pictureSize - (end - 3)) 0) → y ≡ splice out 0 (pictureBytes (pictureOf cell))
-unfolding pictureBytes pictureOf
-picture-put cell out {end} {x} {y} e ok long room ex ey =
-    let i = in-cell cell ok in
-    let p = slice cell 3 (partsOf cell 0 .end - 3) in
-    let l : length p ≡ partsOf cell 0 .end - 3 = length-slice cell 3 (partsOf cell 0 .end - 3) (omega arith) in
-    padded-put out 0 pictureSize p {q = end - 3} {m = pictureSize - (end - 3)} {x = x} {y = y} (omega arith) (omega arith) (omega arith) (omega arith)
-    (ex ∙ ap (λ (n : ℕ). splice out 0 (slice cell 3 (n - 3))) e) ey

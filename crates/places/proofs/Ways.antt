@@ -16,16 +16,14 @@ use Rattle.wire.proofs.Tests.{both-left, both-right}
 use Rattle.wire.proofs.Numbers.{num1-is, num4-is, num-slice, num-zeros}
 use Rattle.places.specs.declared.Found.{Found}
 use Rattle.places.specs.declared.Found.the-variants.{At, Nothing}
-use Rattle.places.specs.Counts.{one, countBelow, firstFrom, onFound}
-use Rattle.places.specs.Sharing.{isOne, full}
-use Rattle.places.specs.Memory.{placesOf, pointerAt, countAt, isFree, decode, valid}
+use Rattle.places.specs.Counts.{one, countBelow, firstFrom}
+use Rattle.places.specs.Sharing.{isOne}
+use Rattle.places.specs.Memory.{placesOf, pointerAt, countAt, isFree, valid}
 use Rattle.places.specs.Marks.{noneOf, Marked}
-use Rattle.places.specs.Changes.{put, letGo, pointTo, pointAll, freePlace, takeOf, shareOf, releaseOf, releaseRecordsOf}
+use Rattle.places.specs.Changes.{put, letGo, pointTo, pointAll, freePlace, shareOf, releaseOf, releaseRecordsOf}
 use Rattle.places.proofs.Counting.{count-last, count-front, first-cong}
-use Rattle.places.proofs.Pointers.{put-put}
 use Rattle.places.proofs.Bytes.{inside, letGo-is}
 use Rattle.places.proofs.Validity.{Valid, valid-has}
-use Rattle.places.proofs.Meaning.{holders, full-means, found-free}
 
 -- ---- the marks
 
@@ -188,44 +186,11 @@ module _ (b : List ℕ) (long : 157 ≤ length b) where
         ∙ first-cong (getD b 0 0) 0 (λ p. eqb (getD ms (p + 1) 0) 0) (isFree 156 (letGo (c ∷ q ∷ []) (pointerAt b)))
         (λ p l u. marked (p + 1) (omega arith) (omega (arith, v .many)) ∙ rw left-is)
 
--- ---- 17
-
-module _ (b : List ℕ) (ok : valid b ≡ true) (c q : ℕ) (lc : c < 156) (lq : q < 156) {f : Found} (e : f ≡ freePlace b (c ∷ q ∷ [])) where
-  pub not-full : {p : ℕ} → f ≡ At p → false ≡ full eqb (c ∷ q ∷ []) (decode b)
-  not-full {p} g = ap (λ (w : Found). onFound w true (λ j. false)) (sym g ∙ e) ∙ full-means b ok (c ∷ q ∷ []) (holders c q lc lq)
-
-  pub is-full : f ≡ Nothing → true ≡ full eqb (c ∷ q ∷ []) (decode b)
-  is-full g = ap (λ (w : Found). onFound w true (λ j. false)) (sym g ∙ e) ∙ full-means b ok (c ∷ q ∷ []) (holders c q lc lq)
-
 -- ---- an icon
-
--- one holder lets go once
-pub free-once : (b : List ℕ) (q : ℕ) {f : Found} → f ≡ freePlace b (q ∷ q ∷ []) → f ≡ freePlace b (q ∷ [])
-unfolding freePlace
-free-once b q e = e ∙ ap (λ (r : ℕ → ℕ). firstFrom (placesOf b) 0 (isFree 156 r)) (put-put (pointerAt b) q 0 0)
-
-module _ (b hs : List ℕ) {f : Found} (e : f ≡ freePlace b hs) where
-  pub refused-take : f ≡ Nothing → (Nothing ≡ freePlace b hs) × (b ≡ takeOf b hs)
-  unfolding takeOf
-  refused-take g = (sym g ∙ e, rw (← e, g))
-
-  pub place-small : {p : ℕ} → valid b ≡ true → f ≡ At p → p < 64
-  place-small {p} ok g =
-      let r = found-free b hs p (sym e ∙ g) in
-      let v = valid-has b ok in
-      omega (arith, r .low, v .many)
-
-  pub granted-take : {p : ℕ} {y : List ℕ} → f ≡ At p → y ≡ pointAll b hs (p + 1) → (At p ≡ freePlace b hs) × (y ≡ takeOf b hs)
-  unfolding takeOf
-  granted-take g h = (sym g ∙ e, rw (← e, g) h)
 
 pub two-points : (b : List ℕ) (c q v : ℕ) → set (set b (c + 1) v) (q + 1) v ≡ pointAll b (c ∷ q ∷ []) v
 unfolding pointTo
 two-points b c q v = refl
-
-pub one-point : (b : List ℕ) (q v : ℕ) → set b (q + 1) v ≡ pointAll b (q ∷ []) v
-unfolding pointTo
-one-point b q v = refl
 
 -- ---- a cached icon, and holders that let go
 

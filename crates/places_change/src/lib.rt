@@ -1,13 +1,10 @@
 // The changes of the pointers: to take a place, to share one, to let one go.
-use places::Found;
 ghost use mathlib.Core.Path.{_≡_};
-ghost use mathlib.Core.Bool.{true};
 ghost use mathlib.Core.List.{_∷_, []};
 ghost use Prim.Native.Nat.{_+_, _<_, _≤_};
 ghost use lib.ListN.{length};
 ghost use Rattle.places.specs.Sizes.{holderCount, holdersLength, mostPlaces};
-ghost use Rattle.places.specs.Memory.{valid};
-ghost use Rattle.places.specs.Changes.{pointAll, freePlace, takeOf, shareOf, releaseOf, releaseRecordsOf};
+ghost use Rattle.places.specs.Changes.{pointAll, shareOf, releaseOf, releaseRecordsOf};
 
 // Where the pointers of icons begin.
 const ICONS_AT: usize = 13;
@@ -20,36 +17,6 @@ pub fn take_at(bytes: &mut [u8], cell: usize, pointer: usize, place: usize)
     let to = (place + 1) as u8;
     bytes[cell + 1] = to;
     bytes[pointer + 1] = to;
-}
-
-// An icon: its cell and its pointer let go and take the first place that is then free; where there is none, nothing changes.
-pub fn take(bytes: &mut [u8], cell: usize, pointer: usize) -> Found
-    requires { ⌜ (valid (now bytes) ≡ true) × (cell < holderCount) × (pointer < holderCount) ⌝ }
-    ensures { λ r. ⌜ r ≡ freePlace (now (bytes .entry)) (cell ∷ pointer ∷ []) ⌝ }
-    ensures { λ _. ⌜ now (bytes .exit) ≡ takeOf (now (bytes .entry)) (cell ∷ pointer ∷ []) ⌝ }
-{
-    let f = places_free::free_place(bytes, cell, pointer);
-    let Found::At(p) = f else {
-        return Found::Nothing;
-    };
-    let v = (p + 1) as u8;
-    bytes[cell + 1] = v;
-    bytes[pointer + 1] = v;
-    Found::At(p)
-}
-
-// An icon with no cell.
-pub fn take_one(bytes: &mut [u8], pointer: usize) -> Found
-    requires { ⌜ (valid (now bytes) ≡ true) × (pointer < holderCount) ⌝ }
-    ensures { λ r. ⌜ r ≡ freePlace (now (bytes .entry)) (pointer ∷ []) ⌝ }
-    ensures { λ _. ⌜ now (bytes .exit) ≡ takeOf (now (bytes .entry)) (pointer ∷ []) ⌝ }
-{
-    let f = places_free::free_place(bytes, pointer, pointer);
-    let Found::At(p) = f else {
-        return Found::Nothing;
-    };
-    bytes[pointer + 1] = (p + 1) as u8;
-    Found::At(p)
 }
 
 // A cached icon: its pointer shares its cell's place.

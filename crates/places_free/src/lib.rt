@@ -8,8 +8,7 @@ ghost use lib.Dec.{eqb};
 ghost use lib.ListN.{length, getD};
 ghost use Rattle.places.specs.Sizes.{holderCount, groupSize, mostPlaces, pointerCount};
 ghost use Rattle.places.specs.Counts.{firstFrom};
-ghost use Rattle.places.specs.Sharing.{full};
-ghost use Rattle.places.specs.Memory.{pointerAt, decode, valid};
+ghost use Rattle.places.specs.Memory.{pointerAt, valid};
 ghost use Rattle.places.specs.Marks.{noneOf, Marked};
 ghost use Rattle.places.specs.Changes.{freePlace};
 
@@ -96,16 +95,4 @@ pub fn free_place(bytes: &[u8], cell: usize, pointer: usize) -> Found
     left[pointer] = 0;
     let marks = marks_of(&left);
     first_unmarked(&marks, bytes[0])
-}
-
-// Refusal 17 of an icon: every place is still pointed at once its cell and its pointer have let go.
-pub fn is_full(bytes: &[u8], cell: usize, pointer: usize) -> bool
-    requires { ⌜ (valid (now bytes) ≡ true) × (cell < holderCount) × (pointer < holderCount) ⌝ }
-    ensures { λ r. ⌜ r ≡ full eqb (cell ∷ pointer ∷ []) (decode (now (bytes .entry))) ⌝ }
-{
-    let f = free_place(bytes, cell, pointer);
-    match f {
-        Found::At(_) => false,
-        Found::Nothing => true,
-    }
 }

@@ -138,28 +138,7 @@ module _ (b c : Width) (w : ℕ) (z : ℤ) (g : Numbered b c w z) where
     pub kept-number : natAbs (toZ w16 (ofZ w16 z)) ≡ unsigned w z
     kept-number = ap natAbs (kept w16 b z (g .narrow) (g .wide) w t)
 
--- ---- a number of 2 or 4 bytes to a value of 2 or 4, as the functions go
-
-module _ (n : ℕ) (f : Fits w16 n) where
-  pub low-2 : n < 32768 → toZ w16 n ≡ signed 2 n
-  low-2 h = toZ-pos w16 n h ∙ sym (lower 2 n (omega arith))
-
-  value-2 : SFits w16 (signed 2 n)
-  value-2 = fits-16 (signed 2 n) (held 2 n (omega (arith, f .fits)))
-
-  module _ (h : 32768 ≤ n) where
-    less-2 : toZ w32 n -ℤ pos 65536 ≡ signed 2 n
-    unfolding signed
-    less-2 = ap (λ (y : ℤ). y -ℤ pos 65536) (toZ-pos w32 n (omega (arith, f .fits))) ∙ rw (le-ltb (2 * n) 65536 (omega arith))
-
-    pub sub-2 : SFits w32 (toZ w32 n -ℤ pos 65536)
-    sub-2 = less-fits w32 w16 n 65536 (signed 2 n) less-2 (wider (signed 2 n) value-2) value-2
-
-    pub cast-2 : SFits w16 (toZ w32 (ofZ w32 (toZ w32 n -ℤ pos 65536)))
-    cast-2 = back-fits w32 w16 n 65536 (signed 2 n) less-2 (wider (signed 2 n) value-2) value-2
-
-    pub high-2 : toZ w16 (ofZ w16 (toZ w32 (ofZ w32 (toZ w32 n -ℤ pos 65536)))) ≡ signed 2 n
-    high-2 = back w32 w16 n 65536 (signed 2 n) less-2 (wider (signed 2 n) value-2) value-2
+-- ---- a number of 4 bytes to a value of 2 or 4, as the functions go
 
 module _ (n : ℕ) (f : Fits w32 n) where
   pub low-4 : n < 2147483648 → signed 4 n ≡ pos n

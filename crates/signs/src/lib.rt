@@ -3,15 +3,6 @@ ghost use mathlib.Core.Path.{_≡_};
 ghost use mathlib.Core.Bool.{true};
 ghost use Rattle.signs.specs.TwosComplement.{signed, unsigned, holds, signedAt};
 
-fn signed16(n: u16) -> i16
-    ensures { λ r. ⌜ r ≡ signed 2 n ⌝ }
-{
-    if n < 0x8000 {
-        return n as i16;
-    }
-    (n as i32 - 0x1_0000) as i16
-}
-
 // The value of a number of 4 bytes.
 pub fn signed32(n: u32) -> i32
     ensures { λ r. ⌜ r ≡ signed 4 n ⌝ }
@@ -20,13 +11,6 @@ pub fn signed32(n: u32) -> i32
         return n as i32;
     }
     (n as i64 - 0x1_0000_0000) as i32
-}
-
-// The value of 2 bytes at index at; a byte past the end counts 0.
-pub fn read_i16(s: &[u8], at: usize) -> i16
-    ensures { λ r. ⌜ r ≡ signedAt 2 (now (s .entry)) at ⌝ }
-{
-    signed16(wire::read_u16(s, at))
 }
 
 // The value of 4 bytes at index at; a byte past the end counts 0.

@@ -1,4 +1,4 @@
-use Rattle.cache.proofs.Filled.{bits-bad, bits-fine}
+use Rattle.cache.proofs.Ways.{bits-bad, bits-fine}
 use borrow.Author.Tests.{not-true, not-false}
 use borrow.Author.Needs.{needs}
 use Rattle.cache.proofs.numbers_ok.Statement.{statement}

@@ -1,5 +1,5 @@
 use denote.Ref.{now}
-use Rattle.cache.proofs.Filled.{ok-join}
+use Rattle.cache.proofs.Ways.{ok-join}
 use borrow.Author.Needs.{needs}
 use Rattle.cache.proofs.picture_ok.Statement.{statement}
 use Rattle.cache.proofs.picture_ok.Tie as tie

@@ -1,5 +1,5 @@
 use denote.Ref.{now}
-use Rattle.cache.proofs.Filled.{runs-tabled, runs-plain}
+use Rattle.cache.proofs.Ways.{runs-tabled, runs-plain}
 use borrow.Author.Needs.{needs}
 use Rattle.cache.proofs.runs.Statement.{statement}
 use Rattle.cache.proofs.runs.Tie as tie
