@@ -1,6 +1,6 @@
 -- The points that the first rectangles leave of a box: by one rectangle less where it does not meet the box, and in four pieces where it does. Assumes nothing.
 use mathlib.Core.Path.{_≡_, refl, sym, _∙_}
-use mathlib.Core.Bool.{Bool, true, false, not}
+use mathlib.Core.Bool.{true, false, not}
 use mathlib.Core.List.{List}
 use Prim.Native.Nat.{ℕ, suc, _+_, _*_, _-_, _≤_, _<_, min, max}
 use native.Mathlib.Nat.{mul-comm}
@@ -11,6 +11,7 @@ use Rattle.area.specs.Area.{anyBelow, within, inside, rectAt, coveredBy,
 use Rattle.area.specs.Cutting.{areaBy, leftOver, mostPoints, box, meets}
 use Rattle.area.proofs.Counting.{points-same, points-apart, points-none, points-most, points-inside}
 use Rattle.area.proofs.Boxes.{In, is-in, in-is, Apart, crossing, apart, within-cut, rows-apart, columns-apart, more-points, skip-point, full-point, no-point}
+use Rattle.wire.proofs.Tests.{both-true}
 
 -- ---- bounds
 
@@ -35,10 +36,6 @@ area-more s i =
     points-apart side side (coveredBy s (suc i)) (coveredBy s i) (λ x y. both (inside (rectAt s i) x y) (not (coveredBy s i x y)))
     (λ x y. more-points (coveredBy s i x y) (inside (rectAt s i) x y))
 
-all-left : (a : Bool) → both a true ≡ a
-all-left true = refl
-all-left false = refl
-
 pub left-all : (s : List ℕ) (q : Rect) → q .right ≤ side → q .bottom ≤ side → (q .right - q .left) * (q .bottom - q .top) ≡ leftOver s 0 q
 unfolding leftOver anyBelow
 left-all s q h k =
@@ -46,7 +43,7 @@ left-all s q h k =
     let f : min side (q .bottom) ≡ q .bottom = omega arith in
     mul-comm (q .right - q .left) (q .bottom - q .top)
     ∙ sym (points-inside side side q ∙ rw (e, f))
-    ∙ sym (points-same side side (λ x y. both (inside q x y) (not (coveredBy s 0 x y))) (inside q) (λ x y. all-left (inside q x y)))
+    ∙ sym (points-same side side (λ x y. both (inside q x y) (not (coveredBy s 0 x y))) (inside q) (λ x y. both-true (inside q x y)))
 
 pub left-empty : (s : List ℕ) (n : ℕ) (q : Rect) → ((x y : ℕ) → In q x y → ⊥) → leftOver s n q ≡ 0
 unfolding leftOver

@@ -10,20 +10,12 @@ use lib.Dec.{eqb, leb, ltb}
 use borrow.Author.Tests.{eqb-true, leb-true, ltb-false, eqb-false, le-ltb}
 use Rattle.wire.specs.Tests.{pick, both, either, any}
 use Rattle.wire.specs.Parts.{slice, splice}
-use Rattle.wire.proofs.Tests.{both-left, both-right}
+use Rattle.wire.proofs.Tests.{both-left, both-right, either-left, either-right}
 use Rattle.wire.proofs.Parts.{slice-last, length-splice, drop-splice}
 use Rattle.chunk.specs.Chunk.{State, nothing, begun, most, headSize, totalIn, dataIn, isFirst, isLast, isCompressed, isNothing, firstTotal, bytesSoFar, assembled, refuses16}
 use Rattle.chunk.specs.Memory.{memorySize, totalAt, gotAt, wellFormed, stateAt, formed, viewOf, fit, startAt, endAt, refusesAt, joinedAt}
 
 -- ---- what a chunk has that does not meet 16
-
-either-left : (a b : Bool) → either a b ≡ false → a ≡ false
-either-left true b e = e
-either-left false b e = refl
-
-either-right : (a b : Bool) → either a b ≡ false → b ≡ false
-either-right true b e = let z : _≡_ {A = ℕ} 0 1 = cc in absurd (omega arith)
-either-right false b e = e
 
 -- its total, and the bytes up to its end
 pub record Accepted (total end : ℕ) (last : Bool) : Type 0 where

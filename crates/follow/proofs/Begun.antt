@@ -2,7 +2,7 @@
 use mathlib.Core.Path.{_≡_, refl, sym, ap, _∙_, fun-ext}
 use mathlib.Core.Bool.{true, false}
 use mathlib.Core.List.{List}
-use Prim.Native.Nat.{ℕ, _+_, _≤_, _<_}
+use Prim.Native.Nat.{ℕ, _+_, _≤_}
 use native.Mathlib.Omega.{arith}
 use lib.ListN.{length, replicate, length-take, length-drop}
 use Rattle.wire.specs.Parts.{slice, splice}
@@ -15,7 +15,7 @@ use Rattle.places.proofs.Counting.{found}
 use Rattle.slots.specs.Families.{start, capacity}
 use Rattle.slots.specs.Slots.{isUsed, isAt}
 use Rattle.slots.specs.Slots as slots
-use Rattle.slots.proofs.Soundness.{never, Within, found-within, at-has, used-is}
+use Rattle.slots.proofs.Soundness.{Within, found-within, at-has, used-is}
 use Rattle.index.specs.Memory.{indexOf}
 use Rattle.body.specs.Bodies.{slotStart, slotOf, fieldsOf, bodyOk}
 use Rattle.picture.specs.Pictures.{pictureAt, headOk}
@@ -26,6 +26,7 @@ use Rattle.table.proofs.Heads.{desk-slot}
 use Rattle.follow.specs.Follow.{slotRoom, recordRoom, heldSlot, originAt, presentPictures, beginSlot, beginRecord, PicturesHeld, RecordHeld}
 use Rattle.follow.proofs.Rooms.{room-within, room-slot}
 use Rattle.follow.proofs.Origins.{origin-cleared}
+use Rattle.wire.proofs.Tests.{never}
 
 -- a part is no longer than the room for it
 part-short : (b : List ℕ) (k n : ℕ) → length (slice b k n) ≤ n

@@ -1,7 +1,7 @@
 -- What is wanted, followed from the table at the mark through the orders that are judged on its index: the memory holds what the
 -- table has. Assumes nothing.
 use mathlib.Core.Path.{_≡_, refl, sym, ap, subst, _∙_}
-use mathlib.Core.Bool.{Bool, true, false}
+use mathlib.Core.Bool.{Bool, true}
 use mathlib.Core.List.{List}
 use Prim.Native.Nat.{ℕ, _<_}
 use native.Mathlib.Omega.{arith}
@@ -37,6 +37,7 @@ use Rattle.follow.proofs.Pictured.{pictures-then}
 use Rattle.follow.proofs.Recorded.{slot-followed-length, slot-followed-origins, record-then, record-stays, desktop-then}
 use Rattle.follow.proofs.Begun.{pictures-begun, record-length, record-origins, record-begun, desktop-copied}
 use Rattle.follow.proofs.Begun as begun
+use Rattle.table.proofs.Pointed.{picked}
 
 -- ---- the beginning
 
@@ -143,10 +144,6 @@ follow-length want d s m q bytes sound long = go want long
     go (Notification w n) long = record-long s q (planOf d s) a Notifications (w .id) (n .id) m long
     go Pictures long = pictures-long s q (planOf d s) a m long
     go Desktop long = desktop-long s q (planOf d s) a m long
-
-picked : (P : ℕ → Type 0) (t : Bool) (v w : ℕ) → P v → P w → P (pick t v w)
-picked P true v w x y = x
-picked P false v w x y = y
 
 pub follow-origins : (want : Want) (d s m : List ℕ) (q : ℕ) → Bytes s → soundIndex d ≡ true → length m ≡ roomFor want → q < 65536 → (P : ℕ → Type 0)
     → ((k : ℕ) → P (originAt (heldOrigins want m) k)) → P q → (k : ℕ) → P (originAt (heldOrigins want (followedOf want q s (planOf d s) m)) k)

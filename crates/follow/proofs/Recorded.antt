@@ -13,7 +13,6 @@ use Rattle.places.specs.declared.Family.{Family}
 use Rattle.places.specs.Counts.{onFound}
 use Rattle.places.proofs.Named.{same-record}
 use Rattle.slots.specs.Families.{sameRecord}
-use Rattle.slots.proofs.Soundness.{never}
 use Rattle.index.specs.declared.RecordOrder.{RecordOrder}
 use Rattle.index.specs.declared.Change.{Change}
 use Rattle.index.specs.Orders.{isNew, isDelete}
@@ -28,6 +27,7 @@ use Rattle.table.specs.Changes.{slotAfter, desktopSlot, Able}
 use Rattle.table.proofs.Bodied.{slot-length, slot-fields, slot-ok, desktop-body, desktop-ok}
 use Rattle.follow.specs.Follow.{slotRoom, recordRoom, heldSlot, isFor, slotFollowed, RecordHeld}
 use Rattle.follow.proofs.Rooms.{family-fits}
+use Rattle.wire.proofs.Tests.{never}
 
 -- ---- the slot in the memory
 

@@ -18,11 +18,11 @@ use Rattle.protocol.specs.Flags.{flagIcon}
 use Rattle.places.specs.declared.Family.{Family}
 use Rattle.places.specs.declared.Found.the-variants.{At, Nothing}
 use Rattle.places.specs.Holder.{sameFamily}
-use Rattle.places.proofs.Named.{same-record}
+use Rattle.places.proofs.Named.{same-record, family-same}
 use Rattle.slots.specs.declared.Searched.{Searched}
 use Rattle.slots.specs.Families.{start, capacity}
 use Rattle.slots.specs.Slots.{isAt, slotOf, searchOf}
-use Rattle.slots.proofs.Soundness.{never, family-same, within-slots, found-within}
+use Rattle.slots.proofs.Soundness.{within-slots, found-within}
 use Rattle.slots.proofs.Ways.{found-is}
 use Rattle.index.specs.declared.Change.{Change}
 use Rattle.index.specs.declared.Plan.{Plan}
@@ -34,6 +34,7 @@ use Rattle.table.specs.Table.{fieldRows}
 use Rattle.table.specs.Changes.{slotAfter, desktopSlot}
 use Rattle.follow.specs.Follow.{slotRoom, beginSlot, isFor, slotFollowed, originsFollowed, recordFollowed, picturesFollowed, desktopFollowed}
 use Rattle.follow.proofs.Rooms.{room-within, family-fits}
+use Rattle.wire.proofs.Tests.{never}
 
 -- ---- the beginning
 

@@ -7,7 +7,7 @@ use native.Mathlib.Omega.{arith}
 use lib.Dec.{eqb, ltb, leb}
 use borrow.Author.Tests.{eqb-true, eqb-false, eq-eqb, ne-eqb, ltb-true, ltb-false, leb-true, leb-false, not-true}
 use Rattle.wire.specs.Tests.{pick, both}
-use Rattle.wire.proofs.Tests.{both-left, both-right}
+use Rattle.wire.proofs.Tests.{both-left, both-right, never}
 use Rattle.places.specs.declared.Family.{Family}
 use Rattle.places.specs.declared.Family.the-variants.{Windows, Notifications}
 use Rattle.places.specs.declared.Found.{Found}
@@ -25,7 +25,7 @@ use Rattle.places.proofs.Validity.{valid-has}
 use Rattle.slots.specs.Families.{start, capacity}
 use Rattle.slots.specs.Slots.{firstId, secondId, isUsed, isAt, slotOf, manyIn}
 use Rattle.slots.specs.Sound.{soundIndex}
-use Rattle.slots.proofs.Soundness.{never, Within, found-within, at-has, at-own, used-is, used-has, Sound, sound-has, one-slot, free-pointers, slots-of}
+use Rattle.slots.proofs.Soundness.{Within, found-within, at-has, at-own, used-is, used-has, Sound, sound-has, one-slot, free-pointers, slots-of}
 use Rattle.index.specs.Memory.{indexOf}
 use Rattle.index.proofs.Shared.{sharingAt}
 use Rattle.index.proofs.After.{same-index}

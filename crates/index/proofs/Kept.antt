@@ -1,7 +1,7 @@
 -- A memory that describes an index does so after each change of it. Assumes nothing.
 use mathlib.Core.Path.{_≡_, refl, sym, ap, _∙_, fun-ext}
 use mathlib.Core.Bool.{Bool, true, false}
-use mathlib.Core.List.{List, [], _∷_}
+use mathlib.Core.List.{List}
 use Prim.Native.Nat.{ℕ, zero, suc, _+_, _*_, _-_, _≤_, _<_}
 use native.Mathlib.Omega.{arith}
 use lib.Dec.{eqb, ltb}
@@ -24,12 +24,14 @@ use Rattle.places.proofs.Meaning.{share-valid, release-valid, releases-valid, r
 use Rattle.slots.specs.Families.{start, capacity, highest, sameRecord}
 use Rattle.slots.specs.Slots.{usedAt, firstId, secondId, isUsed, isAt, slotOf}
 use Rattle.slots.specs.Sound.{noPointers, slotOk, soundIndex}
-use Rattle.slots.proofs.Soundness.{Within, within-slots, one-family, same-family, family-same, apart, found-within, at-has, slot-free, slot-used, slot-own, slot-cases, no-pointers-has, no-pointers-is, Sound, sound-is}
+use Rattle.slots.proofs.Soundness.{Within, within-slots, one-family, apart, found-within, at-has, slot-free, slot-used, slot-own, slot-cases, no-pointers-has, no-pointers-is, Sound, sound-is}
 use Rattle.index.specs.Changes.{iconsAt, removedOf, clearedOf, emptiedOf}
 use Rattle.index.proofs.Memory.{Same, still-valid, Listed, Slotted, points-slotted, share-slotted, releases-slotted, Cleared, cleared-is}
 use Rattle.index.proofs.Listed.{slotted-find, find-listed, find-freed}
 use Rattle.index.proofs.Shared.{icons-holders, removed-freed, removed-still, none-slotted}
 use Rattle.index.proofs.Held.{Held}
+use Rattle.places.proofs.Named.{same-family, family-same}
+use Rattle.places.proofs.Listing.{releases-point}
 
 -- a slot that is as it was, and is found as it was; without a record it still has no pointers
 slot-kept : (f : Family) (x y : List ℕ) (j : ℕ) → Same x y j → (usedAt x j ≡ 0 → noPointers x j ≡ true → noPointers y j ≡ true)
@@ -88,12 +90,7 @@ module _ (f : Family) (x y : List ℕ) (i a b : ℕ) (s : Sound x) (w : Within f
 
 -- ---- a record deleted
 
-releases-point : (hs m : List ℕ) → releaseAllOf m hs ≡ pointAll m hs 0
-unfolding releaseOf
-releases-point [] m = refl
-releases-point (h ∷ hs) m = releases-point hs (releaseOf m h)
-
-own-icon : (i w : ℕ) → w < 3 → isOne eqb (iconsAt i) (12 + 3 * i + w) ≡ true
+pub own-icon : (i w : ℕ) → w < 3 → isOne eqb (iconsAt i) (12 + 3 * i + w) ≡ true
 own-icon i zero l = rw (eq-eqb (12 + 3 * i + 0) (12 + 3 * i + 0) refl)
 own-icon i (suc zero) l = rw (eq-eqb (12 + 3 * i + 1) (12 + 3 * i + 1) refl) (last (eqb (12 + 3 * i + 1) (12 + 3 * i + 0)))
   where

@@ -11,12 +11,13 @@ use Rattle.places.specs.declared.Family.{Family}
 use Rattle.places.specs.declared.Found.the-variants.{At, Nothing}
 use Rattle.places.specs.Counts.{one}
 use Rattle.places.specs.Holder.{sameFamily}
-use Rattle.places.proofs.Counting.{found, none-passes, first-cong, count-cong, count-change, count-none, count-all, count-below}
+use Rattle.places.proofs.Counting.{found, none-passes, first-cong, count-cong, count-change, count-none, count-all, count-below, first-is}
 use Rattle.slots.specs.Families.{start, capacity, sameRecord}
 use Rattle.slots.specs.Slots.{usedAt, isUsed, isFree, isAt, slotOf, freeOf, manyIn}
-use Rattle.slots.proofs.Searching.{first-none, first-is}
-use Rattle.slots.proofs.Soundness.{Within, within-slots, same-family, apart, at-has, at-is, at-free, used-is, free-is, Sound, one-slot}
+use Rattle.slots.proofs.Searching.{first-none}
+use Rattle.slots.proofs.Soundness.{Within, within-slots, apart, at-has, at-is, at-free, used-is, free-is, Sound, one-slot}
 use Rattle.index.proofs.Memory.{same-used, same-at, Kept, Listed, Freed, Slotted}
+use Rattle.places.proofs.Named.{same-family}
 
 -- ---- every slot the same
 

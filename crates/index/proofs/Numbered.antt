@@ -19,12 +19,12 @@ use Rattle.places.specs.Changes.{freePlace}
 use Rattle.places.specs.Keyed.{keyed}
 use Rattle.places.specs.Holder.{cell, sameFamily, sameHolder}
 use Rattle.places.proofs.Counting.{found}
-use Rattle.places.proofs.Named.{cell-number}
+use Rattle.places.proofs.Named.{cell-number, same-family}
 use Rattle.places.proofs.Meaning.{found-free}
 use Rattle.places.proofs.Validity.{valid-has}
 use Rattle.slots.specs.Families.{start, capacity, highest, sameRecord}
 use Rattle.slots.specs.Slots.{isUsed, isFree, slotOf, freeOf, manyIn}
-use Rattle.slots.proofs.Soundness.{never, Within, within-slots, same-family, found-within, free-within, Sound, slots-of}
+use Rattle.slots.proofs.Soundness.{Within, within-slots, found-within, free-within, Sound, slots-of}
 use Rattle.index.specs.declared.RecordOrder.{RecordOrder}
 use Rattle.index.specs.declared.Place.{Place}
 use Rattle.index.specs.declared.Place.the-variants.{Slot, Not}
@@ -41,6 +41,7 @@ use Rattle.index.proofs.Ordered.{Ordered, cached-alone, cached-names}
 use Rattle.index.proofs.Shared.{sharingAt, listed-at, listed-sharing}
 use Rattle.index.proofs.Held.{held}
 use Rattle.index.proofs.Kept.{listed-sound}
+use Rattle.wire.proofs.Tests.{never}
 
 -- ---- the memory z in which the record is listed in slot i: x itself, or x with a new record
 
@@ -63,7 +64,7 @@ pub record Placed (x : List ℕ) (o : RecordOrder) (i : ℕ) : Type 0 where
   pub new : isNew (o .family) (o .flags) ≡ true → (slotOf x (o .family) (o .window .id) (o .notify .id) ≡ Nothing) × (isUsed x i ≡ false)
   pub old : isNew (o .family) (o .flags) ≡ false → slotOf x (o .family) (o .window .id) (o .notify .id) ≡ At i
 
-second-small : (f : Family) (b : ℕ) → b ≤ highest f → b < 4294967296
+pub second-small : (f : Family) (b : ℕ) → b ≤ highest f → b < 4294967296
 second-small Windows b h = omega arith
 second-small Notifications b h = omega arith
 

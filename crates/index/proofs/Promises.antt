@@ -4,24 +4,16 @@ use mathlib.Core.Bool.{Bool, true, false}
 use mathlib.Core.List.{List, [], _∷_}
 use Prim.Native.Nat.{ℕ}
 use lib.Dec.{eqb}
-use Rattle.wire.specs.Tests.{pick, both, either}
+use Rattle.wire.specs.Tests.{pick, both}
 use Rattle.places.specs.declared.Family.{Family}
 use Rattle.places.specs.Sharing.{Sharing, isOne, drop, dropAll, via, join, fresh, full, taken}
 use Rattle.places.specs.Holder.{Holder, cell, icon, sameFamily, sameHolder, iconsOf}
 use Rattle.slots.specs.Families.{sameRecord}
-use Rattle.slots.proofs.Soundness.{never}
 use Rattle.index.specs.declared.RecordOrder.{RecordOrder}
 use Rattle.index.specs.Orders.{isDelete, bringsIcon, bringsCached, clearsOverlay, cellAt, sentOnce, whichOf, pointerOf, holdersOf}
 use Rattle.index.specs.Index.{Index, pictured, without, withRecord, changeRecord}
 use Rattle.index.specs.Promises.{touched, OthersKeep, RecordsKeep}
-
-either-left : (t u : Bool) → either t u ≡ false → t ≡ false
-either-left true u e = e
-either-left false u e = refl
-
-either-right : (t u : Bool) → either t u ≡ false → u ≡ false
-either-right true u e = never (sym e)
-either-right false u e = e
+use Rattle.wire.proofs.Tests.{never, either-left, either-right}
 
 -- ---- holders that are none of those changed
 

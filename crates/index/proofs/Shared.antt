@@ -18,11 +18,11 @@ use Rattle.places.specs.Keyed.{keyed}
 use Rattle.places.specs.Holder.{Holder, cell, icon, sameHolder, numberOf, iconsOf, isCellHolder, noSlot}
 use Rattle.places.proofs.Bytes.{Holders}
 use Rattle.places.proofs.Meaning.{holder}
-use Rattle.places.proofs.Named.{cell-number, icon-number, none-icon-means, cached-means}
+use Rattle.places.proofs.Named.{cell-number, icon-number, none-icon-means, cached-means, family-same}
 use Rattle.places.proofs.Listing.{unlisted-means, deleted-means, none-means}
 use Rattle.slots.specs.Families.{sameRecord}
 use Rattle.slots.specs.Slots.{isUsed, isAt, slotOf}
-use Rattle.slots.proofs.Soundness.{Within, within-slots, family-same, found-within, Sound, free-pointers, slots-of}
+use Rattle.slots.proofs.Soundness.{Within, within-slots, found-within, Sound, free-pointers, slots-of}
 use Rattle.index.specs.Changes.{freedOf, iconsAt, removedOf, clearedOf}
 use Rattle.index.proofs.Memory.{Still, still-decode, Listed, Freed, freed-is, freed-still, Slotted, share-slotted, releases-slotted, Cleared, cleared-is, same-trans}
 use Rattle.index.proofs.Listed.{slotted-find, find-listed, find-freed, none-find}
@@ -30,7 +30,7 @@ use Rattle.index.proofs.Listed.{slotted-find, find-listed, find-freed, 
 abbrev pub sharingAt : List ℕ → Sharing Holder
 sharingAt x = keyed (numberOf (slotOf x)) (decode x)
 
-own-record : (f : Family) (a b : ℕ) → sameRecord f a b f a b ≡ true
+pub own-record : (f : Family) (a b : ℕ) → sameRecord f a b f a b ≡ true
 own-record f a b = rw (family-same f, eq-eqb a a refl, eq-eqb b b refl)
 
 -- ---- a record listed in a slot without one

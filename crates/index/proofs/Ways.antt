@@ -17,13 +17,13 @@ use Rattle.places.specs.declared.Family.{Family}
 use Rattle.places.specs.declared.Family.the-variants.{Windows, Notifications}
 use Rattle.places.specs.Changes.{pointAll, shareOf, releaseOf, releaseRecordsOf}
 use Rattle.places.proofs.Bytes.{inside}
-use Rattle.slots.proofs.Soundness.{never}
 use Rattle.index.specs.declared.Change.{Change}
 use Rattle.index.specs.declared.Plan.{Plan}
 use Rattle.index.specs.declared.Plan.the-variants.{ChangeRecord, ChangeDesktop, Refuse}
 use Rattle.index.specs.Orders.{isNew, cellAt, whichOf}
 use Rattle.index.specs.Plans.{lacksPicture, besideOf}
 use Rattle.index.specs.Changes.{listedOf, freedOf, removedOf, picturedOf, changedOf, clearedOf, emptiedOf, appliedOf, Fits, FitsPlan}
+use Rattle.wire.proofs.Tests.{never}
 
 -- ---- 11
 

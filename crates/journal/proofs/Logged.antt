@@ -1,7 +1,7 @@
 -- A memory that meets the rule, as facts over the list of its orders; what it describes; and one order more, the first few of
 -- them, and none. Assumes nothing.
 use mathlib.Core.Path.{_≡_, refl, sym, ap, _∙_}
-use mathlib.Core.Bool.{Bool, true, false, not}
+use mathlib.Core.Bool.{true, false, not}
 use mathlib.Core.List.{List, [], _∷_, _++_}
 use Prim.Native.Nat.{ℕ, zero, suc, _+_, _-_, _≤_}
 use native.Mathlib.Omega.{arith}
@@ -12,7 +12,7 @@ use borrow.Author.Tests.{ltb-false, le-ltb, not-true, not-false}
 use Rattle.wire.specs.Tests.{pick, either}
 use Rattle.wire.specs.Numbers.{bytesOf}
 use Rattle.wire.specs.Parts.{splice}
-use Rattle.wire.proofs.Tests.{both-left, both-right}
+use Rattle.wire.proofs.Tests.{both-left, both-right, neither}
 use Rattle.wire.proofs.Numbers.{length-bytes}
 use Rattle.wire.proofs.Parts.{length-splice, drop-splice}
 use Rattle.places.specs.Sizes.{fewestPlaces}
@@ -39,10 +39,6 @@ pub record Long (x b : List ℕ) (lent : ℕ) (j : List ℕ) : Type 0 where
   pub bodies : bodiesLength ≤ length b
   pub places : fewestPlaces ≤ lent
   pub journal : journalLength ≤ length j
-
-neither : (a b : Bool) → either a b ≡ false → (a ≡ false) × (b ≡ false)
-neither true b e = let z : _≡_ {A = ℕ} 0 1 = cc in absurd (omega arith)
-neither false b e = (refl, e)
 
 pub long-has : (x b : List ℕ) (lent : ℕ) (j : List ℕ) → shortOf x b lent j ≡ false → Long x b lent j
 long-has x b lent j e =
@@ -122,7 +118,7 @@ module _ {m : Memory} {w : JournalExtent} {os : List (List ℕ)} (l : Logged m w
 
 -- ---- by its tests
 
-length-orders : (n p : ℕ) (j : List ℕ) → length (ordersFrom n p j) ≡ n
+pub length-orders : (n p : ℕ) (j : List ℕ) → length (ordersFrom n p j) ≡ n
 unfolding ordersFrom
 length-orders zero p j = refl
 length-orders (suc n) p j = ap suc (length-orders n (p + sizeAt j p) j)

@@ -33,12 +33,10 @@ use Rattle.journal.specs.Replay.{Replay, replayFrom, Replayed, fromMark,
 use Rattle.journal.proofs.Copies.{copied-index, copied-places, copied-sound, copied-holds}
 use Rattle.journal.proofs.Logged.{Long, long-has, long-is, markedIn, extent-formed, logged-low}
 use Rattle.journal.proofs.Replays.{Ready, Through, Ran, stops, through, replay-ran}
+use Rattle.wire.proofs.Tests.{never}
 
 abbrev pub noExtent : JournalExtent
 noExtent = record { count = 0; end = 0 }
-
-no : {A : Type 0} → _≡_ {A = Bool} false true → A
-no e = let z : _≡_ {A = ℕ} 0 1 = cc in absurd (omega arith)
 
 -- ---- what can be replayed
 
@@ -74,9 +72,9 @@ replayable-has x b lent j = go (shortOf x b lent j) (soundTable x b lent) (figur
   where
     go : (u v w : Bool) → shortOf x b lent j ≡ u → soundTable x b lent ≡ v → figuresOk x b ≡ w
         → pick u false (pick v (both w (not (ltb mostOrders (countOf j)))) false) ≡ true → Replayable x b lent j
-    go true v w y z k e = no e
-    go false false w y z k e = no e
-    go false true false y z k e = no e
+    go true v w y z k e = never e
+    go false false w y z k e = never e
+    go false true false y z k e = never e
     go false true true y z k e = record { long = long-has x b lent j y; sound = z; figures = k; few = not-true (ltb mostOrders (countOf j)) e }
 
 abbrev pub replayableIn : Memory → Bool
@@ -94,14 +92,14 @@ not-replayable m =
     go false false g c x y k z e = rw (x, y)
     go false true false c x y k z e = rw (x, y, k)
     go false true true true x y k z e = rw (x, y, k, z)
-    go false true true false x y k z e = no (sym e)
+    go false true true false x y k z e = never (sym e)
 
 rule-replayable : (m : Memory) → meetsRule m ≡ true → replayableIn m ≡ true
 rule-replayable m h = go (replayableIn m) refl
   where
     go : (b : Bool) → replayableIn m ≡ b → replayableIn m ≡ true
     go true e = e
-    go false e = no (sym (not-replayable m e) ∙ h)
+    go false e = never (sym (not-replayable m e) ∙ h)
 
 -- what the replay from the mark requires
 pub from-mark-asks : (m : Memory) → meetsRule m ≡ true
@@ -122,7 +120,7 @@ not-validated want x b lent j d f e store same =
       extent = rw n;
       index = rw r;
       followed = rw r;
-      means = λ s. no (sym n ∙ s);
+      means = λ s. never (sym n ∙ s);
     }
 
 -- ---- the memories that the replay begins with
@@ -224,7 +222,7 @@ module _ (want : Want) (m : Memory) (bytes : Bytes (m .journal)) (d f : List ℕ
         go : Runs → Validation want m d f noExtent d' f'
         go (stops x y) =
             let n : meetsRule m ≡ false = meets-is ∙ y in
-            memories (rw n) (λ s. no (sym n ∙ s))
+            memories (rw n) (λ s. never (sym n ∙ s))
         go (through g) = absurd (some-end g z)
 
     some-here : (e ≡ 0 → ⊥) → Validation want m d f (record { count = countOf (m .journal); end = e }) d' f'
@@ -243,7 +241,7 @@ module _ (want : Want) (m : Memory) (bytes : Bytes (m .journal)) (d f : List ℕ
   means-here h = go ran
     where
       go : Runs → Validated want m (replay .index) (replay .followed)
-      go (stops x y) = no (sym (meets-is ∙ y) ∙ h)
+      go (stops x y) = never (sym (meets-is ∙ y) ∙ h)
       go (through g) = means-that (record { end = refl; index = refl; followed = refl }) g
 
 pub from-mark-means : (want : Want) (m : Memory) (d f : List ℕ) → Bytes (m .journal) → length d ≡ indexLength → length f ≡ roomFor want → meetsRule m ≡ true

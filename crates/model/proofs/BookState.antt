@@ -21,6 +21,7 @@ use Rattle.session.specs.declared.LookupTarget.{LookupTarget}
 use Rattle.session.specs.declared.LookupTarget.the-variants.{Window, Notification, Cell, Desktop, Windows, Notifications, Shares}
 use Rattle.session.specs.Calls.{Call, reset, deliver, checkpoint, undo, look, writeRecord, Payload, nothing, listed, desktop, picture, ids, orders, shared, Answer, refuse, grant, overFull, without, aPicture, cellNumber, holderOf, iconsShown, sharedIn, recordIn, payloadIn, found, answer, next}
 use Rattle.model.specs.Book.{Book, newBook, makes, tableOf, bytesOf, hasRoom, joined, markMoved, lastGone, says, refuses, givesRecord, givesShared, givesPicture, bookNext, bookAnswer}
+use Rattle.journal.proofs.Runs.{run-append}
 
 -- ---- the book's words and the state's
 
@@ -28,11 +29,6 @@ makes-run : (t : Table) (os : List (List ℕ)) → makes t os ≡ run t os
 unfolding makes run
 makes-run t [] = refl
 makes-run t (o ∷ os) = makes-run (after t o) os
-
-run-append : (t : Table) (a b : List (List ℕ)) → run t (a ++ b) ≡ run (run t a) b
-unfolding run
-run-append t [] b = refl
-run-append t (o ∷ a) b = run-append (after t o) a b
 
 pub bytes-same : (os : List (List ℕ)) → bytesIn os ≡ bytesOf os
 unfolding bytesIn bytesOf

@@ -11,7 +11,7 @@ use Rattle.wire.specs.Tests.{pick}
 use Rattle.wire.specs.Numbers.{numAt, bytesOf, fitsIn}
 use Rattle.wire.specs.Parts.{padded, splice}
 use Rattle.wire.proofs.Numbers.{num-drop, num-padded, num-put, length-bytes}
-use Rattle.wire.proofs.Parts.{length-padded, padded-same}
+use Rattle.wire.proofs.Parts.{padded-same}
 use Rattle.rows.specs.declared.Row.{Row}
 use Rattle.rows.specs.Rows.{rowsFrom}
 use Rattle.order.specs.Icons.{partsOf}
@@ -30,6 +30,8 @@ use Rattle.present.specs.TableFigure.{unmarked}
 use Rattle.session.specs.Calls.{listed, desktop, picture, ids, shared}
 use Rattle.session.specs.Outcome.{firstThere, secondThere, pixelsSize, listedBytes, payloadBytes}
 use Rattle.model.specs.Lossless.{ValidPicture, ValidShown, ValidFigure, nothing-shown, shown, absent, window, notification, cell, desktopState, windows, notifications, shares, LayoutLosesNothing}
+use Rattle.shown.proofs.ShownHanded.{length-picture}
+use Rattle.session.proofs.Handed.{length-shown}
 
 -- ---- lists one after the other, the first as long as the other's first
 
@@ -73,10 +75,6 @@ module _ (low high m n : ℕ) (b : Body) (v : ValidBody (rowsFrom low high) m n 
 
 -- ---- pictures: the numbers in the layout say where one ends
 
-length-picture : (p : List ℕ) → length (pictureBytes p) ≡ pictureSize
-unfolding pictureBytes
-length-picture p = length-padded {A = ℕ} 0 pictureSize p
-
 no-picture : (p : List ℕ) → pictureBytes p ≡ [] → ⊥
 no-picture p e = omega (arith, ap (λ (x : List ℕ). length x) e, length-picture p)
 
@@ -101,10 +99,6 @@ module _ (p q : List ℕ) (v : ValidPicture p) (w : ValidPicture q) (e : picture
   same-picture = padded-same {A = ℕ} 0 pictureSize p q same-length (v .few) e
 
 -- ---- what an icon shows, with its mark
-
-length-shown : (x : Option (List ℕ)) → length (shownBytes x) ≡ pictureSize
-length-shown none = length-picture []
-length-shown (some p) = length-picture p
 
 mark-low : (x : Option (List ℕ)) → isThere x ≤ 1
 mark-low none = omega arith

@@ -9,7 +9,7 @@ use lib.ListN.{length, take, replicate, length-append}
 use borrow.Author.Tests.{le-ltb, ltb-false}
 use Rattle.wire.specs.Tests.{pick, either}
 use Rattle.wire.specs.Parts.{slice, splice}
-use Rattle.wire.proofs.Tests.{both-left, both-right}
+use Rattle.wire.proofs.Tests.{both-left, both-right, never}
 use Rattle.wire.proofs.Parts.{slice-splice}
 use Rattle.table.specs.Table.{Table, number, after}
 use Rattle.journal.specs.Limits.{mostOrders, mostBytes}
@@ -30,9 +30,6 @@ use Rattle.model.specs.Records.{AtMark, MarksHere, keepsMark, allKeepMar
 use Rattle.model.proofs.Demand3.{moved, emptied-view}
 use Rattle.model.proofs.Wellformed.{one-state, only-meets, reset-long}
 
-no : {A : Type 0} → _≡_ {A = Bool} false true → A
-no e = let z : _≡_ {A = ℕ} 0 1 = cc in absurd (omega arith)
-
 abbrev at : Table → List (List ℕ) → State
 at t os = record { marked = t; log = os }
 
@@ -44,9 +41,9 @@ picked false s os = refl
 
 kept-mark : (c : Call) (s : State) → keepsMark c ≡ true → next c s .marked ≡ s .marked
 unfolding next
-kept-mark (reset n) s e = no e
+kept-mark (reset n) s e = never e
 kept-mark (deliver o) s e = picked (either (not (eqb (number (present s) o) 0)) (overFull (s .log) o)) s (s .log ++ (o ∷ []))
-kept-mark checkpoint s e = no e
+kept-mark checkpoint s e = never e
 kept-mark (undo k) s e = picked (ltb (length (s .log)) k) s _
 kept-mark (look target) s e = refl
 kept-mark writeRecord s e = refl

@@ -7,7 +7,7 @@ use lib.Dec.{eqb, ltb}
 use lib.ListN.{length, take, length-append, length-take}
 use borrow.Author.Tests.{ltb-false}
 use native.Mathlib.Omega.{arith}
-use Rattle.wire.specs.Tests.{pick, either}
+use Rattle.wire.specs.Tests.{pick}
 use Rattle.wire.specs.Parts.{splice}
 use Rattle.table.specs.Table.{number}
 use Rattle.journal.specs.Limits.{mostOrders, mostBytes}
@@ -19,6 +19,7 @@ use Rattle.session.specs.Calls.{Call, reset, deliver, checkpoint, undo, look, w
 use Rattle.session.specs.Outcome.{Response, plain, replied, responseOf, answerWithin, outAfter}
 use Rattle.model.specs.Wellformed.{Meets, emptiedState, EmptyingGranted, EmptiedMeets, CallsKeep, OneState, OnlyMeets, Fits, RepliesFit}
 use Rattle.model.proofs.Demand3.{moved, emptied-view}
+use Rattle.wire.proofs.Tests.{neither}
 
 -- the state of a formed view
 stateIn : View → State → State
@@ -106,15 +107,11 @@ none-fits = (omega arith, omega arith)
 refused-fits : (n : ℕ) → Fits (refuse n)
 refused-fits n = (omega arith, omega arith)
 
-either-false : (a b : Bool) → either a b ≡ false → (a ≡ false) × (b ≡ false)
-either-false false b e = (refl, e)
-either-false true b e = let z : _≡_ {A = ℕ} 0 1 = cc in absurd (omega arith)
-
 module _ (s : State) (few : length (s .log) ≤ mostOrders) (bytes : bytesIn (s .log) ≤ mostBytes) where
   joined-fits : (o : List ℕ) → overFull (s .log) o ≡ false → Fits (grant (s .log ++ (o ∷ [])) nothing)
   unfolding bytesIn
   joined-fits o e =
-      let x = either-false (ltb mostOrders (length (s .log) + 1)) (ltb mostBytes (bytesIn (s .log) + length o)) e in
+      let x = neither (ltb mostOrders (length (s .log) + 1)) (ltb mostBytes (bytesIn (s .log) + length o)) e in
       let a = ltb-false mostOrders (length (s .log) + 1) (x .0) in
       let b = ltb-false mostBytes (bytesIn (s .log) + length o) (x .1) in
       (omega (arith, length-append (s .log) (o ∷ []), a), omega (arith, bytes-append (s .log) (o ∷ []), b))

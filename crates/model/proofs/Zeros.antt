@@ -5,7 +5,7 @@ use mathlib.Core.Bool.{Bool, true, false}
 use mathlib.Core.List.{List}
 use lib.Dec.{leb, ltb}
 use lib.ListN.{length, replicate}
-use Rattle.wire.specs.Tests.{pick, both}
+use Rattle.wire.specs.Tests.{pick}
 use Rattle.places.specs.Sizes.{holdersLength}
 use Rattle.places.specs.Memory.{placesOf, valid}
 use Rattle.slots.specs.Families.{indexLength}
@@ -14,6 +14,7 @@ use Rattle.store.specs.Store.{placesIn}
 use Rattle.table.specs.Memory.{bodiesLength, soundTable}
 use Rattle.journal.specs.View.{wellFormed}
 use Rattle.model.specs.Wellformed.{ZerosUnformed}
+use Rattle.wire.proofs.Tests.{both-false}
 
 abbrev zeros : ℕ → List ℕ
 zeros n = replicate n 0
@@ -28,13 +29,9 @@ none-picked : (t : Bool) → pick t false false ≡ false
 none-picked true = refl
 none-picked false = refl
 
-not-both : (t : Bool) → both t false ≡ false
-not-both true = refl
-not-both false = refl
-
 not-valid : (a : ℕ) → valid (zeros a) ≡ false
 unfolding valid
-not-valid a = rw (no-place a) (not-both (leb holdersLength (length (zeros a))))
+not-valid a = rw (no-place a) (both-false (leb holdersLength (length (zeros a))))
 
 not-sound : (a : ℕ) → soundIndex (zeros a) ≡ false
 unfolding soundIndex

@@ -7,26 +7,18 @@ use lib.Dec.{eqb}
 use lib.Bits.{bitAnd}
 use borrow.Author.Tests.{eq-eqb, ne-eqb, eqb-true, not-false}
 use Rattle.wire.specs.Tests.{pick, both, either, any, all, has}
-use Rattle.wire.proofs.Tests.{both-left, both-right}
+use Rattle.wire.proofs.Tests.{both-left, both-right, both-false, both-true}
 use Rattle.protocol.specs.Flags.{desktopArcBegan, desktopArcCompleted, desktopNone, flagBigIcon, flagCachedIcon, flagDeleted, flagDesktop, flagIcon, flagOverlayIcon, flagsIcon}
 use Rattle.rows.proofs.Absent.{unmet}
 use Rattle.order.specs.Flags.{clash, isDesktop, isWindow}
 
-lacks : (flags mask : ℕ) → bitAnd flags mask ≡ 0 → has flags mask ≡ false
+pub lacks : (flags mask : ℕ) → bitAnd flags mask ≡ 0 → has flags mask ≡ false
 lacks flags mask h = rw (eq-eqb (bitAnd flags mask) 0 h)
 
-meets : (flags mask : ℕ) → (bitAnd flags mask ≡ 0 → ⊥) → has flags mask ≡ true
+pub meets : (flags mask : ℕ) → (bitAnd flags mask ≡ 0 → ⊥) → has flags mask ≡ true
 meets flags mask h = rw (ne-eqb (bitAnd flags mask) 0 h)
 
 -- ---- tests joined
-
-both-false : (a : Bool) → both a false ≡ false
-both-false true = refl
-both-false false = refl
-
-both-true : (a : Bool) → both a true ≡ a
-both-true true = refl
-both-true false = refl
 
 either-false : (a : Bool) → either a false ≡ a
 either-false true = refl

@@ -35,7 +35,7 @@ use Rattle.pdu.proofs.Settings.{shape, Made, made, moved-shape, moved-s
 
 -- ---- the record
 
-is-yes : (b : Bool) → isYes (yesNumber b) ≡ b
+pub is-yes : (b : Bool) → isYes (yesNumber b) ≡ b
 is-yes true = refl
 is-yes false = refl
 
@@ -48,7 +48,7 @@ position : (z : ℤ) (zs : List ℤ) → allHold 2 (z ∷ zs) ≡ true → signe
 unfolding allHold
 position z zs t = back-2 z (both-left (holds 2 z) (allHold 2 zs) t)
 
-rest : (z : ℤ) (zs : List ℤ) → allHold 2 (z ∷ zs) ≡ true → allHold 2 zs ≡ true
+pub rest : (z : ℤ) (zs : List ℤ) → allHold 2 (z ∷ zs) ≡ true → allHold 2 zs ≡ true
 unfolding allHold
 rest z zs t = both-right (holds 2 z) (allHold 2 zs) t
 

@@ -8,10 +8,10 @@ use lib.ListN.{length, take, drop, take-append-drop}
 use lib.Seq.{drop-length}
 use lib.Dec.{ltb, eqb}
 use borrow.Author.Tests.{eqb-true}
-use Rattle.wire.specs.Tests.{pick, both}
+use Rattle.wire.specs.Tests.{pick}
 use Rattle.wire.specs.Parts.{slice, splice}
 use Rattle.wire.specs.Numbers.{numAt, numsAt, bytesOf, putAll, total}
-use Rattle.wire.proofs.Tests.{Each, one-of}
+use Rattle.wire.proofs.Tests.{Each, one-of, not-not}
 use Rattle.wire.proofs.Parts.{length-slice, splice-append}
 use Rattle.wire.proofs.Numbers.{Bytes, put-nums, length-put}
 use Rattle.pdu.specs.declared.Span.{Span}
@@ -19,7 +19,6 @@ use Rattle.signs.specs.TwosComplement.{signed, unsigned}
 use Rattle.signs.proofs.TwosComplement.{forth-2, num-under}
 use Rattle.pdu.specs.declared.Pdu.{Pdu}
 use Rattle.pdu.specs.declared.Pdu.the-variants.{SystemParameters}
-use Rattle.pdu.specs.declared.Setting.{Setting}
 use Rattle.pdu.specs.declared.Read.{Read}
 use Rattle.pdu.specs.declared.Read.the-variants.{Message, Refused}
 use Rattle.pdu.specs.Layout.{types, known, widths}
@@ -27,7 +26,7 @@ use Rattle.pdu.specs.Settings.{isByte, isArea, highContrast, knownSettin
 use Rattle.pdu.specs.Records.{isYes, yesNumber, recordOf, kindOf, numsOf, sizeOf, spansOf}
 use Rattle.pdu.specs.Rules.{allowed}
 use Rattle.pdu.specs.Reading.{recordAs, settingAt, unknownSetting, lengthsAgree, bodyNumber, readNumber, answerAs, readOf}
-use Rattle.pdu.specs.Writing.{allLie, zeros, filled, stringsOf, joined, line, encode, grants}
+use Rattle.pdu.specs.Writing.{allLie, zeros, filled, stringsOf, joined, encode, grants}
 use Rattle.pdu.specs.RoundTrip.{tidyAs, tidy, WritesBack}
 use Rattle.pdu.proofs.Strings.{spansFrom, sum, parts, parts-join, all-lie, lens, filled-whole}
 use Rattle.pdu.proofs.Settings.{Shape, made, not-byte, not-area, by-shape, size-shape, spans-shape, byte-is, area-is, scheme-is, encode-made}
@@ -55,10 +54,6 @@ passed-two true false x n m e = absurd (omega (arith, e))
 zero-number : (n : ℕ) (r p : Pdu) (t : Bool) → eqb n 0 ≡ t → pick t (Message r) (Refused n) ≡ Message p → (n ≡ 0) × (r ≡ p)
 zero-number n r p true z e = (eqb-true n 0 z, message-inj r p e)
 zero-number n r p false z e = let y : _≡_ {A = ℕ} 0 1 = cc in absurd (omega arith)
-
-pub not-not : (b : Bool) → not b ≡ false → b ≡ true
-not-not true e = refl
-not-not false e = sym e
 
 pub record Granted (b : List ℕ) (p : Pdu) : Type 0 where
   pub length-told : numAt 2 b 2 ≡ length b

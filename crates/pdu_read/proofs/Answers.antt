@@ -2,14 +2,14 @@
 use mathlib.Core.Path.{_≡_, refl, sym, ap, _∙_, subst}
 use mathlib.Core.Bool.{Bool, true, false, not}
 use mathlib.Core.List.{List}
-use Prim.Native.Nat.{ℕ, zero, suc, _+_, _^_, _≤_, _<_}
+use Prim.Native.Nat.{ℕ, suc, _+_, _^_, _≤_, _<_}
 use native.Mathlib.Omega.{arith}
 use lib.ListN.{length}
 use lib.Dec.{leb, ltb, eqb}
 use borrow.Author.Tests.{le-leb, eqb-true}
 use Rattle.wire.specs.Tests.{pick}
 use Rattle.wire.specs.Numbers.{numAt, numsAt}
-use Rattle.wire.proofs.Tests.{Each, one-of}
+use Rattle.wire.proofs.Tests.{Each, one-of, not-not}
 use Rattle.wire.proofs.Numbers.{Bytes}
 use Rattle.signs.specs.TwosComplement.{signed, unsigned, holds, signedAt}
 use Rattle.signs.proofs.TwosComplement.{num-under, held-2, word-short}
@@ -20,26 +20,22 @@ use Rattle.pdu.specs.Layout.{types, known, widths}
 use Rattle.pdu.specs.declared.Rectangle.{Rectangle}
 use Rattle.pdu.specs.Settings.{highContrast, knownSetting}
 use Rattle.pdu.specs.Settings as S
-use Rattle.pdu.specs.Records.{isYes, yesNumber, recordOf, kindOf, positionsOf, sizeOf}
+use Rattle.pdu.specs.Records.{isYes, recordOf, positionsOf, sizeOf}
 use Rattle.pdu.specs.RoundTrip.{allHold}
 use Rattle.pdu.specs.Rules.{allowed}
 use Rattle.pdu.specs.Answers.{Answer}
 use Rattle.pdu.specs.Reading.{typeAt, settingAt, recordAs, unknownSetting, lengthsAgree, bodyNumber, readNumber, answerAs, readOf}
 use Rattle.pdu.proofs.Answers.{read-says}
 use Rattle.pdu.proofs.Settings.{by-shape, byte-is, area-is, scheme-is}
-use Rattle.pdu.proofs.WriteBack.{not-not, reading}
+use Rattle.pdu.proofs.WriteBack.{reading}
 use Rattle.pdu_words.specs.Words.{wordsOf}
 use Rattle.pdu_read.specs.Told.{wordsAfter, Told}
 use Rattle.pdu_words.specs.FromWords.{u8, u16, u32, stand, Stands, pduOf, fits}
 use Rattle.pdu_words.proofs.FromWords.{words-stand, words-back}
-use Rattle.pdu_words.proofs.FromWordsFit.{word-most, setting-fits}
+use Rattle.pdu_words.proofs.FromWordsFit.{word-most, setting-fits, start-most}
 use Rattle.pdu_read.specs.Answers.{Answerable, answerOf}
 
 -- ---- the numbers of a record that was read fit their fields
-
-start-most : (b : Bool) → leb (yesNumber b) 1 ≡ true
-start-most true = refl
-start-most false = refl
 
 module _ (s : List ℕ) (ok : Bytes s) where
   most-of : (w m at : ℕ) → 256 ^ w ≤ suc m → leb (numAt w s at) m ≡ true

@@ -32,6 +32,7 @@ use Rattle.pdu.specs.declared.SystemMenu as S0C
 use Rattle.pdu.proofs.Settings.{Shape, shape, setting-again, made, not-byte, not-area, by-shape}
 use Rattle.pdu_words.specs.Words.{settingWords, wordsOf, windowMoveWords, moveSizeWords, minMaxInfoWords, systemMenuWords}
 use Rattle.pdu_words.specs.FromWords.{u32, nothing, most, byteMost, areaMost, schemeMost, settingMost, limits, within, Within, positionWords, isPosition, Positions, fitting, stand, Stands, areaFrom, schemeFrom, dataFrom, recordFrom, windowMoveFrom, moveSizeFrom, minMaxInfoFrom, systemMenuFrom, pduOf, fits}
+use Rattle.pdu.proofs.ReadBack.{is-yes, rest}
 
 -- ---- limits
 
@@ -231,10 +232,6 @@ is-type k {w} h q e = of-type w k q e
 
 -- ---- a record's words make it again
 
-is-yes : (b : Bool) → isYes (yesNumber b) ≡ b
-is-yes true = refl
-is-yes false = refl
-
 first-two : (c : ℕ) (d : Data) → (getD (settingWords c d) 0 0 ≡ 0x03) × (getD (settingWords c d) 1 0 ≡ c)
 first-two c (byte v) = (refl, refl)
 first-two c (area a) = (refl, refl)
@@ -254,10 +251,6 @@ setting-words-again s =
 again : (z : ℤ) (zs : List ℤ) → allHold 2 (z ∷ zs) ≡ true → signed 4 (unsigned 4 z) ≡ z
 unfolding allHold
 again z zs t = back-4 z (longer z (both-left (holds 2 z) (allHold 2 zs) t))
-
-rest : (z : ℤ) (zs : List ℤ) → allHold 2 (z ∷ zs) ≡ true → allHold 2 zs ≡ true
-unfolding allHold
-rest z zs t = both-right (holds 2 z) (allHold 2 zs) t
 
 record-again : (p : Pdu) → allHold 2 (positionsOf p) ≡ true → recordFrom (kindOf p) (wordsOf p) ≡ p
 unfolding kindOf wordsOf recordFrom positionsOf

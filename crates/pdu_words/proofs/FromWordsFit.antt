@@ -32,7 +32,7 @@ use Rattle.pdu_words.proofs.FromWords.{byte-limits, area-limits, scheme
 abbrev Held : Pdu → Type 0
 Held p = Fields (variants the-type) (spellss (the-type .parts) the-laws) (the-type .to p)
 
-start-most : (b : Bool) → leb (yesNumber b) 1 ≡ true
+pub start-most : (b : Bool) → leb (yesNumber b) 1 ≡ true
 start-most true = refl
 start-most false = refl
 

@@ -7,19 +7,18 @@ use native.Mathlib.Omega.{arith}
 use lib.Dec.{ltb}
 use lib.ListN.{length, take, drop, length-drop}
 use borrow.Author.Tests.{le-leb, ltb-true, ltb-false}
-use Rattle.wire.specs.Tests.{pick}
 use Rattle.wire.specs.Numbers.{numAt}
 use Rattle.wire.specs.Parts.{slice, splice}
-use Rattle.wire.proofs.Parts.{length-splice, length-slice, slice-cut, slice-last, slice-splice, slice-splice-before, slice-splice-after}
+use Rattle.wire.proofs.Parts.{length-splice, length-slice, slice-cut, slice-last, slice-splice, slice-splice-before, slice-splice-after, slice-slice}
 use Rattle.wire.proofs.Numbers.{num-slice, num-in}
-use Rattle.order.specs.Icons.{tabled, partsFrom, partsOf}
+use Rattle.order.specs.Icons.{tabled, partsOf}
 use Rattle.order.proofs.Pictures.{laid}
 use Rattle.cache.specs.Cells.{cellOk, carriedPicture}
 use Rattle.store.specs.Store.{placeLength, placesIn, placeAt}
 use Rattle.store.specs.Kept.{PutsOne}
-use Rattle.store.proofs.KeptHolds.{slice-slice, puts-one}
+use Rattle.store.proofs.KeptHolds.{puts-one}
 use Rattle.picture.specs.Pictures.{headLength, headAt, pictureFrom, pictureAt, headOk, headsAfter, storeAfter}
-use Rattle.picture.specs.Kept.{IconThere, PutsPicture, PutsOnePicture}
+use Rattle.picture.specs.Kept.{IconThere, PutsOnePicture}
 
 module _ (heads : List ℕ) (p : ℕ) (s : List ℕ) (icon : ℕ) (room : headLength * p + headLength ≤ length heads) (there : IconThere s icon) where
   -- how many bytes its numbers take

@@ -1,5 +1,5 @@
 -- What the functions over pictures leave, from what their calls do. Assumes nothing.
-use mathlib.Core.Path.{_≡_, refl, sym, ap, _∙_}
+use mathlib.Core.Path.{_≡_, sym, ap, _∙_}
 use mathlib.Core.Bool.{true}
 use mathlib.Core.List.{List, _++_}
 use Prim.Native.Nat.{ℕ, _+_, _*_, _-_, _≤_, _<_}
@@ -10,15 +10,15 @@ use borrow.Author.Tests.{leb-true}
 use Rattle.wire.specs.Tests.{both}
 use Rattle.wire.specs.Parts.{slice, splice, padded}
 use Rattle.wire.specs.Numbers.{numAt}
-use Rattle.wire.proofs.Parts.{length-slice, length-splice, slice-last, splice-after}
+use Rattle.wire.proofs.Parts.{length-slice, slice-last, splice-after, slice-slice}
 use Rattle.wire.proofs.Tests.{both-right}
 use Rattle.order.specs.declared.IconParts.{IconParts}
 use Rattle.order.specs.Icons.{partsOf, bitsOk, sideOk}
-use Rattle.order.proofs.Pictures.{laid, laid-is}
+use Rattle.order.proofs.Pictures.{laid}
 use Rattle.cache.specs.Cells.{cellOk}
 use Rattle.layout.proofs.LayoutsWritten.{padded-put}
 use Rattle.layout.specs.Layouts.{pictureSize, pictureBytes}
-use Rattle.store.proofs.KeptHolds.{slice-slice, place-long}
+use Rattle.store.proofs.KeptHolds.{place-long}
 use Rattle.store.specs.Store.{placeLength, placesIn, placeAt, putAt}
 use Rattle.picture.specs.Pictures.{headLength, headAt, pictureFrom, pictureAt, headOk, headsAfter, storeAfter}
 

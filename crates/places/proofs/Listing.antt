@@ -57,7 +57,7 @@ module _ (slot new : Family → ℕ → ℕ → Found) (m : List ℕ) (f : Famil
 
 -- ---- a record deleted: its icons let go, then it is listed no more
 
-releases-point : (hs m : List ℕ) → releaseAllOf m hs ≡ pointAll m hs 0
+pub releases-point : (hs m : List ℕ) → releaseAllOf m hs ≡ pointAll m hs 0
 unfolding releaseOf
 releases-point [] m = refl
 releases-point (h ∷ hs) m = releases-point hs (releaseOf m h)

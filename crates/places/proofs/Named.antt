@@ -25,13 +25,13 @@ use Rattle.places.proofs.Pictures.{take-shown}
 
 -- ---- sameness
 
-same-family : (f g : Family) → sameFamily f g ≡ true → f ≡ g
+pub same-family : (f g : Family) → sameFamily f g ≡ true → f ≡ g
 same-family Windows Windows e = refl
 same-family Windows Notifications e = let z : _≡_ {A = ℕ} 0 1 = cc in absurd (omega arith)
 same-family Notifications Windows e = let z : _≡_ {A = ℕ} 0 1 = cc in absurd (omega arith)
 same-family Notifications Notifications e = refl
 
-family-same : (f : Family) → sameFamily f f ≡ true
+pub family-same : (f : Family) → sameFamily f f ≡ true
 family-same Windows = refl
 family-same Notifications = refl
 

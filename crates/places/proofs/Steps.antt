@@ -12,7 +12,8 @@ use Rattle.places.specs.Counts.{one}
 use Rattle.places.specs.Sharing.{Sharing, isOne, drop, dropAll, via, join, fresh}
 use Rattle.places.specs.Memory.{countAt, isFree, usedOf, sharesOf, sharingOf}
 use Rattle.places.specs.Changes.{put, letGo}
-use Rattle.places.proofs.Pointers.{not-both, both-false, put-same, put-own, put-put, count-other, count-to, count-from, free-has, free-is, taken-is, counted, absent, used-more, used-same}
+use Rattle.places.proofs.Pointers.{not-both, put-same, put-own, put-put, count-other, count-to, count-from, free-has, free-is, taken-is, counted, absent, used-more, used-same}
+use Rattle.wire.proofs.Tests.{both-false}
 
 -- equal when all that they say is
 pub equal-sharing : {H : Type 0} (t u : Sharing H) → ((g k : H) → t .shares g k ≡ u .shares g k) → ((g : H) → t .users g ≡ u .users g) → t .used ≡ u .used → t .places ≡ u .places → t ≡ u

@@ -27,7 +27,7 @@ use Rattle.slots.specs.Families.{indexLength, sameRecord}
 use Rattle.slots.specs.Slots as slots
 use Rattle.slots.specs.Sound.{soundIndex}
 use Rattle.slots.proofs.Ways.{found-is}
-use Rattle.slots.proofs.Soundness.{never, Within, found-within}
+use Rattle.slots.proofs.Soundness.{Within, found-within}
 use Rattle.index.specs.declared.Place.{Place}
 use Rattle.index.specs.declared.Place.the-variants.{Slot, Not}
 use Rattle.index.specs.declared.Plan.{Plan}
@@ -54,6 +54,7 @@ use Rattle.journal.specs.Replay.{Replay, indexAfter, followedAfter, stopped, re
 use Rattle.journal.proofs.Validations.{copy-sound}
 use Rattle.present.specs.PresentFigure.{windowHeld, shownOne, FigureIs}
 use Rattle.present.specs.Touched.{isOrderFor, touchedFrom}
+use Rattle.wire.proofs.Tests.{never}
 
 -- ---- one order
 

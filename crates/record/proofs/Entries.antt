@@ -1,16 +1,15 @@
 -- Laws of a table of contents: its entries, their parts, and what the tests say of them. Assumes nothing.
 use mathlib.Core.Path.{_≡_, refl, ap, _∙_}
-use mathlib.Core.Bool.{Bool, true, false}
+use mathlib.Core.Bool.{true, false}
 use mathlib.Core.List.{List, [], _∷_}
 use Prim.Native.Nat.{ℕ, zero, suc, _+_, _*_, _-_, _≤_, _<_}
 use native.Mathlib.Omega.{arith}
 use lib.Dec.{eqb, ltb}
 use lib.ListN.{length, getD, drop, length-append, length-map}
 use borrow.Author.Tests.{le-ltb, ltb-false, eqb-true}
-use Rattle.wire.specs.Tests.{either}
 use Rattle.wire.specs.Numbers.{numAt, putAll, total}
 use Rattle.wire.specs.Parts.{slice}
-use Rattle.wire.proofs.Tests.{both-left, both-right}
+use Rattle.wire.proofs.Tests.{both-left, both-right, either-left, either-right}
 use Rattle.wire.proofs.Numbers.{num-drop, length-put}
 use Rattle.record.specs.declared.Entry.{Entry}
 use Rattle.record.specs.Layout.{entry, tableOf}
@@ -50,14 +49,6 @@ entries-at (suc n) (suc i) p r d h =
     rw (entries-at n i (p + 8) r d (omega arith), e)
 
 -- ---- the tests on entries
-
-pub either-left : (a b : Bool) → either a b ≡ false → a ≡ false
-either-left true b e = e
-either-left false b e = refl
-
-pub either-right : (a b : Bool) → either a b ≡ false → b ≡ false
-either-right true b e = let z : _≡_ {A = ℕ} 0 1 = cc in absurd (omega arith)
-either-right false b e = e
 
 pub past-first : (n : ℕ) (e : Entry) (es : List Entry) → pastEnd n (e ∷ es) ≡ false → e .offset + e .size ≤ n
 unfolding pastEnd

@@ -11,7 +11,8 @@ use Rattle.wire.specs.Tests.{pick, either}
 use Rattle.journal.specs.Limits.{mostBytes, mostOrders}
 use Rattle.record.specs.Layout.{headOf}
 use Rattle.record.specs.Reading.{countIn, contentsOf, pastEnd, sizesIn, placedFrom, cutShort, irregular, recordNumber}
-use Rattle.record.proofs.Entries.{either-left, either-right, placed-within}
+use Rattle.record.proofs.Entries.{placed-within}
+use Rattle.wire.proofs.Tests.{either-left, either-right}
 
 pub record Granted (r : List ℕ) : Type 0 where
   pub few : countIn r ≤ mostOrders

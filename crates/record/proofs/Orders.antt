@@ -1,5 +1,5 @@
 -- The orders that a journal holds: their number, where they end, and their bytes. Assumes nothing.
-use mathlib.Core.Path.{_≡_, refl, ap}
+use mathlib.Core.Path.{_≡_, refl}
 use mathlib.Core.Bool.{Bool, true, false}
 use mathlib.Core.List.{List}
 use Prim.Native.Nat.{ℕ, zero, suc, _+_, _-_, _≤_}
@@ -12,11 +12,6 @@ use Rattle.wire.proofs.Parts.{length-slice}
 use Rattle.journal.specs.Limits.{journalLength}
 use Rattle.journal.specs.State.{bytesIn}
 use Rattle.journal.specs.Journal.{sizeAt, orderAt, ordersFrom, endFrom, withinFrom}
-
-pub length-orders : (n p : ℕ) (j : List ℕ) → length (ordersFrom n p j) ≡ n
-unfolding ordersFrom
-length-orders zero p j = refl
-length-orders (suc n) p j = ap suc (length-orders n (p + sizeAt j p) j)
 
 -- a test that must fail, and what follows it
 pub fails-left : (t b : Bool) → pick t false b ≡ true → t ≡ false

@@ -5,11 +5,11 @@ use mathlib.Core.List.{List, [], _∷_, _++_, map, append-assoc, append-nil}
 use Prim.Native.Nat.{ℕ, zero, suc, _+_, _*_, _-_, _≤_, _<_}
 use native.Mathlib.Omega.{arith}
 use lib.ListN.{length, getD, take, drop, length-append, length-drop, length-map, take-append-drop, drop-of-length-le}
-use lib.Seq.{drop-at, take-append-seam, drop-append-seam, drop-drop, take-add, getD-drop}
+use lib.Seq.{drop-at, take-append-seam, drop-append-seam, drop-drop, take-add}
 use borrow.Author.Tests.{le-ltb, eq-eqb}
 use Rattle.wire.specs.Numbers.{numAt, bytesOf, numsAt, putAll, total}
 use Rattle.wire.specs.Parts.{slice}
-use Rattle.wire.proofs.Numbers.{Bytes, length-bytes, length-put, nums-put, put-nums, fit2, fit4, fit0, all-fit}
+use Rattle.wire.proofs.Numbers.{Bytes, length-bytes, length-put, nums-put, put-nums, fit2, fit4, fit0, all-fit, bytes-drop}
 use Rattle.wire.proofs.Parts.{length-slice, slice-cut}
 use Rattle.journal.specs.State.{bytesIn}
 use Rattle.record.specs.declared.Entry.{Entry}
@@ -162,9 +162,6 @@ written-back os m = record { number = number-back os m; bodies = bodies-back os 
 pub granted-bodies : (r : List ℕ) → recordNumber r ≡ 0 → bodiesOf r ≡ partsOf r
 unfolding bodiesOf
 granted-bodies r e = rw e
-
-bytes-drop : (n : ℕ) (s : List ℕ) → Bytes s → Bytes (drop n s)
-bytes-drop n s b = record { small = λ i. rw (getD-drop n s i 0) (b .small (n + i)) }
 
 length-part : (r : List ℕ) (e : Entry) → e .offset + e .size ≤ length r → length (partOf r e) ≡ e .size
 length-part r e h = ap length (part-within r e h) ∙ length-slice r (e .offset) (e .size) h

@@ -14,12 +14,13 @@ use Rattle.wire.proofs.Numbers.{length-bytes}
 use Rattle.wire.proofs.Parts.{length-slice, length-splice, splice-nil, splice-after}
 use Rattle.journal.specs.Limits.{journalLength}
 use Rattle.journal.specs.Journal.{sizeAt, orderAt, ordersFrom, endFrom, withinFrom}
-use Rattle.record.proofs.Orders.{length-orders, within-first, within-rest, end-past, bytes-orders}
+use Rattle.record.proofs.Orders.{within-first, within-rest, end-past, bytes-orders}
 use Rattle.record.specs.declared.Entry.{Entry}
 use Rattle.record.specs.Layout.{entry, headOf, layoutFrom, tableOf, joined, recordOf}
 use Rattle.record.specs.Writing.{Within, fitsIn, outAfter}
 use Rattle.record.proofs.Entries.{length-table}
 use Rattle.record.proofs.RoundTrip.{length-layout, length-record}
+use Rattle.journal.proofs.Logged.{length-orders}
 
 -- ---- the table of contents, entry by entry
 

@@ -13,7 +13,7 @@ use lib.Seq.{drop-cons}
 use borrow.Author.Tests.{le-leb, lt-leb, leb-true, leb-false, ne-eqb, eq-eqb, eqb-true, eqb-false, lt-ltb, le-ltb, ltb-false}
 use Rattle.wire.specs.Tests.{pick, both, either, anyAfter, hasAll}
 use Rattle.wire.specs.Numbers.{numAt}
-use Rattle.wire.proofs.Tests.{every-at}
+use Rattle.wire.proofs.Tests.{every-at, T-left, T-right}
 use Rattle.rows.specs.declared.Row.{Row}
 use Rattle.rows.specs.declared.Fit.{Fit}
 use Rattle.rows.specs.declared.Fit.the-variants.{Ends, Short}
@@ -182,14 +182,6 @@ good-test : Row → Bool
 good-test r =
     both (both (leb (r .size) 8) (leb (r .unit) 8))
     (both (leb 1 (r .piece)) (both (either (not (eqb (r .rule) 0)) (eqb (r .unit) 0)) (either (eqb (r .rule) 0) (either (eqb (r .head) 1) (eqb (r .head) 2)))))
-
-T-left : (a b : Bool) → T (both a b) → T a
-T-left true b t = tt
-T-left false b t = t
-
-T-right : (a b : Bool) → T (both a b) → T b
-T-right true b t = t
-T-right false b t = absurd t
 
 good-row : (r : Row) → T (good-test r) → Good r
 unfolding good-test

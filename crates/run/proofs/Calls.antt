@@ -30,11 +30,11 @@ use Rattle.session.specs.Packed.{packedOf}
 use Rattle.update.specs.declared.Report.{Report}
 use Rattle.update.specs.Outcome.{UpdateOutcome}
 use Rattle.update.specs.Packed.{standingHalf, grantedHalf}
-use Rattle.update.proofs.Cuts.{either-false}
 use Rattle.model.specs.Updates.{Step, update, responds, reports}
 use Rattle.model.specs.Claim.{none, more, moreAtOnce}
 use Rattle.run.specs.Script.{holderAt, holderSize, targetOf, changeOf, recordKind, callOf, oneCall, limitSize, stepOf, blockLength}
 use Rattle.run.specs.Steps.{Takes, TakesOne, Done, Journaled, Handed}
+use Rattle.wire.proofs.Tests.{neither}
 
 -- ---- numbers of 8 bytes
 
@@ -165,7 +165,7 @@ module _ (kind : ℕ) where
 
   pub hands : either (ltb kind 4) (eqb kind 8) ≡ false → Handed kind
   hands e =
-      let x = either-false (ltb kind 4) (eqb kind 8) e in
+      let x = neither (ltb kind 4) (eqb kind 8) e in
       record { late = ltb-false kind 4 (x .0); noUpdate = eqb-false kind 8 (x .1) }
 
 -- ---- the bytes of a block go by the kind

@@ -31,6 +31,7 @@ use Rattle.session.specs.Calls.{deliver, nothing, refuse, grant, overFul
 use Rattle.session.specs.Outcome.{plain, replied, replyOf, CallOutcome}
 use Rattle.session.specs.Delivery.{Ready, isFull, numberOn, appended, oneMore, DeliveredOn}
 use Rattle.session.proofs.Outcomes.{stateIn, answer-in, next-in, refused-in, granted}
+use Rattle.wire.proofs.Tests.{neither}
 
 -- ---- the ways through the code
 
@@ -66,14 +67,9 @@ stepped-is full x (Refuse n) = same full ∙ sym (same (eqb (stepNumber full (Re
     same true = refl
     same false = refl
 
--- what room there is
-either-false : (a b : Bool) → either a b ≡ false → (a ≡ false) × (b ≡ false)
-either-false false b e = (refl, e)
-either-false true b e = let z : _≡_ {A = ℕ} 0 1 = cc in absurd (omega arith)
-
 room-has : (w : JournalExtent) (s : List ℕ) → logStart ≤ w .end → isFull w s ≡ false → (w .count + 1 ≤ mostOrders) × (w .end + length s ≤ journalLength)
 room-has w s low h =
-    let x = either-false (ltb mostOrders (w .count + 1)) (ltb mostBytes (w .end - logStart + length s)) h in
+    let x = neither (ltb mostOrders (w .count + 1)) (ltb mostBytes (w .end - logStart + length s)) h in
     let a = ltb-false mostOrders (w .count + 1) (x .0) in
     let b = ltb-false mostBytes (w .end - logStart + length s) (x .1) in
     (omega arith, omega arith)

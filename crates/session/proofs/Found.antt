@@ -11,7 +11,7 @@ use borrow.Author.Tests.{ltb-false, eq-eqb}
 use Rattle.wire.specs.Tests.{pick, both}
 use Rattle.wire.specs.Numbers.{numAt, Bytes}
 use Rattle.wire.specs.Parts.{splice}
-use Rattle.wire.proofs.Tests.{both-right}
+use Rattle.wire.proofs.Tests.{both-right, clash}
 use Rattle.wire.proofs.Parts.{length-slice}
 use Rattle.rows.specs.declared.Row.{Row}
 use Rattle.places.specs.declared.Family.the-variants as family
@@ -53,9 +53,6 @@ use Rattle.session.specs.Handing.{refusalOf, picturesFor, bytesHeld, val
 use Rattle.session.proofs.Targets.{shares-by}
 use Rattle.session.proofs.Handed.{cell-some}
 use Rattle.session.proofs.Outcomes.{answer-in, next-in, refused-in, reply-in, stays}
-
-clash : {A : Type 0} → _≡_ {A = Bool} true false → A
-clash e = let z : _≡_ {A = ℕ} 0 1 = cc in absurd (omega arith)
 
 abbrev pointer : List ℕ → ℕ → ℕ
 pointer x c = pointerAt x (numberOf (slotOf x) (cell c))

@@ -13,7 +13,7 @@ use borrow.Author.Tests.{lt-ltb, ltb-true, not-true}
 use Rattle.wire.specs.Tests.{pick}
 use Rattle.wire.specs.Numbers.{bytesOf}
 use Rattle.wire.specs.Parts.{slice, splice}
-use Rattle.wire.proofs.Tests.{both-left}
+use Rattle.wire.proofs.Tests.{both-left, never}
 use Rattle.wire.proofs.Parts.{length-slice, length-splice, length-padded, take-splice, drop-splice-at, splice-after}
 use Rattle.rows.specs.declared.Row.{Row}
 use Rattle.protocol.specs.declared.WindowId.{WindowId}
@@ -48,9 +48,6 @@ use Rattle.session.specs.Outcome.{windowBytes, listedBytes, payloadBytes
 use Rattle.session.specs.Targets.{wantOf, listedIn, payloadHeld}
 use Rattle.session.specs.Handing.{markedPicture, recordsHeld, bytesHeld, validHeld, ReadyFor, HandsOut}
 use Rattle.session.proofs.Targets.{slot-below, shares-by, no-pointer}
-
-no : {A : Type 0} → _≡_ {A = Bool} false true → A
-no e = let z : _≡_ {A = ℕ} 0 1 = cc in absurd (omega arith)
 
 -- ---- a record and its pictures
 
@@ -220,7 +217,7 @@ unfolding indexOf numberOf
 icon-in x f a b w e l is = omega (arith, is, go (slotOf x f a b) refl e)
   where
     go : (r : Found) → slotOf x f a b ≡ r → onFound r false (λ i. true) ≡ true → onFound r holderCount (λ i. pick (ltb w 3) (iconNumber i w) holderCount) < holderCount
-    go Nothing s e = no e
+    go Nothing s e = never e
     go (At i) s e = let h = slot-below x f a b i s in rw (lt-ltb w 3 l) (omega arith)
 
 -- the second icon of a record follows its first
@@ -230,7 +227,7 @@ icon-next x f a b e is = ap (λ (k : ℕ). k + 1) is ∙ go (slotOf x f a b) e
   where
     go : (r : Found) → onFound r false (λ i. true) ≡ true
         → onFound r holderCount (λ i. pick (ltb 0 3) (iconNumber i 0) holderCount) + 1 ≡ onFound r holderCount (λ i. pick (ltb 1 3) (iconNumber i 1) holderCount)
-    go Nothing e = no e
+    go Nothing e = never e
     go (At i) e = omega arith
 
 -- and its third that
@@ -240,7 +237,7 @@ icon-third x f a b e is = ap (λ (k : ℕ). k + 2) is ∙ go (slotOf x f a b) e
   where
     go : (r : Found) → onFound r false (λ i. true) ≡ true
         → onFound r holderCount (λ i. pick (ltb 0 3) (iconNumber i 0) holderCount) + 2 ≡ onFound r holderCount (λ i. pick (ltb 2 3) (iconNumber i 2) holderCount)
-    go Nothing e = no e
+    go Nothing e = never e
     go (At i) e = omega arith
 
 module _ (x : List ℕ) (c : ℕ) (listed : indexOf x .sharing .shares (cell c) (cell c) ≡ true) where
@@ -259,7 +256,7 @@ module _ (x : List ℕ) (c : ℕ) (listed : indexOf x .sharing .shares (cell c) 
       go false e =
           let n : numberOf (slotOf x) (cell c) ≡ holderCount = rw e in
           let z : 0 ≡ pointer = no-pointer x holderCount (omega arith) ∙ ap (pointerAt x) (sym n) in
-          no (sym points ∙ ap (λ (k : ℕ). eqb k 0) (sym z))
+          never (sym points ∙ ap (λ (k : ℕ). eqb k 0) (sym z))
 
   cell-is : numberOf (slotOf x) (cell c) ≡ c
   unfolding numberOf

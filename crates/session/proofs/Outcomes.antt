@@ -11,11 +11,12 @@ use Rattle.table.proofs.Past.{same-store}
 use Rattle.journal.specs.declared.JournalExtent.{JournalExtent}
 use Rattle.journal.specs.Limits.{logStart}
 use Rattle.journal.specs.State.{State}
-use Rattle.journal.specs.View.{Memory, Past, tooShort, wellFormed, meetsRule, short, unformed, formed, viewOf}
+use Rattle.journal.specs.View.{Memory, Past, tooShort, wellFormed, meetsRule, unformed, formed, viewOf}
 use Rattle.journal.proofs.Logged.{Logged, markedIn, logged-view, logged-bytes}
 use Rattle.session.specs.declared.Reply.{Reply}
 use Rattle.session.specs.Calls.{Call, reset, deliver, checkpoint, undo, look, writeRecord, Payload, nothing, Answer, refuse, grant, isReset, answer, next, answerView, nextView}
 use Rattle.session.specs.Outcome.{Request, plain, Response, replied, handed, sizeFor, bytesFor, replyOf, answerWithin, outAfter, responseOf, CallOutcome}
+use Rattle.wire.proofs.Tests.{clash}
 
 -- ---- a call that leaves the memory as it is
 
@@ -37,13 +38,10 @@ pub refused-short : (q : Request) (m : Memory) {r : Reply} → tooShort m ≡ tr
 unfolding viewOf answerView nextView
 refused-short q m t e = refused q m 1 (λ z. omega (arith, z)) (rw t) (rw t) e
 
-no : {A : Type 0} → _≡_ {A = Bool} true false → A
-no e = let z : _≡_ {A = ℕ} 0 1 = cc in absurd (omega arith)
-
 -- memory that is not well formed stays so under any call but emptying
 unformed-stays : (c : Call) → isReset c ≡ false → nextView c unformed ≡ unformed
 unfolding nextView
-unformed-stays (reset n) e = no e
+unformed-stays (reset n) e = clash e
 unformed-stays (deliver o) e = refl
 unformed-stays checkpoint e = refl
 unformed-stays (undo k) e = refl
@@ -62,7 +60,7 @@ refused-unmet q m {r = r} c u e = go (tooShort m) (wellFormed m) refl refl
     go false false x y =
         let v = unformed-is x y in
         refused q m 1 (λ z. omega (arith, z)) (unfold answerView in rw (v, c)) (rw v (unformed-stays (q .call) c)) e
-    go false true x y = no (sym (rw (x, y)) ∙ u)
+    go false true x y = clash (sym (rw (x, y)) ∙ u)
 
 -- ---- on a memory that meets the rule
 

@@ -78,7 +78,7 @@ module _ (bodies : List ℕ) (store : List (List ℕ)) (journal origins : List �
 
 -- ---- of a holder
 
-length-picture : (p : List ℕ) → length (pictureBytes p) ≡ pictureSize
+pub length-picture : (p : List ℕ) → length (pictureBytes p) ≡ pictureSize
 unfolding pictureBytes
 length-picture p = length-padded {A = ℕ} 0 pictureSize p
 

@@ -7,9 +7,7 @@ use native.Mathlib.Omega.{arith}
 use lib.Dec.{eqb, leb}
 use borrow.Author.Tests.{eqb-true, lt-leb}
 use Rattle.wire.specs.Tests.{pick, both}
-
-pub never : {A : Type 0} → _≡_ {A = Bool} false true → A
-never e = let z : _≡_ {A = ℕ} 0 1 = cc in absurd (omega arith)
+use Rattle.wire.proofs.Tests.{never}
 
 -- a refused order changes nothing
 abbrev pub step : {T O : Type 0} (number : T → O → ℕ) (change : T → O → T) → T → O → T

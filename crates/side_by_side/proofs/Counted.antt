@@ -20,7 +20,7 @@ use Rattle.places.specs.declared.Found.the-variants.{At, Nothing}
 use Rattle.places.specs.Counts.{countBelow, firstFrom, onFound}
 use Rattle.places.proofs.Counting.{found, none-passes}
 use Rattle.places.proofs.Pointers.{eqb-sym}
-use Rattle.slots.specs.Slots.{firstId, secondId, isUsed, isAt, slotOf}
+use Rattle.slots.specs.Slots.{firstId, secondId, isUsed, isAt}
 use Rattle.slots.proofs.Soundness.{Within, at-is, at-free, used-has, slot-own, Sound, sound-has, one-slot}
 use Rattle.index.specs.Orders.{onJudged, isNew, isDelete}
 use Rattle.index.specs.Index.{Index, notThere, noRoom, noPicture, noPlace, recordNumber, numberIn, changeRecord, changeDesktop, indexAfter}
@@ -39,8 +39,8 @@ use Rattle.journal.proofs.Logged.{markedIn, formed-logged, logged-view}
 use Rattle.model.specs.Wellformed.{OnlyMeets}
 use Rattle.model.proofs.Wellformed.{only-meets}
 use Rattle.side_by_side.specs.SideBySide.{Fair, Counts, DescribedCounts}
-use Rattle.side_by_side.proofs.Commute.{never}
 use Rattle.side_by_side.proofs.Fairness.{order-fair, memory-fair}
+use Rattle.wire.proofs.Tests.{never, not-not}
 
 -- ---- n numbers have the mark f
 
@@ -103,10 +103,6 @@ not-nine : (t : Bool) (n : ℕ) → pick t 9 n ≡ 0 → t ≡ false
 not-nine false n e = refl
 not-nine true n e = absurd (omega (arith, e))
 
-listed-old : (t : Bool) → not t ≡ false → t ≡ true
-listed-old true e = refl
-listed-old false e = never (sym e)
-
 -- the window of an order, by either way of asking
 same-id : (x a : ℕ) (r l : Bool) → pick (both (eqb x a) true) r l ≡ pick (eqb a x) r l
 same-id x a r l = rw (eqb-sym x a) (go (eqb a x))
@@ -163,8 +159,8 @@ module _ (d : Index) (l : Lists d) (s : List ℕ) where
             → Lists (changeRecord d s (windowOrder o))
         go true f true h z = never (sym (old-if j h) ∙ f)
         go true f false h z = new-lists h f z
-        go false f true h z = deleted-lists h (listed-old listed z)
-        go false f false h z = old-lists h f (listed-old listed z)
+        go false f true h z = deleted-lists h (not-not listed z)
+        go false f false h z = old-lists h f (not-not listed z)
 
   icon-lists : (o : NotificationOrder) → Lists (changeRecord d s (notificationOrder o))
   unfolding changeRecord

@@ -7,13 +7,13 @@ use native.Mathlib.Omega.{arith}
 use lib.Dec.{eqb}
 use borrow.Author.Tests.{ne-eqb, not-true}
 use Rattle.wire.specs.Tests.{pick, both, either}
-use Rattle.wire.proofs.Tests.{both-left, both-right}
+use Rattle.wire.proofs.Tests.{both-left, both-right, never}
 use Rattle.places.specs.declared.Family.the-variants as family
 use Rattle.places.specs.Counts.{one}
 use Rattle.places.specs.Sharing.{Sharing, drop, dropAll}
 use Rattle.places.specs.Holder.{Holder, icon, sameHolder, iconsOf}
 use Rattle.side_by_side.specs.SideBySide.{Fair}
-use Rattle.side_by_side.proofs.Commute.{never, none-swap}
+use Rattle.side_by_side.proofs.Commute.{none-swap}
 
 -- ---- choices
 

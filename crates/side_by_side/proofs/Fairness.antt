@@ -2,12 +2,12 @@
 use Prim.Native.Nat.{ℕ, _+_}
 use mathlib.Core.Path.{_≡_, refl, sym, ap, ap₂, _∙_}
 use mathlib.Core.Bool.{Bool, true, false, not}
-use mathlib.Core.List.{List, [], _∷_}
+use mathlib.Core.List.{List}
 use lib.Dec.{eqb}
 use lib.ListN.{length}
 use borrow.Author.Tests.{eqb-true}
 use Rattle.wire.specs.Tests.{pick, both, either, has}
-use Rattle.wire.proofs.Tests.{both-left, both-right}
+use Rattle.wire.proofs.Tests.{both-left, both-right, never}
 use Rattle.order.specs.declared.Judged.{Judged}
 use Rattle.order.specs.declared.Judged.the-variants.{Window, Notification, Desktop, Refused}
 use Rattle.order.specs.Judge.{judgeOf}
@@ -16,7 +16,7 @@ use Rattle.places.specs.Counts.{one}
 use Rattle.places.specs.Sharing.{Sharing, isOne, drop, dropAll, via, join, fresh, full, taken, cellsOnly}
 use Rattle.places.specs.Memory.{placesOf, pointerAt, countAt, sharesOf, sharingOf, decode}
 use Rattle.places.specs.Keyed.{keyed}
-use Rattle.places.specs.Holder.{Holder, cell, sameHolder, isCellHolder, iconsOf, numberOf}
+use Rattle.places.specs.Holder.{cell, sameHolder, isCellHolder, iconsOf, numberOf}
 use Rattle.places.proofs.Pointers.{eqb-sym}
 use Rattle.slots.specs.Slots.{slotOf}
 use Rattle.index.specs.declared.RecordOrder.{RecordOrder}
@@ -25,7 +25,6 @@ use Rattle.index.specs.Index.{Index, numberIn, pictured, changeRecord, changeDe
 use Rattle.index.specs.Memory.{indexOf}
 use Rattle.index.proofs.Ordered.{windowOrder, notificationOrder}
 use Rattle.side_by_side.specs.SideBySide.{Fair}
-use Rattle.side_by_side.proofs.Commute.{never}
 use Rattle.side_by_side.proofs.Drops.{fair-drop, fair-drops}
 
 -- ---- pointers, by numbers or by ids

@@ -4,12 +4,12 @@ use Prim.Native.Nat.{ℕ, _+_, _≤_}
 use mathlib.Core.Path.{_≡_, refl, sym, ap, _∙_}
 use mathlib.Core.Bool.{Bool, true, false, not}
 use mathlib.Core.List.{List, []}
-use mathlib.Core.Option.{Option, none}
+use mathlib.Core.Option.{none}
 use native.Mathlib.Omega.{arith}
 use lib.Dec.{eqb, leb}
 use borrow.Author.Tests.{eqb-true, ne-eqb, not-true}
 use Rattle.wire.specs.Tests.{pick, both, either, has}
-use Rattle.wire.proofs.Tests.{both-left, both-right}
+use Rattle.wire.proofs.Tests.{both-left, both-right, never}
 use Rattle.order.specs.declared.WindowOrder.{WindowOrder}
 use Rattle.order.specs.declared.Judged.{Judged}
 use Rattle.order.specs.declared.Judged.the-variants.{Window, Notification, Desktop, Refused}
@@ -17,7 +17,7 @@ use Rattle.order.specs.Judge.{flagsOf, judgeOf}
 use Rattle.order.proofs.Accepted.{a-window}
 use Rattle.places.specs.declared.Family.{Family}
 use Rattle.places.specs.declared.Family.the-variants.{Windows, Notifications}
-use Rattle.places.specs.Sharing.{Sharing, isOne, dropAll}
+use Rattle.places.specs.Sharing.{isOne, dropAll}
 use Rattle.places.specs.Holder.{Holder, icon, sameHolder, iconsOf}
 use Rattle.slots.specs.Families.{capacity, sameRecord}
 use Rattle.index.specs.Orders.{onJudged, isNew, isDelete, bringsIcon, bringsCached, clearsOverlay, whichOf}
@@ -29,7 +29,7 @@ use Rattle.table.specs.Table.{Table, number, recordFields, fieldsAfter, shownAf
 use Rattle.table.proofs.Joined.{same-table}
 use Rattle.protocol.specs.Flags.{flagIcon, flagCachedIcon}
 use Rattle.side_by_side.specs.SideBySide.{edits, PlacesCount, Counts}
-use Rattle.side_by_side.proofs.Commute.{never, Apart, first-number, second-number, same-end, keyed-number, edit, edit-other, edits-commute, none-swap, countBy, count-next, counts-commute}
+use Rattle.side_by_side.proofs.Commute.{Apart, first-number, second-number, same-end, keyed-number, edit, edit-other, edits-commute, none-swap, countBy, count-next, counts-commute}
 use Rattle.side_by_side.proofs.Drops.{goneOf, gone-apart, all-commute}
 
 -- ---- fact 1: the number of a window order without icon and cell depends on whether its window is listed and on the count alone

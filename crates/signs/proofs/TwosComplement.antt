@@ -3,17 +3,16 @@ use mathlib.Core.Path.{_≡_, refl, sym, ap, _∙_}
 use mathlib.Core.Bool.{Bool, true, false}
 use mathlib.Core.List.{List, [], _∷_, _++_, append-nil}
 use Prim.Native.Nat.{ℕ, zero, suc, _+_, _-_, _*_, _/_, _^_, _≤_, _<_}
-use native.Mathlib.Nat.{pow-succ', add-zero}
+use native.Mathlib.Nat.{pow-succ'}
 use native.Mathlib.Omega.{arith}
-use lib.IntN.{ℤ, pos, negsuc, subℕ}
+use lib.IntN.{ℤ, pos, negsuc}
 use lib.Signed.{mag}
-use lib.ListN.{length, getD, take}
+use lib.ListN.{getD}
 use lib.Dec.{ltb}
 use borrow.Author.Tests.{lt-ltb, le-ltb, ltb-true, ltb-false, eq-eqb}
-use Rattle.wire.specs.Tests.{pick}
-use Rattle.wire.specs.Numbers.{numAt, bytesOf, numsAt, putAll, total, fitsIn, allFit, Bytes}
-use Rattle.wire.proofs.Numbers.{nums-put, put-nums}
-use Rattle.signs.specs.TwosComplement.{signed, unsigned, holds, signedAt, signedBytes, Determined}
+use Rattle.wire.specs.Numbers.{numAt, bytesOf, numsAt, putAll, fitsIn, allFit, Bytes}
+use Rattle.wire.proofs.Numbers.{nums-put, bytes-num}
+use Rattle.signs.specs.TwosComplement.{signed, unsigned, holds, Determined}
 
 -- ---- the two halves
 
@@ -78,18 +77,13 @@ one-read w n t h =
     ap (λ (b : List ℕ). numAt w (b ++ t) 0) (sym (append-nil (bytesOf w n)))
     ∙ ap (λ (ns : List ℕ). getD ns 0 0) (nums-put (w ∷ []) (n ∷ []) t (rw (fits-under w n h)))
 
-one-back : (w : ℕ) (s : List ℕ) → Bytes s → w ≤ length s → bytesOf w (numAt w s 0) ≡ take w s
-unfolding numsAt putAll total
-one-back w s ok h =
-    sym (append-nil (bytesOf w (numAt w s 0))) ∙ put-nums (w ∷ []) s ok (omega arith) ∙ ap (λ (k : ℕ). take k s) (add-zero w)
-
 -- the one law over the width
 pub determined : (w : ℕ) → Determined (suc w)
 determined w =
     record {
       number-back = number-back (suc w);
       value-back = value-back w;
-      bytes-back = λ s ok h. ap (bytesOf (suc w)) (number-back (suc w) (numAt (suc w) s 0) (num-under (suc w) s 0 ok)) ∙ one-back (suc w) s ok h;
+      bytes-back = λ s ok h. ap (bytesOf (suc w)) (number-back (suc w) (numAt (suc w) s 0) (num-under (suc w) s 0 ok)) ∙ bytes-num (suc w) s ok h;
       value-read = λ z t h. ap (signed (suc w)) (one-read (suc w) (unsigned (suc w) z) t (unsigned-small (suc w) z h)) ∙ value-back w z h;
     }
 

@@ -11,7 +11,7 @@ use lib.ListN.{length}
 use borrow.Author.Tests.{eqb-true, eq-eqb, leb-true, le-leb}
 use Rattle.wire.specs.Tests.{both, either}
 use Rattle.wire.specs.Numbers.{numAt}
-use Rattle.wire.proofs.Tests.{both-left, both-right}
+use Rattle.wire.proofs.Tests.{both-left, both-right, never}
 use Rattle.rows.specs.declared.Row.{Row}
 use Rattle.rows.specs.declared.Fit.{Fit}
 use Rattle.rows.specs.declared.Fit.the-variants.{Ends, Short}
@@ -27,9 +27,6 @@ use Rattle.order.specs.Judge.{numberOf, flagsOf, kindRows, fieldsFit, orderOf, 
 use Rattle.order.proofs.Accepted.{Accepted, accepted}
 use Rattle.order.proofs.Verdicts.{end-good, rows-end, fit-ended, flags-good, framed}
 use Rattle.single.specs.Single.{deleteFlags, cachedFlags, cachedBigFlags, iconFlags, iconBigFlags, listFlags, windowOf, BringsCached, BringsIcon, framedTo, goodWith}
-
-pub never : {A : Type 0} → false ≡ true → A
-never e = let z : _≡_ {A = ℕ} 0 1 = cc in absurd (omega arith)
 
 -- what fits ends at n, with nothing at fault
 good-end : (n : ℕ) (f : Fit) → endsGood n f ≡ true → Ends n 0 ≡ f

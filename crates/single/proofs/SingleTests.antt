@@ -10,7 +10,7 @@ use lib.ListN.{length}
 use borrow.Author.Tests.{eqb-true, eqb-false, eq-eqb, not-true, not-false}
 use Rattle.wire.specs.Tests.{pick, both, either}
 use Rattle.wire.specs.Numbers.{numAt}
-use Rattle.wire.proofs.Tests.{both-left, both-right}
+use Rattle.wire.proofs.Tests.{both-left, both-right, never, same-test, both-true}
 use Rattle.protocol.specs.Flags.{flagCachedIcon, flagIcon}
 use Rattle.order.specs.declared.Judged.the-variants.{Window, Notification, Desktop}
 use Rattle.order.specs.Flags.{isWindow, isNotification}
@@ -18,22 +18,12 @@ use Rattle.order.specs.Icons.{pictureFit, iconWhole, cachedWhole, pictureWhole}
 use Rattle.order.specs.Judge.{numberOf, orderOf}
 use Rattle.order.proofs.Pictures.{picture-none, cached-over}
 use Rattle.single.specs.Single.{deleteFlags, cachedFlags, cachedBigFlags, iconFlags, iconBigFlags, framedTo, goodWith}
-use Rattle.single.proofs.SingleJudged.{never, frame-says, fieldsEnd, fieldFlags, Passing, judged-whole, good, id-alone}
+use Rattle.single.proofs.SingleJudged.{frame-says, fieldsEnd, fieldFlags, Passing, judged-whole, good, id-alone}
 
 -- ---- booleans
 
-same : (a b : Bool) → (a ≡ true → b ≡ true) → (b ≡ true → a ≡ true) → a ≡ b
-same true true f g = refl
-same true false f g = sym (f refl)
-same false true f g = g refl
-same false false f g = refl
-
-and-true : (t : Bool) → both t true ≡ t
-and-true true = refl
-and-true false = refl
-
 not-so : {b : Bool} → (b ≡ true → ⊥) → false ≡ b
-not-so {b} n = same false b never (λ e. absurd (n e))
+not-so {b} n = same-test false b never (λ e. absurd (n e))
 
 -- ---- the first test
 
@@ -75,7 +65,7 @@ module _ (flags : ℕ) (s : List ℕ) where
     pub tests-are : {w : ℕ} {x : Bool} → Passing flags → t ≡ framedTo s p → (t ≡ true → length s ≤ 65535)
         → w ≡ numAt 4 s 3 → x ≡ pictureWhole flags s p → both (both t (eqb w flags)) x ≡ goodWith flags s
     unfolding goodWith
-    tests-are {w} {x} passing frame small word whole = same (both (both t (eqb w flags)) x) (goodWith flags s) there back
+    tests-are {w} {x} passing frame small word whole = same-test (both (both t (eqb w flags)) x) (goodWith flags s) there back
       where
         there : both (both t (eqb w flags)) x ≡ true → goodWith flags s ≡ true
         there e =
@@ -99,7 +89,7 @@ module _ (flags : ℕ) (s : List ℕ) where
   module _ (none : bitAnd flags flagIcon ≡ 0) (nor : bitAnd flags flagCachedIcon ≡ 0) where
     no-picture : (at : ℕ) → pictureWhole flags s at ≡ eqb at (length s)
     unfolding pictureWhole
-    no-picture at = rw (← picture-none s at 0 flags none nor) (and-true (eqb at (length s)))
+    no-picture at = rw (← picture-none s at 0 flags none nor) (both-true (eqb at (length s)))
 
     module _ {p : ℕ} (end : p ≡ fieldsEnd flags s) where
       pub other-end : (p ≡ length s → ⊥) → false ≡ goodWith flags s
@@ -109,11 +99,11 @@ module _ (flags : ℕ) (s : List ℕ) where
           → t ≡ framedTo s p → (t ≡ true → length s ≤ 65535) → w ≡ numAt 4 s 3 → both t (eqb w flags) ≡ goodWith flags s
       ended {t} {w} passing q frame small word =
           let whole : true ≡ pictureWhole flags s p = sym (no-picture p ∙ eq-eqb p (length s) q) in
-          sym (and-true (both t (eqb w flags))) ∙ tests-are end passing frame small word whole
+          sym (both-true (both t (eqb w flags))) ∙ tests-are end passing frame small word whole
 
       pub ended-with : {t : Bool} {w : ℕ} → Passing flags → p ≡ length s → t ≡ framedTo s p → (t ≡ true → length s ≤ 65535) → w ≡ numAt 4 s 3 → w ≡ flags → t ≡ goodWith flags s
       ended-with {t} {w} passing q frame small word is =
-          let e : both t (eqb w flags) ≡ t = rw (eq-eqb w flags is) (and-true t) in
+          let e : both t (eqb w flags) ≡ t = rw (eq-eqb w flags is) (both-true t) in
           sym e ∙ ended passing q frame small word
 
 -- ---- a picture of a window, small or big, after the id

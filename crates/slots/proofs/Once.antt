@@ -9,18 +9,17 @@ use lib.ListN.{length, getD, set, take, drop, replicate, length-set, length-repl
 use lib.Seq.{getD-set-same, getD-set-other}
 use borrow.Author.Tests.{eqb-true, eqb-false, eq-eqb, ne-eqb, leb-true, leb-false, le-ltb, lt-ltb}
 use Rattle.wire.specs.Tests.{both}
-use Rattle.wire.proofs.Tests.{both-left}
+use Rattle.wire.proofs.Tests.{both-left, never}
 use Rattle.wire.specs.Numbers.{numAt}
 use Rattle.wire.specs.Parts.{slice}
 use Rattle.wire.proofs.Numbers.{num1-is, num-slice, num-zeros}
 use Rattle.places.specs.declared.Found.{Found}
 use Rattle.places.specs.declared.Found.the-variants.{At, Nothing}
 use Rattle.places.specs.Counts.{firstFrom, onFound}
-use Rattle.places.proofs.Counting.{found, none-passes}
+use Rattle.places.proofs.Counting.{found, none-passes, found-first, first-is}
 use Rattle.slots.specs.Slots.{usedAt, firstId, secondId, isUsed, isAt}
 use Rattle.slots.specs.Sound.{noPointers, slotOk, markOf, Seen}
-use Rattle.slots.proofs.Searching.{first-is, found-first}
-use Rattle.slots.proofs.Soundness.{never, at-has, at-own, used-is, used-has, slot-used}
+use Rattle.slots.proofs.Soundness.{at-has, at-own, used-is, used-has, slot-used}
 
 pub mark-is : (a b : ℕ) → ((a * 0x61C88647 + b * 0x045D9F3B) / 16777216 % 256 ≡ markOf a b) × ((a * 0x61C88647 + b * 0x045D9F3B) / 16777216 % 256 < 256)
 unfolding markOf

@@ -32,34 +32,6 @@ first-parts (suc m) n i test =
     go true = refl
     go false = refl
 
--- one that passes, and before which none does, is found
-pub first-is : (n i : ℕ) (test : ℕ → Bool) (k : ℕ) → i ≤ k → k < i + n → test k ≡ true → ((j : ℕ) → i ≤ j → j < k → test j ≡ false) → firstFrom n i test ≡ At k
-unfolding firstFrom
-first-is zero i test k l u t f = absurd (omega arith)
-first-is (suc n) i test k l u t f = go (eqb i k) refl (λ a. first-is n (i + 1) test k a (omega arith) t (λ j x y. f j (omega arith) y))
-  where
-    go : (b : Bool) → eqb i k ≡ b → (i + 1 ≤ k → firstFrom n (i + 1) test ≡ At k) → pick (test i) (At i) (firstFrom n (i + 1) test) ≡ At k
-    go true x ih = let y : i ≡ k = eqb-true i k x in rw (y, t)
-    go false x ih =
-        let y : (i ≡ k → ⊥) = eqb-false i k x in
-        let a : i < k = omega (arith, y) in
-        let h : test i ≡ false = f i (omega arith) a in
-        rw (h, ih (omega arith))
-
--- before what is found, none passes
-pub found-first : (n i : ℕ) (test : ℕ → Bool) (k : ℕ) → firstFrom n i test ≡ At k → (j : ℕ) → i ≤ j → j < k → test j ≡ false
-unfolding firstFrom
-found-first zero i test k e j l u = let z : _≡_ {A = ℕ} 0 1 = cc in absurd (omega arith)
-found-first (suc n) i test k e j l u = go (test i) refl e (eqb i j) refl (λ x. found-first n (i + 1) test k x j)
-  where
-    go : (t : Bool) → test i ≡ t → pick t (At i) (firstFrom n (i + 1) test) ≡ At k → (b : Bool) → eqb i j ≡ b
-        → (firstFrom n (i + 1) test ≡ At k → i + 1 ≤ j → j < k → test j ≡ false) → test j ≡ false
-    go true t e b x ih = let y : i ≡ k = cc in absurd (omega arith)
-    go false t e true x ih = let y : i ≡ j = eqb-true i j x in rw (← y) t
-    go false t e false x ih =
-        let y : (i ≡ j → ⊥) = eqb-false i j x in
-        ih e (omega (arith, y)) u
-
 -- ---- a test that holds of each number in a range
 
 pub each-ok : (n i : ℕ) (test : ℕ → Bool) → eachFrom n i test ≡ true → (j : ℕ) → i ≤ j → j < i + n → test j ≡ true

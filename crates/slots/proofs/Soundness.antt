@@ -8,7 +8,7 @@ use lib.Dec.{eqb, ltb}
 use lib.ListN.{length}
 use borrow.Author.Tests.{eq-eqb, eqb-true, le-ltb, ltb-false}
 use Rattle.wire.specs.Tests.{pick, both}
-use Rattle.wire.proofs.Tests.{both-left, both-right}
+use Rattle.wire.proofs.Tests.{both-left, both-right, never}
 use Rattle.places.specs.declared.Family.{Family}
 use Rattle.places.specs.declared.Family.the-variants.{Windows, Notifications}
 use Rattle.places.specs.declared.Found.{Found}
@@ -17,14 +17,11 @@ use Rattle.places.specs.Counts.{firstFrom, onFound}
 use Rattle.places.specs.Memory.{pointerAt, valid}
 use Rattle.places.specs.Holder.{sameFamily}
 use Rattle.places.proofs.Counting.{found}
-use Rattle.places.proofs.Named.{Slots}
+use Rattle.places.proofs.Named.{Slots, family-same}
 use Rattle.slots.specs.Families.{start, capacity, highest}
 use Rattle.slots.specs.Slots.{usedAt, firstId, secondId, isUsed, isFree, isAt, slotOf, freeOf}
 use Rattle.slots.specs.Sound.{noPointers, slotOk, familyOk, soundIndex}
 use Rattle.slots.proofs.Searching.{each-ok, all-ok}
-
-pub never : {A : Type 0} → false ≡ true → A
-never e = let z : _≡_ {A = ℕ} 0 1 = cc in absurd (omega arith)
 
 -- ---- families
 
@@ -35,16 +32,6 @@ pub record Within (f : Family) (i : ℕ) : Type 0 where
 pub within-slots : (f : Family) (i : ℕ) → Within f i → i < 48
 within-slots Windows i w = omega (arith, w .high)
 within-slots Notifications i w = omega (arith, w .high)
-
-pub same-family : (g f : Family) → sameFamily g f ≡ true → g ≡ f
-same-family Windows Windows e = refl
-same-family Windows Notifications e = never e
-same-family Notifications Windows e = never e
-same-family Notifications Notifications e = refl
-
-pub family-same : (f : Family) → sameFamily f f ≡ true
-family-same Windows = refl
-family-same Notifications = refl
 
 -- a slot is of one family
 pub one-family : (f g : Family) (i : ℕ) → Within f i → Within g i → g ≡ f

@@ -5,20 +5,13 @@ use mathlib.Core.Bool.{Bool, true, false}
 use mathlib.Core.List.{List, [], _∷_, map}
 use native.Mathlib.Omega.{arith}
 use lib.Dec.{ltb}
-use lib.ListN.{length, take, drop}
-use lib.Seq.{drop-drop}
-use borrow.Author.Tests.{lt-ltb, le-ltb, ltb-true, ltb-false}
-use Rattle.wire.specs.Tests.{pick}
+use lib.ListN.{length, drop}
+use borrow.Author.Tests.{ltb-true, ltb-false}
 use Rattle.wire.specs.Parts.{slice, splice}
-use Rattle.wire.proofs.Parts.{length-splice, length-slice, slice-take, slice-splice, slice-splice-before, slice-splice-after, drop-splice}
+use Rattle.wire.proofs.Parts.{length-splice, length-slice, slice-splice, slice-splice-before, slice-splice-after, drop-splice, slice-slice}
 use Rattle.store.specs.Store.{placeLength, wholeIn, placesIn, placeAt, putAt}
-use Rattle.store.specs.Kept.{pastPlaces, Puts, PutsOne}
+use Rattle.store.specs.Kept.{pastPlaces, PutsOne}
 use Rattle.store.proofs.StoreParts.{place-here, place-after, put-here, put-after}
-
--- a part of a part
-pub slice-slice : (xs : List ℕ) (a m b n : ℕ) → b + n ≤ m → slice (slice xs a m) b n ≡ slice xs (a + b) n
-unfolding slice
-slice-slice xs a m b n h = slice-take (drop a xs) b n m h ∙ ap (take n) (drop-drop b a xs)
 
 -- ---- one part
 

@@ -2,7 +2,7 @@
 use mathlib.Core.Path.{_≡_, refl, sym, ap, _∙_}
 use mathlib.Core.Bool.{Bool, true, false}
 use mathlib.Core.List.{List, [], _∷_, _++_}
-use Prim.Native.Nat.{ℕ, _+_, _*_, _≤_, _<_}
+use Prim.Native.Nat.{ℕ, _+_, _≤_, _<_}
 use native.Mathlib.Omega.{arith}
 use lib.Dec.{ltb}
 use lib.ListN.{length, take, drop}
@@ -16,7 +16,7 @@ use Rattle.places.specs.Counts.{onFound}
 use Rattle.places.specs.Memory.{placesOf, shownOf, shown}
 use Rattle.places.proofs.Meaning.{found-free}
 use Rattle.slots.specs.Sound.{soundIndex}
-use Rattle.slots.proofs.Soundness.{within-slots, free-is, never, sound-has}
+use Rattle.slots.proofs.Soundness.{within-slots, free-is, sound-has}
 use Rattle.index.specs.declared.RecordOrder.{RecordOrder}
 use Rattle.index.specs.declared.Plan.{Plan}
 use Rattle.index.specs.declared.Plan.the-variants.{ChangeRecord, ChangeDesktop, Refuse}
@@ -49,6 +49,7 @@ use Rattle.table.proofs.Changed.{bodies-are, store-kept, pictures-are, 
 use Rattle.table.proofs.Joined.{same-table, joined, fields-after, desktop-kept, desktop-fields, desktop-is}
 use Rattle.table.proofs.Rule.{TableSound, table-has, table-is}
 use Rattle.table.proofs.Sounded.{record-sounded, desktop-sounded}
+use Rattle.wire.proofs.Tests.{never}
 
 module _ (x b s : List ℕ) (store : List (List ℕ)) (bytes : Bytes s) (sound : soundTable x b (placesIn store) ≡ true) where
   good : TableSound x b (placesIn store)

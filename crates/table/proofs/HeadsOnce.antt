@@ -10,7 +10,7 @@ use lib.Seq.{take-all}
 use borrow.Author.Tests.{eqb-true, eqb-false, eq-eqb, ne-eqb, ltb-true, ltb-false}
 use Rattle.wire.specs.Tests.{pick}
 use Rattle.wire.specs.Numbers.{numAt}
-use Rattle.wire.proofs.Tests.{both-left, both-right}
+use Rattle.wire.proofs.Tests.{both-left, both-right, same-test}
 use Rattle.places.specs.Counts.{countBelow, eachBelow}
 use Rattle.places.specs.Memory.{pointerAt, countAt}
 use Rattle.places.specs.Marks.{Marked}
@@ -52,11 +52,6 @@ module _ (ms b : List ℕ) (p n : ℕ) (big : 8 ≤ n) (e : unmarked (take n (dr
       go false v = lent-none ms (p + 1) n 4 (omega arith) (both-right (noneAt 0) (noneAt 4) e) (q + 1) (omega (arith, ltb-false q (p + 4) v)) (omega arith)
 
 -- ---- all of them
-
-same : (s t : Bool) → (s ≡ true → t ≡ true) → (t ≡ true → s ≡ true) → s ≡ t
-same true t f g = sym (f refl)
-same false true f g = g refl
-same false false f g = refl
 
 module _ (x b ms : List ℕ) (sound : soundIndex x ≡ true) (marked : Marked (pointerAt x) 156 ms) where
   -- a holder whose place has a good head
@@ -103,4 +98,4 @@ module _ (x b ms : List ℕ) (sound : soundIndex x ≡ true) (marked : Marked (p
   pub heads-once : {r : Bool} → r ≡ eachBelow 64 (markedOk ms b) → r ≡ eachBelow 156 (holderOk x b)
   heads-once e =
       e
-      ∙ same (eachBelow 64 (markedOk ms b)) (eachBelow 156 (holderOk x b)) (λ t. each-is 156 (holderOk x b) (holder-good t)) (λ t. each-is 64 (markedOk ms b) (place-good t))
+      ∙ same-test (eachBelow 64 (markedOk ms b)) (eachBelow 156 (holderOk x b)) (λ t. each-is 156 (holderOk x b) (holder-good t)) (λ t. each-is 64 (markedOk ms b) (place-good t))

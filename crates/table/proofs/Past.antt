@@ -27,7 +27,7 @@ use Rattle.index.proofs.Memory.{releases-slotted}
 use Rattle.index.proofs.Shared.{icons-holders}
 use Rattle.index.proofs.After.{plan-fits}
 use Rattle.table.specs.Outcome.{StoreKept, PastKept}
-use Rattle.table.proofs.Pointed.{two-holders}
+use Rattle.places.proofs.Meaning.{holders}
 
 pub same-past : (x b : List ℕ) → PastKept x b x b
 same-past x b = record { index = refl; bodies = refl }
@@ -89,7 +89,7 @@ pictured-past x c fits long = go (bringsIcon (c .flags)) (bringsCached (c .flags
     go : (t u n : Bool) → bringsIcon (c .flags) ≡ t
         → drop 589 (pick t (pointAll x (c .cell ∷ c .pointer ∷ []) (c .place + 1)) (pick u (pointTo x (c .pointer) (pointerAt x (c .cell))) (pick n (pointTo x (c .pointer) 0) x)))
         ≡ drop 589 x
-    go true u n e = points-past (c .cell ∷ c .pointer ∷ []) x (c .place + 1) (two-holders (c .cell) (c .pointer) (fits .icon e) (fits .pointer)) long
+    go true u n e = points-past (c .cell ∷ c .pointer ∷ []) x (c .place + 1) (holders (c .cell) (c .pointer) (fits .icon e) (fits .pointer)) long
     go false true n e = point-past x (c .pointer) (pointerAt x (c .cell)) (fits .pointer) long
     go false false true e = point-past x (c .pointer) 0 (fits .pointer) long
     go false false false e = refl

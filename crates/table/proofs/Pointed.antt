@@ -7,21 +7,20 @@ use native.Mathlib.Omega.{arith}
 use lib.Dec.{eqb, ltb}
 use lib.ListN.{length}
 use borrow.Author.Tests.{eqb-true, eq-eqb}
-use Rattle.wire.specs.Tests.{pick, both, either}
-use Rattle.wire.proofs.Tests.{both-left, both-right}
+use Rattle.wire.specs.Tests.{pick, both}
+use Rattle.wire.proofs.Tests.{both-left, both-right, never}
 use Rattle.places.specs.declared.Family.{Family}
-use Rattle.places.specs.declared.Family.the-variants.{Windows, Notifications}
 use Rattle.places.specs.declared.Found.the-variants.{At, Nothing}
 use Rattle.places.specs.Sharing.{isOne}
 use Rattle.places.specs.Memory.{pointerAt}
 use Rattle.places.specs.Holder.{sameFamily}
 use Rattle.places.specs.Changes.{pointAll, shareOf, releaseOf}
 use Rattle.places.proofs.Counting.{found}
-use Rattle.places.proofs.Meaning.{holder}
+use Rattle.places.proofs.Meaning.{holder, holders}
 use Rattle.places.proofs.Bytes.{Holders, pointer-point, pointAll-is, pointer-records}
-use Rattle.slots.specs.Families.{start, capacity, highest, sameRecord}
+use Rattle.slots.specs.Families.{start, capacity, sameRecord}
 use Rattle.slots.specs.Slots.{isUsed, isAt, slotOf}
-use Rattle.slots.proofs.Soundness.{never, Within, within-slots, family-same, same-family, apart, at-has, at-free, used-is, free-is, Sound}
+use Rattle.slots.proofs.Soundness.{Within, within-slots, apart, at-has, at-free, used-is, free-is, Sound}
 use Rattle.index.specs.declared.RecordOrder.{RecordOrder}
 use Rattle.index.specs.declared.Change.{Change}
 use Rattle.index.specs.Orders.{isNew, isDelete, bringsIcon, bringsCached, clearsOverlay}
@@ -31,18 +30,11 @@ use Rattle.index.proofs.Memory.{same-used, Listed, listed-is, Slotted, slotted-
 use Rattle.index.proofs.Listed.{slotted-find, find-listed, find-freed}
 use Rattle.index.proofs.Ordered.{Ordered, deleted-old}
 use Rattle.index.proofs.Shared.{icons-holders, removed-freed, removed-still}
-use Rattle.index.proofs.Numbered.{readied, Planned}
+use Rattle.index.proofs.Numbered.{readied, Planned, second-small}
 use Rattle.table.specs.Changes.{putsPicture}
+use Rattle.places.proofs.Named.{same-family}
 
 -- ---- the picture of a change moves pointers alone
-
-pub two-holders : (c p : ℕ) → c < 156 → p < 156 → Holders (c ∷ p ∷ [])
-two-holders c p l m h e = go (eqb h c) (eqb h p) refl refl e
-  where
-    go : (t u : Bool) → eqb h c ≡ t → eqb h p ≡ u → either t (either u false) ≡ true → h < 156
-    go true u x y e = let q = eqb-true h c x in omega arith
-    go false true x y e = let q = eqb-true h p y in omega arith
-    go false false x y e = never e
 
 pub pictured-slotted : (z : List ℕ) (c : Change) → Fits c → 589 ≤ length z → Slotted z (picturedOf z c)
 unfolding picturedOf
@@ -50,14 +42,14 @@ pictured-slotted z c fits long = go (bringsIcon (c .flags)) (bringsCached (c .fl
   where
     go : (t u n : Bool) → bringsIcon (c .flags) ≡ t
         → Slotted z (pick t (pointAll z (c .cell ∷ c .pointer ∷ []) (c .place + 1)) (pick u (shareOf z (c .pointer) (c .cell)) (pick n (releaseOf z (c .pointer)) z)))
-    go true u n e = points-slotted (c .cell ∷ c .pointer ∷ []) z (c .place + 1) (two-holders (c .cell) (c .pointer) (fits .icon e) (fits .pointer)) long
+    go true u n e = points-slotted (c .cell ∷ c .pointer ∷ []) z (c .place + 1) (holders (c .cell) (c .pointer) (fits .icon e) (fits .pointer)) long
     go false true n e = share-slotted z (c .pointer) (c .cell) (fits .pointer) long
     go false false true e = releases-slotted (c .pointer ∷ []) z (holder (c .pointer) (fits .pointer)) long
     go false false false e = slotted-self z
 
 -- ---- where a holder points: at nothing, where some holder pointed, or at the place that an icon takes
 
-picked : (P : ℕ → Type 0) (t : Bool) (v w : ℕ) → P v → P w → P (pick t v w)
+pub picked : (P : ℕ → Type 0) (t : Bool) (v w : ℕ) → P v → P w → P (pick t v w)
 picked P true v w p q = p
 picked P false v w p q = q
 
@@ -83,7 +75,7 @@ module _ (P : ℕ → Type 0) where
       where
         go : (t u n : Bool) → bringsIcon (c .flags) ≡ t
             → P (pointerAt (pick t (pointAll x (c .cell ∷ c .pointer ∷ []) (c .place + 1)) (pick u (shareOf x (c .pointer) (c .cell)) (pick n (releaseOf x (c .pointer)) x))) h)
-        go true u n e = points x (c .cell ∷ c .pointer ∷ []) (c .place + 1) (two-holders (c .cell) (c .pointer) (fits .icon e) (fits .pointer)) (omega arith) (new e) were h
+        go true u n e = points x (c .cell ∷ c .pointer ∷ []) (c .place + 1) (holders (c .cell) (c .pointer) (fits .icon e) (fits .pointer)) (omega arith) (new e) were h
         go false true n e =
             subst P (sym (ap (λ (r : ℕ → ℕ). r h) (pointer-point x (c .pointer) (pointerAt x (c .cell)) (fits .pointer) (omega arith))))
             (picked P (eqb h (c .pointer)) (pointerAt x (c .cell)) (pointerAt x h) (were (c .cell)) (were h))
@@ -93,13 +85,6 @@ module _ (P : ℕ → Type 0) where
         go false false false e = were h
 
 -- ---- a record's change
-
-pub second-small : (f : Family) (b : ℕ) → b ≤ highest f → b < 4294967296
-second-small Windows b h = omega arith
-second-small Notifications b h = omega arith
-
-pub own-record : (f : Family) (a b : ℕ) → sameRecord f a b f a b ≡ true
-own-record f a b = rw (family-same f, eq-eqb a a refl, eq-eqb b b refl)
 
 pub same-ids : (f g : Family) (a b x y : ℕ) → sameRecord f a b g x y ≡ true → (f ≡ g) × (a ≡ x) × (b ≡ y)
 same-ids f g a b x y e =

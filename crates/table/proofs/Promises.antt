@@ -15,7 +15,6 @@ use Rattle.places.specs.declared.Family.{Family}
 use Rattle.places.specs.Sharing.{isOne}
 use Rattle.places.specs.Holder.{Holder, cell, icon, sameFamily, sameHolder}
 use Rattle.slots.specs.Families.{sameRecord}
-use Rattle.slots.proofs.Soundness.{never, family-same}
 use Rattle.index.specs.declared.RecordOrder.{RecordOrder}
 use Rattle.index.specs.Orders.{onJudged, bringsIcon, bringsCached, clearsOverlay, cellAt, sentOnce, whichOf, pointerOf, holdersOf}
 use Rattle.index.specs.Index as index
@@ -27,7 +26,9 @@ use Rattle.body.proofs.Each.{sets-flagged}
 use Rattle.cache.specs.Cells.{carriedPicture}
 use Rattle.table.specs.Table.{Table, fieldRows, fieldsAt, fieldsBefore, recordFields, fieldsAfter, shownAfter, changeRecord, changeDesktop, after}
 use Rattle.table.specs.Promises.{recordOrder, Updates, Updated, UpdatesKeep}
-use Rattle.table.proofs.Pointed.{own-record}
+use Rattle.wire.proofs.Tests.{never}
+use Rattle.places.proofs.Named.{family-same}
+use Rattle.index.proofs.Shared.{own-record}
 
 module _ (t : Table) (s : List ℕ) (o : RecordOrder) (u : Updates t s o) where
   changed-on : (j : Judged) → recordOrder j ≡ some o → onJudged j (changeRecord t s) (changeDesktop t s) (λ n. t) ≡ changeRecord t s o

@@ -17,11 +17,12 @@ use Rattle.slots.specs.Families.{start, capacity}
 use Rattle.slots.specs.Slots.{isUsed}
 use Rattle.slots.specs.Sound.{soundIndex}
 use Rattle.slots.proofs.Searching.{each-ok, all-ok}
-use Rattle.slots.proofs.Soundness.{never, Within}
+use Rattle.slots.proofs.Soundness.{Within}
 use Rattle.body.specs.Bodies.{desktopFields, slotOf, bodyOk}
 use Rattle.picture.specs.Pictures.{headOk}
 use Rattle.table.specs.Table.{fieldRows}
 use Rattle.table.specs.Memory.{headsOf, recordOk, recordsOk, holderOk, soundTable}
+use Rattle.wire.proofs.Tests.{never}
 
 pub record TableSound (x b : List ℕ) (lent : ℕ) : Type 0 where
   pub big : 61012 ≤ length b

@@ -6,8 +6,8 @@ use mathlib.Core.Option.{Option, none, some}
 use Prim.Native.Nat.{ℕ, _+_, _*_, _-_, _<_}
 use native.Mathlib.Omega.{arith}
 use lib.Dec.{eqb, ltb}
-use borrow.Author.Tests.{ne-eqb, eqb-false, ltb-true}
-use Rattle.wire.specs.Tests.{pick, both, either, has}
+use borrow.Author.Tests.{ne-eqb, ltb-true}
+use Rattle.wire.specs.Tests.{pick, both, has}
 use Rattle.wire.specs.Numbers.{Bytes}
 use Rattle.protocol.specs.Flags.{desktopNone}
 use Rattle.order.specs.declared.Judged.{Judged}
@@ -41,14 +41,14 @@ use Rattle.index.specs.Changes.{listedOf, iconsAt, removedOf, picturedOf, chang
 use Rattle.index.proofs.Memory.{Listed, listed-is, Slotted, points-slotted, share-slotted, Cleared, cleared-is}
 use Rattle.index.proofs.Listed.{slotted-find, find-listed, find-freed, none-find}
 use Rattle.index.proofs.Ordered.{Ordered, deleted-old, windowOrder, notificationOrder, ordered-window, ordered-notification}
-use Rattle.index.proofs.Shared.{listed-at, removed-freed, removed-still, icons-holders, none-slotted}
+use Rattle.index.proofs.Shared.{listed-at, removed-freed, removed-still, icons-holders, none-slotted, own-record}
 use Rattle.index.proofs.Held.{which-small, beside-cell, held}
-use Rattle.index.proofs.Numbered.{readied, Ready, ready, Planned, Outcome, refused, changes, outcome}
+use Rattle.index.proofs.Numbered.{readied, Ready, ready, Planned, Outcome, refused, changes, outcome, second-small}
 use Rattle.cache.specs.Cells.{carriedPicture}
 use Rattle.table.specs.Table.{Table, number, shownAfter, changeRecord, changeDesktop, after}
 use Rattle.table.specs.Memory.{shownIn}
 use Rattle.table.specs.Changes.{picturesBy}
-use Rattle.table.proofs.Pointed.{second-small, own-record}
+use Rattle.index.proofs.Kept.{own-icon}
 
 -- ---- what a holder shows depends on its pointer alone
 
@@ -92,20 +92,6 @@ module _ (m : List ℕ) (slot : Family → ℕ → ℕ → Found) (f : Family) (
       go false e = rw (others g p q e)
 
 -- ---- a slot whose icons let go
-
-one-of : (i w : ℕ) → w < 3 → isOne eqb (iconsAt i) (12 + 3 * i + w) ≡ true
-one-of i w l =
-    go (eqb (12 + 3 * i + w) (12 + 3 * i + 0)) (eqb (12 + 3 * i + w) (12 + 3 * i + 1)) (eqb (12 + 3 * i + w) (12 + 3 * i + 2)) refl refl refl
-  where
-    go : (t u v : Bool) → eqb (12 + 3 * i + w) (12 + 3 * i + 0) ≡ t → eqb (12 + 3 * i + w) (12 + 3 * i + 1) ≡ u
-        → eqb (12 + 3 * i + w) (12 + 3 * i + 2) ≡ v → either t (either u (either v false)) ≡ true
-    go true u v d e k = refl
-    go false true v d e k = refl
-    go false false true d e k = refl
-    go false false false d e k =
-        absurd
-        (omega
-        (arith, eqb-false (12 + 3 * i + w) (12 + 3 * i + 0) d, eqb-false (12 + 3 * i + w) (12 + 3 * i + 1) e, eqb-false (12 + 3 * i + w) (12 + 3 * i + 2) k))
 
 removed-pointer : (x : List ℕ) (i : ℕ) → Sound x → i < 48 → (g : ℕ) → pointerAt (removedOf x i) g ≡ pick (isOne eqb (iconsAt i) g) 0 (pointerAt x g)
 unfolding releaseOf
@@ -190,7 +176,7 @@ module _ (x s : List ℕ) (o : RecordOrder) (i place : ℕ) (sound : Sound x) (h
       find = find-freed f x y i a b (p .placed .within) (removed-freed x i (sound .long) below) sound (found (capacity f) (start f) (isAt x a b) i at-i .2)
 
       empty : (w : ℕ) → w < 3 → pointerAt y (12 + 3 * i + w) ≡ 0
-      empty w l = removed-pointer x i sound below (12 + 3 * i + w) ∙ rw (one-of i w l)
+      empty w l = removed-pointer x i sound below (12 + 3 * i + w) ∙ rw (own-icon i w l)
 
       icon-is : (w : ℕ) → w < 3 → num (icon f a b w) ≡ 12 + 3 * i + w
       icon-is w l = icon-number (slotOf x) (slots-of x) f a b w i at-i l

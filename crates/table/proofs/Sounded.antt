@@ -2,10 +2,9 @@
 use mathlib.Core.Path.{_≡_, refl, sym, ap, _∙_}
 use mathlib.Core.Bool.{Bool, true, false}
 use mathlib.Core.List.{List}
-use Prim.Native.Nat.{ℕ, _+_, _*_, _-_, _≤_, _<_}
+use Prim.Native.Nat.{ℕ, _+_, _-_, _<_}
 use native.Mathlib.Omega.{arith}
 use lib.Dec.{eqb}
-use lib.ListN.{length}
 use borrow.Author.Tests.{eqb-true, eqb-false, ne-eqb}
 use Rattle.wire.specs.Tests.{pick, has}
 use Rattle.protocol.specs.Flags.{desktopNone}
@@ -13,7 +12,7 @@ use Rattle.places.specs.declared.Family.{Family}
 use Rattle.places.specs.Memory.{placesOf, pointerAt}
 use Rattle.slots.specs.Slots.{isUsed}
 use Rattle.slots.specs.Sound.{soundIndex}
-use Rattle.slots.proofs.Soundness.{never, Within, within-slots, one-family, free-is, sound-has}
+use Rattle.slots.proofs.Soundness.{Within, within-slots, one-family, free-is, sound-has}
 use Rattle.index.specs.declared.RecordOrder.{RecordOrder}
 use Rattle.index.specs.declared.Change.{Change}
 use Rattle.index.specs.declared.Plan.the-variants.{ChangeRecord, ChangeDesktop}
@@ -34,6 +33,7 @@ use Rattle.table.proofs.Bodied.{slot-ok, desktop-ok}
 use Rattle.table.proofs.Pointed.{used-after, freed-after, was-used, pointers-after, cleared-pointers}
 use Rattle.table.proofs.Heads.{desk-slot}
 use Rattle.table.proofs.Changed.{slot-roomy, bodies-are, heads-ok, head-there, desk-is}
+use Rattle.wire.proofs.Tests.{never}
 
 -- a pointer at nothing, or at a place whose head is in its sets
 abbrev HeadAt : List ℕ → ℕ → Type 0

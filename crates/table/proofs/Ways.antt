@@ -40,12 +40,8 @@ use Rattle.table.specs.Memory.{headsStart, headsOf, fixedBy, recordOk, h
 use Rattle.table.specs.Changes.{slotAfter, putsPicture, slotsAfter, headsPut, desktopSlot, slotsBy, broughtBy, headsBy, storeBy, Able, Follows}
 use Rattle.table.proofs.Heads.{desk-start, desk-length, desk-ends}
 use Rattle.table.proofs.HeadsOnce.{place-room}
-
-lacks : (flags mask : ℕ) → bitAnd flags mask ≡ 0 → has flags mask ≡ false
-lacks flags mask h = rw (eq-eqb (bitAnd flags mask) 0 h)
-
-holds : (flags mask : ℕ) → (bitAnd flags mask ≡ 0 → ⊥) → has flags mask ≡ true
-holds flags mask h = rw (ne-eqb (bitAnd flags mask) 0 h)
+use Rattle.wire.proofs.Tests.{never}
+use Rattle.order.proofs.FlagsClash.{lacks, meets}
 
 stays : (t : Bool) (x y : List ℕ) → t ≡ false → y ≡ pick t x y
 stays t x y e = rw e
@@ -76,7 +72,7 @@ module _ (s : List ℕ) (c : Change) (slot : List ℕ) where
 module _ (flags : ℕ) (s slot : List ℕ) where
   pub desktop-none : {x : List ℕ} → (bitAnd flags 0x00000001 ≡ 0 → ⊥) → x ≡ preparedOf true slot → x ≡ desktopSlot flags s slot
   unfolding desktopSlot
-  desktop-none h e = rw (holds flags 0x00000001 h) e
+  desktop-none h e = rw (meets flags 0x00000001 h) e
 
   pub desktop-changed : {x y z : List ℕ} → bitAnd flags 0x00000001 ≡ 0 → x ≡ hookedOf flags slot → y ≡ syncedOf flags x → z ≡ storeOf desktopFields 2 flags s 7 y
       → z ≡ desktopSlot flags s slot
@@ -173,19 +169,16 @@ pub brings-one : {p : Plan} (c : Change) → p ≡ ChangeRecord c → {t : Bool}
 unfolding broughtBy
 brings-one c e f = rw (e, f)
 
-no : {A : Type 0} → _≡_ {A = Bool} false true → A
-no e = let z : _≡_ {A = ℕ} 0 1 = cc in absurd (omega arith)
-
 brings-icon : (c : Change) → putsPicture c ≡ true → bitAnd (c .flags) flagIcon ≡ 0 → ⊥
 brings-icon c t z = go (c .deleted) t
   where
     go : (d : Bool) → pick d false (has (c .flags) flagIcon) ≡ true → ⊥
-    go true e = no e
-    go false e = no (sym (lacks (c .flags) flagIcon z) ∙ e)
+    go true e = never e
+    go false e = never (sym (lacks (c .flags) flagIcon z) ∙ e)
 
 icon-asks : (s : List ℕ) (c : Change) → Able s c → (bitAnd (c .flags) flagIcon ≡ 0 → ⊥)
     → (c .icon ≤ length s) × (partsOf s (c .icon) .end ≡ length s) × (partsOf s (c .icon) .end - partsOf s (c .icon) .mask ≤ placeLength)
-icon-asks s c a h = let t = holds (c .flags) flagIcon h in (a .icon .low t, a .icon .end t, a .icon .bytes t)
+icon-asks s c a h = let t = meets (c .flags) flagIcon h in (a .icon .low t, a .icon .end t, a .icon .bytes t)
 
 abbrev there : Brought → Bool
 there g = g .there
@@ -204,8 +197,8 @@ module _ (s b : List ℕ) where
       asks n =
           let q = icon-asks s c w (brings-icon c n) in
           (place-room [] b (c .place) (w .place) big, q .0, q .1, q .2)
-  asks-put (ChangeDesktop flags) is t w big = no (sym (ap there is) ∙ t)
-  asks-put (Refuse n) is t w big = no (sym (ap there is) ∙ t)
+  asks-put (ChangeDesktop flags) is t w big = never (sym (ap there is) ∙ t)
+  asks-put (Refuse n) is t w big = never (sym (ap there is) ∙ t)
 
   module _ (store : List (List ℕ)) where
     abbrev Put : Plan → List ℕ → List (List ℕ) → Type 0
@@ -228,8 +221,8 @@ module _ (s b : List ℕ) where
         let k : x ≡ headsAfter (drop 60116 b) (c .place) s (c .icon) =
         f ∙ ap (λ (y : List ℕ). headsAfter y (g .place) s (g .icon)) w ∙ ap (λ (g : Brought). headsAfter (drop 60116 b) (g .place) s (g .icon)) is in
         (rw n (part-back b x 60116 (length b - 60116) l ∙ ap (splice b 60116) k), rw n (h ∙ ap (λ (g : Brought). storeAfter store (g .place) s (g .icon)) is))
-    there-put (ChangeDesktop flags) is t big size f h = no (sym (ap there is) ∙ t)
-    there-put (Refuse n) is t big size f h = no (sym (ap there is) ∙ t)
+    there-put (ChangeDesktop flags) is t big size f h = never (sym (ap there is) ∙ t)
+    there-put (Refuse n) is t big size f h = never (sym (ap there is) ∙ t)
 
   -- the heads, from where the code lends them
   module _ {at : ℕ} (start : at ≡ headsStart) where

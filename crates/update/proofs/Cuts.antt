@@ -12,10 +12,7 @@ use Rattle.wire.specs.Tests.{pick, either}
 use Rattle.wire.specs.Numbers.{numAt}
 use Rattle.wire.proofs.Numbers.{num-drop}
 use Rattle.update.specs.Update.{headSize, fewest, orderSize, isRest, firstSize, cutFrom, ordersOf, CutWhole}
-
-pub either-false : (a b : Bool) → either a b ≡ false → (a ≡ false) × (b ≡ false)
-either-false false b e = (refl, e)
-either-false true b e = let z : _≡_ {A = ℕ} 0 1 = cc in absurd (omega arith)
+use Rattle.wire.proofs.Tests.{neither}
 
 -- ---- where the order at index at ends
 
@@ -54,8 +51,8 @@ first-within s some = go (isRest s) refl
     go : (t : Bool) → isRest s ≡ t → (0 < pick t (length s) (orderSize s)) × (pick t (length s) (orderSize s) ≤ length s)
     go true e = (some, omega arith)
     go false e =
-        let x = either-false (ltb (length s) headSize) (either (ltb (orderSize s) fewest) (ltb (length s) (orderSize s))) e in
-        let y = either-false (ltb (orderSize s) fewest) (ltb (length s) (orderSize s)) (x .1) in
+        let x = neither (ltb (length s) headSize) (either (ltb (orderSize s) fewest) (ltb (length s) (orderSize s))) e in
+        let y = neither (ltb (orderSize s) fewest) (ltb (length s) (orderSize s)) (x .1) in
         let a = ltb-false (orderSize s) fewest (y .0) in
         let b = ltb-false (length s) (orderSize s) (y .1) in
         (omega (arith, a), b)

@@ -19,7 +19,7 @@ use Rattle.session.specs.Packed.{packedOf}
 use Rattle.update.specs.Update.{ordersOf, Course, stopped, grantedFirst, deliverAll}
 use Rattle.update.specs.Outcome.{reportOf, unfit, reportOn}
 use Rattle.update.specs.Packed.{packedReport, Fits, ReportsFit, ReportUnpacks}
-use Rattle.update.proofs.Cuts.{either-false}
+use Rattle.wire.proofs.Tests.{neither}
 
 pub report-unpacks : ReportUnpacks
 unfolding ReportUnpacks packedReport packedOf
@@ -68,7 +68,7 @@ delivered o s = go (eqb (number (present s) o) 0) (overFull (s .log) o) refl ref
 room-more : (o : List ℕ) (s : State) → overFull (s .log) o ≡ false → Room (record { marked = s .marked; log = s .log ++ (o ∷ []) })
 unfolding bytesIn
 room-more o s e =
-    let x = either-false (ltb mostOrders (length (s .log) + 1)) (ltb mostBytes (bytesIn (s .log) + length o)) e in
+    let x = neither (ltb mostOrders (length (s .log) + 1)) (ltb mostBytes (bytesIn (s .log) + length o)) e in
     let a = ltb-false mostOrders (length (s .log) + 1) (x .0) in
     let b = ltb-false mostBytes (bytesIn (s .log) + length o) (x .1) in
     record { few = omega (arith, length-append (s .log) (o ∷ []), a); low = omega (arith, bytes-append (s .log) (o ∷ []), b) }

@@ -3,7 +3,6 @@ use mathlib.Core.Path.{_≡_, refl, sym, ap, _∙_}
 use mathlib.Core.Bool.{Bool, true, false}
 use mathlib.Core.List.{List, []}
 use Prim.Native.Nat.{ℕ, _-_, _<_, _≤_}
-use native.Mathlib.Omega.{arith}
 use lib.ListN.{length}
 use borrow.Author.Tests.{lt-ltb, le-ltb}
 use Rattle.wire.specs.Parts.{splice}
@@ -27,9 +26,7 @@ use Rattle.session.proofs.Outcomes.{reply-in}
 use Rattle.visible.specs.TableFigure.{MemoryHasFigure}
 use Rattle.visible.specs.Outcome.{figureAnswer, figureOut, FigureOutcome, AtTheMark}
 use Rattle.visible.proofs.TableFigure.{memory-has-figure}
-
-no : {A : Type 0} → _≡_ {A = Bool} true false → A
-no e = let z : _≡_ {A = ℕ} 0 1 = cc in absurd (omega arith)
+use Rattle.wire.proofs.Tests.{clash}
 
 -- 1: the rule is not met
 pub figure-unmet : (m : Memory) (out : List ℕ) {r : Reply} → meetsRule m ≡ false → r ≡ replyOf (refuse 1) → FigureOutcome m out r out
@@ -51,7 +48,7 @@ figure-unmet m out {r = r} u e = go (tooShort m) (wellFormed m) refl refl
     go : (a b : Bool) → tooShort m ≡ a → wellFormed m ≡ b → FigureOutcome m out r out
     go true b x y = by short (short-is x) (unfold figureAnswer in refl) (unfold figureOut in refl)
     go false false x y = by unformed (unformed-is x y) (unfold figureAnswer in refl) (unfold figureOut in refl)
-    go false true x y = no (sym (rw (x, y)) ∙ u)
+    go false true x y = clash (sym (rw (x, y)) ∙ u)
 
 module _ {m : Memory} {w : JournalExtent} {os : List (List ℕ)} (l : Logged m w os) (out : List ℕ) where
   -- 14: the output is too small

@@ -1,7 +1,6 @@
 -- Ids with a new mark have not stood; with a mark that is known they can only have stood from its first slot on.
 use Rattle.slots.proofs.Ways.{found-is}
 use Rattle.slots.proofs.Once.{first-lent, second-lent, used-lent, slot-free, none-used, slot-high, first-seen, later-seen, stood-twice, seen-free, seen-set, seen-kept}
-use Rattle.slots.proofs.Soundness.{never}
 use Rattle.slots.specs.Slots.{usedAt, firstId, secondId, isAt}
 use lib.ListN.{getD}
 use denote.Ref.{now}
@@ -11,6 +10,7 @@ use native.Mathlib.Omega.{arith}
 use borrow.Author.Needs.{needs}
 use Rattle.slots.proofs.sound.slot_ok.Statement.{statement}
 use Rattle.slots.proofs.sound.slot_ok.Tie as tie
+use Rattle.wire.proofs.Tests.{never}
 
 -- the ids of the slot
 first-id : (u : tie.After-read-u322) → u .before .before .read-u32 .result ≡ firstId (now (u .before .before .before .before .before .before .before .args .index)) (u .before .before .before .before .before .before .before .args .i)
