@@ -22,6 +22,7 @@ use Rattle.places.specs.Memory.{placesOf, pointerAt, countAt, isFree, va
 use Rattle.places.specs.Marks.{noneOf, Marked}
 use Rattle.places.specs.Changes.{put, letGo, pointTo, pointAll, freePlace, shareOf, releaseOf, releaseRecordsOf}
 use Rattle.places.proofs.Counting.{count-last, count-front, first-cong}
+use Rattle.places.proofs.Pointers.{put-put}
 use Rattle.places.proofs.Bytes.{inside, letGo-is}
 use Rattle.places.proofs.Validity.{Valid, valid-has}
 
@@ -187,6 +188,11 @@ module _ (b : List ℕ) (long : 157 ≤ length b) where
         (λ p l u. marked (p + 1) (omega arith) (omega (arith, v .many)) ∙ rw left-is)
 
 -- ---- an icon
+
+-- one holder lets go once
+pub free-once : (b : List ℕ) (q : ℕ) {f : Found} → f ≡ freePlace b (q ∷ q ∷ []) → f ≡ freePlace b (q ∷ [])
+unfolding freePlace
+free-once b q e = e ∙ ap (λ (r : ℕ → ℕ). firstFrom (placesOf b) 0 (isFree 156 r)) (put-put (pointerAt b) q 0 0)
 
 pub two-points : (b : List ℕ) (c q v : ℕ) → set (set b (c + 1) v) (q + 1) v ≡ pointAll b (c ∷ q ∷ []) v
 unfolding pointTo
