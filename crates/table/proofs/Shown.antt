@@ -48,7 +48,7 @@ use Rattle.cache.specs.Cells.{carriedPicture}
 use Rattle.table.specs.Table.{Table, number, shownAfter, changeRecord, changeDesktop, after}
 use Rattle.table.specs.Memory.{shownIn}
 use Rattle.table.specs.Changes.{picturesBy}
-use Rattle.index.proofs.Kept.{own-icon}
+use Rattle.index.proofs.Kept.{own-icon as icon-of-slot}
 
 -- ---- what a holder shows depends on its pointer alone
 
@@ -176,7 +176,7 @@ module _ (x s : List ℕ) (o : RecordOrder) (i place : ℕ) (sound : Sound x) (h
       find = find-freed f x y i a b (p .placed .within) (removed-freed x i (sound .long) below) sound (found (capacity f) (start f) (isAt x a b) i at-i .2)
 
       empty : (w : ℕ) → w < 3 → pointerAt y (12 + 3 * i + w) ≡ 0
-      empty w l = removed-pointer x i sound below (12 + 3 * i + w) ∙ rw (own-icon i w l)
+      empty w l = removed-pointer x i sound below (12 + 3 * i + w) ∙ rw (icon-of-slot i w l)
 
       icon-is : (w : ℕ) → w < 3 → num (icon f a b w) ≡ 12 + 3 * i + w
       icon-is w l = icon-number (slotOf x) (slots-of x) f a b w i at-i l
