@@ -2,5 +2,5 @@
 pub mod fields;
 pub mod pictures;
 
-// The most bytes that a lookup hands out: a window with three pictures, its newer fields and its pixels.
-pub const FOUND: usize = layout::WINDOW + 3 * layout::PICTURE + layout::NEWER + 4;
+// The most bytes that a lookup hands out: those of a window.
+pub const FOUND: usize = layout::WHOLE_WINDOW;

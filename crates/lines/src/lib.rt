@@ -10,7 +10,7 @@ use update::Report;
 pub mod records;
 
 // The most bytes that a lookup hands out.
-pub const FOUND: usize = lookups::WINDOW;
+pub const FOUND: usize = field_text::FOUND;
 
 // The kind and the number, and for a granted call the count and the bytes.
 pub fn reply(out: &mut [u8], kind: u8, r: Reply) -> usize

@@ -39,25 +39,11 @@ use session::Reply;
 
 mod figures;
 
-// Where the parts of a window that is handed out begin: the pictures of its small and its big icon, its newer fields, the picture of
-// its overlay icon, and its pixels.
-const SMALL_PICTURE: usize = layout::WINDOW;
-
-const BIG_PICTURE: usize = SMALL_PICTURE + layout::PICTURE;
-
-const NEWER: usize = BIG_PICTURE + layout::PICTURE;
-
-const OVERLAY_PICTURE: usize = NEWER + layout::NEWER;
-
-const PIXELS: usize = OVERLAY_PICTURE + layout::PICTURE;
-
-// The bytes of these, and the numbers that they can hold.
-const PIXELS_SIZE: usize = 4;
-
+// The numbers that the pixels of a window can hold.
 const PIXELS_END: u64 = 4294967296;
 
 // The bytes of a window and of the desktop state that are handed out.
-pub const WINDOW: usize = PIXELS + PIXELS_SIZE;
+pub const WINDOW: usize = layout::WHOLE_WINDOW;
 
 pub const DESKTOP: usize = layout::DESKTOP + figure::BYTES;
 
@@ -265,7 +251,7 @@ fn window_records(
     layout::window(out, slot);
     picture(
         out,
-        SMALL_PICTURE,
+        layout::SMALL_AT,
         0,
         x,
         small,
@@ -280,7 +266,7 @@ fn window_records(
     );
     picture(
         out,
-        BIG_PICTURE,
+        layout::BIG_AT,
         1,
         x,
         big,
@@ -293,11 +279,11 @@ fn window_records(
         journal,
         origins,
     );
-    layout::newer(out, NEWER, slot);
+    layout::newer(out, layout::NEWER_AT, slot);
     picture(
         out,
-        OVERLAY_PICTURE,
-        NEWER,
+        layout::OVERLAY_AT,
+        layout::NEWER_AT,
         x,
         overlay,
         bodies,
@@ -330,7 +316,7 @@ fn window(
 {
     window_records(out, x, bodies, a, b, c, d, e, journal, m, w);
     let pixels = figure::pixels(&m[0..body::WINDOW]);
-    wire::write_u32(out, PIXELS, (pixels % PIXELS_END) as u32);
+    wire::write_u32(out, layout::PIXELS_AT, (pixels % PIXELS_END) as u32);
 }
 
 // Hands out a notification icon: its fields, then its picture; its first mark says whether that is there.

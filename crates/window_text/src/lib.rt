@@ -13,16 +13,6 @@ use view::Pair;
 use view::Point;
 use view::WindowRecord;
 
-// A window is handed out with the pictures of its icons: two after its older fields, one after its newer ones; its pixels stand at
-// the very end.
-const SMALL: usize = layout::WINDOW;
-
-const BIG: usize = SMALL + layout::PICTURE;
-
-const OVERLAY: usize = BIG + layout::PICTURE + layout::NEWER;
-
-const PIXELS: usize = OVERLAY + layout::PICTURE;
-
 // Its ids, its styles and its show state.
 fn looks(
     out: &mut [u8],
@@ -172,16 +162,28 @@ fn fields(out: &mut [u8], at: usize, id: WindowId, w: WindowRecord) -> usize
 fn icons(out: &mut [u8], at: usize, w: WindowRecord, bytes: &[u8; FOUND]) -> usize
     ensures { λ n. ⌜ Laid (now (out .entry)) at (iconsText w (now (bytes .entry))) (now (out .exit)) n ⌝ }
 {
-    let n = icon(out, at, b" small=", w.small, bytes, SMALL);
-    let n = icon(out, n, b" big=", w.big, bytes, BIG);
-    icon(out, n, b" overlay=", w.newer.overlay, bytes, OVERLAY)
+    let n = icon(out, at, b" small=", w.small, bytes, layout::SMALL_AT);
+    let n = icon(out, n, b" big=", w.big, bytes, layout::BIG_AT);
+    icon(
+        out,
+        n,
+        b" overlay=",
+        w.newer.overlay,
+        bytes,
+        layout::OVERLAY_AT,
+    )
 }
 
 // The pixels that it covers.
 fn pixels(out: &mut [u8], at: usize, bytes: &[u8; FOUND]) -> usize
     ensures { λ n. ⌜ Laid (now (out .entry)) at (pixelsText (now (bytes .entry))) (now (out .exit)) n ⌝ }
 {
-    print::field(out, at, b" pixels=", wire::read_u32(bytes, PIXELS) as u64)
+    print::field(
+        out,
+        at,
+        b" pixels=",
+        wire::read_u32(bytes, layout::PIXELS_AT) as u64,
+    )
 }
 
 // The window that the bytes are.
