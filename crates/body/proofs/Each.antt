@@ -1,8 +1,8 @@
 -- An update sets exactly the flagged fields, each to the bytes that the order carries for it. Assumes nothing.
-use mathlib.Core.Path.{_≡_, refl, sym, ap, subst, _∙_}
+use mathlib.Core.Path.{_≡_, refl, sym, ap, _∙_}
 use mathlib.Core.Bool.{Bool, true, false}
 use mathlib.Core.List.{List, [], _∷_}
-use Prim.Native.Nat.{ℕ, zero, suc, _+_, _≤_, _<_}
+use Prim.Native.Nat.{ℕ, zero, suc, _+_, _<_}
 use native.Mathlib.Omega.{arith}
 use lib.ListN.{length, getD}
 use lib.Seq.{ext-getD}
@@ -10,10 +10,7 @@ use Rattle.wire.specs.Tests.{pick, hasAll}
 use Rattle.wire.specs.Parts.{slice}
 use Rattle.rows.specs.declared.Row.{Row}
 use Rattle.rows.specs.Rows.{noRow, lenOf}
-use Rattle.body.specs.Bodies.{fieldsOf, first, rest, setFlagged, beginsAt, carriedAt, SetsFlagged}
-use Rattle.body.specs.Stores.{storeOf, roomAll, EndsWell}
-use Rattle.body.proofs.Placed.{Placed, All}
-use Rattle.body.proofs.Stored.{stored}
+use Rattle.body.specs.Bodies.{first, rest, setFlagged, beginsAt, carriedAt, SetsFlagged}
 
 length-set-flagged : (rows : List Row) (flags : ℕ) (s : List ℕ) (at : ℕ) (old : List (List ℕ)) → length (setFlagged rows flags s at old) ≡ length rows
 unfolding setFlagged
@@ -62,11 +59,3 @@ module _ (rows : List Row) (flags : ℕ) (s : List ℕ) (at : ℕ) where
   sets-only old new h =
       ext-getD [] new (setFlagged rows flags s at old) (h .as-many ∙ sym (length-set-flagged rows flags s at old))
       (λ k l. h .each k (omega (arith, h .as-many)) ∙ sym (set-at rows flags s at old k (omega (arith, h .as-many))))
-
-  -- the fields of a slot, before and after an accepted order was stored
-  pub store-sets : (off : ℕ) (slot : List ℕ) → All Placed rows → EndsWell rows flags s at → 1 ≤ at → at ≤ length s → off + roomAll rows ≤ length slot
-      → SetsFlagged rows flags s at (fieldsOf rows off slot) (fieldsOf rows off (storeOf rows off flags s at slot))
-  store-sets off slot a e low inside fits =
-      subst (λ (new : List (List ℕ)). SetsFlagged rows flags s at (fieldsOf rows off slot) new)
-      (sym (stored rows off flags s at slot a e low inside fits .fields))
-      (sets-flagged (fieldsOf rows off slot))

@@ -103,10 +103,6 @@ unfolding preparedOf
 length-prepared true slot = length-splice slot 0 (zeros (length slot)) (omega (arith, length-replicate {A = ℕ} (length slot) 0))
 length-prepared false slot = refl
 
-pub prepared-kept : (slot : List ℕ) → preparedOf false slot ≡ slot
-unfolding preparedOf
-prepared-kept slot = refl
-
 -- ---- the three kinds have room in a slot
 
 pub window-room : roomAll windowFields ≡ 1390

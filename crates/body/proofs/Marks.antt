@@ -28,18 +28,6 @@ pub body-is : (rows : List Row) (x : List ℕ) {a b : ℕ} {fs : List (List ℕ)
 unfolding bodyOf
 body-is rows x e f g = rw (e, f, g)
 
-pub body-first : (rows : List Row) (slot : List ℕ) → bodyOf rows slot .first ≡ numAt 1 slot 0
-unfolding bodyOf
-body-first rows slot = refl
-
-pub body-second : (rows : List Row) (slot : List ℕ) → bodyOf rows slot .second ≡ numAt 1 slot 1
-unfolding bodyOf
-body-second rows slot = refl
-
-pub body-fields : (rows : List Row) (slot : List ℕ) → bodyOf rows slot .fields ≡ fieldsOf rows 2 slot
-unfolding bodyOf
-body-fields rows slot = refl
-
 -- what a sound body is
 pub record Fine (rows : List Row) (m n : ℕ) (slot : List ℕ) : Type 0 where
   pub first : numAt 1 slot 0 ≤ m
@@ -160,15 +148,6 @@ pick-le true x y n h g = h
 pick-le false x y n h g = g
 
 module _ (rows : List Row) (flags : ℕ) (slot : List ℕ) (long : 2 ≤ length slot) where
-  pub hooked-body : bodyOf rows (hookedOf flags slot)
-      ≡ record { first = pick (has flags desktopHooked) 1 (numAt 1 slot 0); second = numAt 1 slot 1; fields = fieldsOf rows 2 slot }
-  hooked-body = marked-body rows slot (hookedOf flags slot) (pick (has flags desktopHooked) 1 (numAt 1 slot 0)) (numAt 1 slot 1) (hooked slot long flags)
-
-  pub synced-body : bodyOf rows (syncedOf flags slot)
-      ≡ record { first = numAt 1 slot 0; second = pick (has flags desktopArcBegan) 1 (pick (has flags desktopArcCompleted) 0 (numAt 1 slot 1)); fields = fieldsOf rows 2 slot }
-  synced-body =
-      marked-body rows slot (syncedOf flags slot) (numAt 1 slot 0) (pick (has flags desktopArcBegan) 1 (pick (has flags desktopArcCompleted) 0 (numAt 1 slot 1))) (synced slot long flags)
-
   module _ (m n : ℕ) (ok : bodyOk rows m n slot ≡ true) where
     pub hooked-ok : 1 ≤ m → bodyOk rows m n (hookedOf flags slot) ≡ true
     hooked-ok h =

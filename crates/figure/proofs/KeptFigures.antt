@@ -5,15 +5,14 @@ use mathlib.Core.List.{List}
 use Prim.Native.Nat.{ℕ, zero, suc, _+_, _*_, _/_, _≤_, _<_}
 use native.Mathlib.Omega.{arith}
 use lib.Dec.{eqb}
-use lib.ListN.{length, take, drop, replicate, length-append}
-use lib.Seq.{take-take}
+use lib.ListN.{length, take, drop, length-append}
 use borrow.Author.Tests.{eqb-true, eqb-false, eq-eqb}
 use Rattle.wire.specs.Tests.{pick, both}
 use Rattle.wire.specs.Numbers.{numAt, bytesOf, fitsIn, Bytes}
-use Rattle.wire.specs.Parts.{slice, splice}
+use Rattle.wire.specs.Parts.{splice}
 use Rattle.wire.proofs.Tests.{both-left, both-right}
 use Rattle.wire.proofs.Parts.{length-splice, take-splice, drop-splice, splice-after}
-use Rattle.wire.proofs.Numbers.{length-bytes, fits4, num-take, num-slice, num-before, num-put, num-zeros, bytes-slice}
+use Rattle.wire.proofs.Numbers.{length-bytes, fits4, num-take, num-before, num-put, bytes-slice}
 use Rattle.places.specs.Counts.{eachBelow}
 use Rattle.places.proofs.Counting.{each-is, each-has}
 use Rattle.body.specs.Bodies.{slotOf, slotStart, slotLength}
@@ -21,16 +20,11 @@ use Rattle.slots.specs.Families.{indexLength, slotAt}
 use Rattle.slots.specs.Slots.{usedAt, isUsed}
 use Rattle.area.specs.Area.{sumBelow, one}
 use Rattle.area.specs.Cutting.{mostPoints}
-use Rattle.area.proofs.Counting.{sum-same, sum-none}
+use Rattle.area.proofs.Counting.{sum-same}
 use Rattle.figure.specs.declared.Figure.{Figure}
 use Rattle.figure.specs.Figure.{isShown, pixelsOf, windowAt, shownAt, pixelsAt, figureOf, figureBytes}
-use Rattle.figure.specs.Kept.{totalsStart, keptLength, figuresLength, pixelsPlace, keptPixels, keptFigure, figuresOk, pixelsKept, keptOf}
+use Rattle.figure.specs.Kept.{totalsStart, keptLength, pixelsPlace, keptPixels, keptFigure, figuresOk, pixelsKept, keptOf}
 use Rattle.figure.proofs.FigureFields.{pixels-fit}
-
-each-cong : (n : ℕ) (p q : ℕ → Bool) → ((i : ℕ) → i < n → p i ≡ q i) → eachBelow n p ≡ eachBelow n q
-unfolding eachBelow
-each-cong zero p q h = refl
-each-cong (suc n) p q h = rw (h n (omega arith), each-cong n p q (λ i l. h i (omega arith)))
 
 -- ---- what the index says of a slot
 
@@ -86,42 +80,6 @@ kept-pixels index bodies e i l =
     let test : ℕ → Bool = λ i. eqb (keptPixels index i) (pixelsAt index bodies i) in
     eqb-true (keptPixels index i) (pixelsAt index bodies i)
     (each-has 32 test (both-left (eachBelow 32 test) (both (eqb (keptFigure index .windows) (figureOf index bodies .windows)) (eqb (keptFigure index .pixels) (figureOf index bodies .pixels))) e) i l)
-
--- the first bytes decide it
-pub ok-same : (x y bodies : List ℕ) → take keptLength x ≡ take keptLength y → figuresOk x bodies ≡ figuresOk y bodies
-unfolding figuresOk keptFigure
-ok-same x y bodies e =
-    let front : take indexLength x ≡ take indexLength y = sym (take-take indexLength keptLength x (omega arith)) ∙ ap (take indexLength) e ∙ take-take indexLength keptLength y (omega arith) in
-    rw (
-      each-cong 32 (λ i. eqb (keptPixels x i) (pixelsAt x bodies i)) (λ i. eqb (keptPixels y i) (pixelsAt y bodies i))
-          (λ i l. rw (number 4 (pixelsPlace i) (omega arith), pixels-same x y bodies i l front)),
-      number 4 totalsStart (omega arith),
-      number 8 (totalsStart + 4) (omega arith),
-      figure-same x y bodies front,
-    )
-  where
-    number : (w at : ℕ) → at + w ≤ keptLength → numAt w x at ≡ numAt w y at
-    number w at h = sym (num-take w keptLength at x h) ∙ ap (λ (s : List ℕ). numAt w s at) e ∙ num-take w keptLength at y h
-
--- no window, and zeros for figures
-pub nothing-kept : (index bodies : List ℕ) → ((i : ℕ) → i < 32 → isUsed index i ≡ false) → slice index indexLength figuresLength ≡ replicate figuresLength 0
-    → figuresOk index bodies ≡ true
-unfolding figureOf keptFigure
-nothing-kept index bodies free zeros =
-    is-ok index bodies (λ i l. number 4 (4 * i) (omega arith) ∙ sym (none i l))
-    (rw (
-      number 4 128 (omega arith),
-      number 8 132 (omega arith),
-      sum-same 32 (λ i. one (shownAt index bodies i)) (λ i. 0) (λ i l. rw (free i l)),
-      sum-same 32 (pixelsAt index bodies) (λ i. 0) none,
-      sum-none 32 (λ i. 0) (λ i. refl),
-    ))
-  where
-    none : (i : ℕ) → i < 32 → pixelsAt index bodies i ≡ 0
-    none i l = rw (free i l)
-
-    number : (w i : ℕ) → i + w ≤ figuresLength → numAt w index (indexLength + i) ≡ 0
-    number w i h = sym (num-slice w index indexLength figuresLength i h) ∙ ap (λ (s : List ℕ). numAt w s i) zeros ∙ num-zeros w figuresLength i
 
 -- ---- figures fit their bytes
 

@@ -124,9 +124,6 @@ module _ (full : Bool) (x s : List ℕ) (o : RecordOrder) (i : ℕ) (brings : Br
 
 -- ---- an icon alone
 
-pub held-deleted : (c : Change) → c .deleted ≡ true → 0 ≡ changeHeld c
-held-deleted c t = rw t
-
 module _ (c : Change) (t : c .deleted ≡ false) where
   pub held-plain : bitAnd (c .flags) flagIcon ≡ 0 → 0 ≡ changeHeld c
   held-plain h = rw (t, eq-eqb (bitAnd (c .flags) flagIcon) 0 h)

@@ -18,14 +18,14 @@ use Rattle.index.specs.Memory.{indexOf}
 use Rattle.figure.specs.Figure.{windowsLength}
 use Rattle.figure.specs.Kept.{keptLength, figuresOk}
 use Rattle.store.specs.Store.{placesIn}
-use Rattle.table.specs.Memory.{bodiesLength, decode, soundTable}
+use Rattle.table.specs.Memory.{decode, soundTable}
 use Rattle.table.proofs.Rule.{table-has}
 use Rattle.follow.specs.declared.Want.{Want}
 use Rattle.follow.specs.declared.Want.the-variants.{Nothing}
 use Rattle.follow.specs.Follow.{roomFor, beginOf}
 use Rattle.follow.proofs.Following.{begin-holds, begin-length, begin-origins}
 use Rattle.journal.specs.declared.JournalExtent.{JournalExtent}
-use Rattle.journal.specs.Limits.{journalLength, mostOrders, logStart}
+use Rattle.journal.specs.Limits.{mostOrders, logStart}
 use Rattle.journal.specs.State.{allAccepted}
 use Rattle.journal.specs.Journal.{countOf, ordersFrom, endFrom, withinFrom, logOf}
 use Rattle.journal.specs.View.{Memory, memory, InEachStore, shortOf, tooShort, wellFormed, meetsRule, stateOf}
@@ -100,13 +100,6 @@ rule-replayable m h = go (replayableIn m) refl
     go : (b : Bool) → replayableIn m ≡ b → replayableIn m ≡ true
     go true e = e
     go false e = never (sym (not-replayable m e) ∙ h)
-
--- what the replay from the mark requires
-pub from-mark-asks : (m : Memory) → meetsRule m ≡ true
-    → (soundIndex (m .index) ≡ true) × (bodiesLength ≤ length (m .bodies)) × (journalLength ≤ length (m .journal))
-from-mark-asks m h =
-    let r = replayable-has (m .index) (m .bodies) (placesIn (m .store)) (m .journal) (rule-replayable m h) in
-    (table-has (m .index) (m .bodies) (placesIn (m .store)) (r .sound) .index, r .long .bodies, r .long .journal)
 
 -- ---- the way out
 

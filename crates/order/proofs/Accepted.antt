@@ -1,19 +1,18 @@
 -- What an order that is not refused has, for the crates that store it. Assumes nothing.
 use mathlib.Core.Path.{_≡_, refl, sym, ap, subst, _∙_}
 use mathlib.Core.Bool.{Bool, true, false, not}
-use mathlib.Core.List.{List, [], _∷_}
+use mathlib.Core.List.{List}
 use Prim.Native.Nat.{ℕ, _+_, _-_, _≤_}
 use native.Mathlib.Omega.{arith}
-use native.Mathlib.Nat.{zero-mul}
 use lib.Dec.{eqb, leb, ltb}
-use lib.Bits.{bitAnd, and-zero-r}
+use lib.Bits.{bitAnd}
 use lib.ListN.{length}
-use borrow.Author.Tests.{leb-true, ltb-false, eqb-true, eq-eqb, not-false}
-use Rattle.wire.specs.Tests.{pick, both, either, all, has}
+use borrow.Author.Tests.{leb-true, ltb-false, eqb-true}
+use Rattle.wire.specs.Tests.{pick, both, has}
 use Rattle.wire.specs.Numbers.{numAt}
 use Rattle.rows.specs.declared.Fit.{Fit}
 use Rattle.rows.specs.declared.Fit.the-variants.{Ends, Short}
-use Rattle.rows.specs.Rows.{windowRows, notificationRows, desktopRows, rowsFrom, numbersRow, firstOf, lenOf, onFit, walkOf}
+use Rattle.rows.specs.Rows.{windowRows, notificationRows, desktopRows, onFit, walkOf}
 use Rattle.order.specs.declared.WindowOrder.{WindowOrder}
 use Rattle.order.specs.declared.NotificationOrder.{NotificationOrder}
 use Rattle.order.specs.declared.DesktopOrder.{DesktopOrder}
@@ -23,10 +22,10 @@ use Rattle.order.specs.Flags.{isWindow, isNotification, isDesktop, oneTy
 use Rattle.order.specs.Icons.{partsOf, entryOk, cacheOk, bitsOk, sideOk, iconBad, cachedBad, headCut, partsCut, iconFit, cachedFit, pictureFit}
 use Rattle.order.specs.Judge.{refuse, numberOf, flagsOf, orderOf, fieldsFit, judgeOf}
 use Rattle.wire.proofs.Tests.{both-right}
-use Rattle.rows.proofs.Absent.{bare-icon, unlisted}
-use Rattle.rows.proofs.RowsCarried.{fit-kept, stepped, carried}
+use Rattle.rows.proofs.Absent.{unlisted}
+use Rattle.rows.proofs.RowsCarried.{fit-kept}
 use Rattle.order.proofs.Pictures.{picture-none, laid}
-use Rattle.protocol.specs.Flags.{desktopArcBegan, desktopArcCompleted, desktopFlags, desktopNone, flagBigIcon, flagCachedIcon, flagDeleted, flagIcon, flagOverlayIcon, flagsIcon}
+use Rattle.protocol.specs.Flags.{desktopFlags, flagCachedIcon, flagIcon}
 
 pub record Accepted (s : List ℕ) : Type 0 where
   pub long : 7 ≤ length s
@@ -209,38 +208,6 @@ module _ (s : List ℕ) where
   a-desktop o e = subst (Kinded s) e (kinded s (ap numberOf e))
 
 -- ---- the icon
-
--- on a window the icon or cached icon follows the id
-no-clash : (a b c d e f g h k : Bool) → c ≡ true → d ≡ true → either (either (either (either (either (either a b) (both (both c d) e)) f) g) h) k ≡ false → e ≡ false
-no-clash a b c d false f g h k x y z = refl
-no-clash false false true true true f g h k x y z = z
-no-clash true b true true true f g h k x y z = z
-no-clash false true true true true f g h k x y z = z
-no-clash a b false d true f g h k x y z = sym x
-no-clash a b true false true f g h k x y z = sym y
-
-id-only : (flags : ℕ) (s : List ℕ) (q : ℕ) → 7 ≤ length s → walkOf (rowsFrom 0 1) flags s 7 0 ≡ Ends q 0 → q ≡ 11
-unfolding walkOf lenOf
-id-only flags s q l e =
-    let r = numbersRow 0 4 in
-    let x = stepped r [] flags s 7 q e in
-    let c = carried r flags s 7 (x .next) (omega arith) l (eq-eqb (bitAnd flags 0) 0 (and-zero-r flags)) (x .here) in
-    let n : x .next ≡ q = cc in
-    let z = zero-mul (firstOf r s 7) in
-    omega (arith, c .ends, n, z)
-
-pub window-icon : (s : List ℕ) (w : Accepted s) → isWindow (flagsOf s) ≡ true → has (flagsOf s) flagsIcon ≡ true → w .icon ≡ 11
-unfolding fieldsFit
-window-icon s w t h =
-    let flags = flagsOf s in
-    let n : has flags 0x28EFDFFF ≡ false =
-    no-clash (both (has flags flagDeleted) (has flags 0xD8FFFFFF)) (both (has flags flagIcon) (has flags flagCachedIcon)) (isWindow flags) (has flags flagsIcon)
-    (has flags 0x28EFDFFF) (both (has flags flagBigIcon) (not (has flags flagsIcon)))
-    (both (has flags flagOverlayIcon) (either (not (has flags flagsIcon)) (has flags flagBigIcon))) (all (isDesktop flags ∷ has flags desktopNone ∷ has flags 0xF8FFFFFE ∷ []))
-    (all (isDesktop flags ∷ has flags desktopArcCompleted ∷ has flags desktopArcBegan ∷ [])) t h (w .agrees) in
-    let z : bitAnd flags 0x28EFDFFF ≡ 0 = eqb-true (bitAnd flags 0x28EFDFFF) 0 (not-false (eqb (bitAnd flags 0x28EFDFFF) 0) n) in
-    let f : walkOf windowRows flags s 7 0 ≡ Ends (w .icon) 0 = rw t at (w .fields) in
-    id-only flags s (w .icon) (w .long) (bare-icon flags s z ∙ f)
 
 -- a fit with nothing at fault
 fit-good : (t : Bool) (end bad cut q : ℕ) → pick t (Ends end bad) (Short cut) ≡ Ends q 0 → (end ≡ q) × (bad ≡ 0)

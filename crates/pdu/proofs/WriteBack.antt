@@ -92,10 +92,6 @@ reading b p e =
       same-record = n .1;
     }
 
--- a message that reading grants has the size of its record
-pub read-size : (b : List ℕ) (p : Pdu) → readOf b ≡ Message p → sizeOf p ≡ length b
-read-size b p e = let g = reading b p e in ap sizeOf (sym (g .same-record)) ∙ g .fills
-
 -- ---- the two numbers that change
 
 swap-start : (n0 n1 n2 n3 n4 n5 n6 : ℕ) (y : Bool)

@@ -1,12 +1,11 @@
 -- The length of what is written, and the ways through writing. Assumes nothing.
 use mathlib.Core.Path.{_≡_, refl, ap, _∙_}
-use mathlib.Core.Bool.{true, false}
+use mathlib.Core.Bool.{true}
 use mathlib.Core.List.{List, [], _∷_, _++_, map}
 use Prim.Native.Nat.{ℕ, _+_, _≤_}
 use native.Mathlib.Omega.{arith}
 use native.Mathlib.Nat.{add-zero}
 use lib.ListN.{length, getD, drop, length-append}
-use lib.Dec.{leb}
 use borrow.Author.Tests.{leb-true, le-leb}
 use Rattle.wire.specs.Parts.{splice}
 use Rattle.wire.specs.Numbers.{putAll, total}
@@ -18,7 +17,7 @@ use Rattle.pdu.specs.declared.Pdu.the-variants.{Execute, Activate, Syste
 use Rattle.pdu.specs.declared.ApplicationIdResponse as A
 use Rattle.pdu.specs.declared.Written.the-variants as W
 use Rattle.pdu.specs.Layout.{widths}
-use Rattle.pdu.specs.Settings.{numberOf, dataOf, dataNums, dataSpans}
+use Rattle.pdu.specs.Settings.{numberOf, dataOf, dataSpans}
 use Rattle.pdu.specs.Records.{kindOf, numsOf, sizeOf, spansOf}
 use Rattle.pdu.specs.Rules.{allowed}
 use Rattle.pdu.specs.Writing.{partOf, allLie, zeros, filled, stringsOf, joined, row, line, encode, grants, writtenNumber, writtenOf, outAfter}
@@ -107,14 +106,6 @@ length-encode p src g =
 -- ---- the ways through writing
 
 module _ (p : Pdu) (src out : List ℕ) where
-  pub denied : grants p src ≡ false → (W.Refused 8 ≡ writtenOf p src (length out)) × (out ≡ outAfter p src out)
-  unfolding writtenNumber writtenOf outAfter
-  denied g = (rw g, rw g)
-
-  pub no-room : grants p src ≡ true → leb (sizeOf p) (length out) ≡ false → (W.Refused 14 ≡ writtenOf p src (length out)) × (out ≡ outAfter p src out)
-  unfolding writtenNumber writtenOf outAfter
-  no-room g z = (rw (g, z), rw (g, z))
-
   pub done : (n : ℕ) (y : List ℕ) → grants p src ≡ true → sizeOf p ≤ length out → n ≡ sizeOf p → y ≡ splice out 0 (encode p src)
       → (W.Bytes n ≡ writtenOf p src (length out)) × (y ≡ outAfter p src out)
   unfolding writtenNumber writtenOf outAfter

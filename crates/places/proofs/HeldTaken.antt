@@ -1,6 +1,6 @@
 -- The first places stay pointed at: once an icon has taken the first free place, that one and all before it are.
 -- Assumes nothing.
-use mathlib.Core.Path.{_≡_, refl, sym, ap, _∙_, fun-ext}
+use mathlib.Core.Path.{_≡_, refl, sym, ap, _∙_}
 use mathlib.Core.Bool.{Bool, true, false}
 use mathlib.Core.List.{List, [], _∷_}
 use Prim.Native.Nat.{ℕ, _+_, _<_}
@@ -22,9 +22,6 @@ use Rattle.places.proofs.Meaning.{holders}
 
 pub held-none : (b : List ℕ) → HeldBelow b 0
 held-none b p l = absurd (omega arith)
-
-pub held-same : (b b' : List ℕ) (n : ℕ) → ((h : ℕ) → pointerAt b h ≡ pointerAt b' h) → HeldBelow b n → HeldBelow b' n
-held-same b b' n e held p l = ap (λ (r : ℕ → ℕ). isFree holderCount r p) (sym (fun-ext e)) ∙ held p l
 
 -- ---- an icon
 

@@ -1,21 +1,20 @@
 -- What each change of the memory means: who shares afterwards. Assumes nothing.
 use mathlib.Core.Path.{_≡_, refl, sym, ap, _∙_, fun-ext}
-use mathlib.Core.Bool.{Bool, true, false, not}
+use mathlib.Core.Bool.{Bool, true, false}
 use mathlib.Core.List.{List, [], _∷_}
 use Prim.Native.Nat.{ℕ, _+_, _-_, _≤_, _<_}
 use native.Mathlib.Omega.{arith}
 use lib.Dec.{eqb, leb}
 use borrow.Author.Tests.{eqb-true, ne-eqb, leb-true, leb-false}
 use Rattle.wire.specs.Tests.{pick, either}
-use Rattle.wire.proofs.Tests.{both-right}
 use Rattle.places.specs.declared.Found.{Found}
 use Rattle.places.specs.declared.Found.the-variants.{At, Nothing}
 use Rattle.places.specs.Counts.{onFound}
 use Rattle.places.specs.Sharing.{Sharing, isOne, drop, dropAll, join, fresh, cellsOnly, full, taken}
 use Rattle.places.specs.Memory.{isCell, placesOf, pointerAt, isFree, usedOf, sharesOf, sharingOf, decode, valid}
 use Rattle.places.specs.Changes.{put, letGo, pointTo, pointAll, freePlace, takeOf, shareOf, releaseOf, releaseAllOf, releaseRecordsOf}
-use Rattle.places.proofs.Counting.{count-most, found, first-full}
-use Rattle.places.proofs.Pointers.{put-same, put-other, put-own, put-put, free-has, absent}
+use Rattle.places.proofs.Counting.{found, first-full}
+use Rattle.places.proofs.Pointers.{put-same, put-other, put-put, free-has, absent}
 use Rattle.places.proofs.Steps.{join-sharing, fresh-sharing, fresh-two, go-sharing}
 use Rattle.places.proofs.Cells.{cells-sharing}
 use Rattle.places.proofs.Sharing.{same-sharing}
@@ -35,11 +34,6 @@ same-decode a b va vb e same =
     ap (sharingOf 156 (pointerAt a)) e
     ∙ same-sharing 156 (placesOf b) (pointerAt a) (pointerAt b) (λ h. rw (← e) (valid-has a va .within h)) (valid-has b vb .within)
     (λ g k. sym (decode-shares a g k) ∙ same g k ∙ decode-shares b g k)
-
--- no more places are pointed at than there are
-pub used-most : (b : List ℕ) → decode b .used ≤ decode b .places
-unfolding decode sharingOf usedOf
-used-most b = count-most (placesOf b) (λ p. not (isFree 156 (pointerAt b) p))
 
 -- ---- one holder and two
 
@@ -181,19 +175,6 @@ share-means b ok q c lq lc apart =
     ∙ ap (λ (r : ℕ → ℕ). sharingOf 156 r (placesOf b)) (sym (put-put (pointerAt b) q 0 (pointerAt b c)) ∙ ap (put gone q) (sym s))
     ∙ join-sharing 156 (placesOf b) gone q c lq (put-same (pointerAt b) q 0) lc (rw s (v .within c))
     ∙ ap (join eqb q c) (go-means b ok (q ∷ []) (holder q lq))
-
-again : (b : List ℕ) (q v : ℕ) → pointerAt b q ≡ v → sharingOf 156 (put (pointerAt b) q v) (placesOf b) ≡ decode b
-unfolding decode
-again b q v s = ap (λ (r : ℕ → ℕ). sharingOf 156 r (placesOf b)) (put-own (pointerAt b) q v s)
-
--- a pointer that shares its cell's place already
-pub share-again : (b : List ℕ) → valid b ≡ true → (q c : ℕ) → q < 156 → c < 156 → (c ≡ q → ⊥) → decode b .shares q c ≡ true → join eqb q c (drop eqb q (decode b)) ≡ decode b
-unfolding shareOf
-share-again b ok q c lq lc apart e =
-    let x = pointerAt b q in
-    let y = pointerAt b c in
-    let s : x ≡ y = eqb-true x y (both-right (not (eqb x 0)) (eqb x y) (sym (decode-shares b q c) ∙ e)) in
-    sym (share-means b ok q c lq lc apart) ∙ decode-point b q y lq (valid-has b ok .long) ∙ again b q y s
 
 -- ---- holders that let go
 

@@ -1,28 +1,20 @@
 -- What holders show after each change. Assumes nothing.
 use mathlib.Core.Path.{_≡_, refl}
-use mathlib.Core.Bool.{Bool, true, false, not}
+use mathlib.Core.Bool.{Bool, true, false}
 use mathlib.Core.List.{List}
 use mathlib.Core.Option.{none, some}
 use Prim.Native.Nat.{ℕ, _+_, _-_, _<_}
 use native.Mathlib.Omega.{arith}
 use lib.Dec.{eqb}
-use borrow.Author.Tests.{eqb-true, eqb-false, eq-eqb, ne-eqb}
+use borrow.Author.Tests.{eqb-false, eq-eqb, ne-eqb}
 use Rattle.wire.specs.Tests.{pick}
-use Rattle.wire.proofs.Tests.{both-right}
 use Rattle.places.specs.declared.Found.the-variants.{At}
 use Rattle.places.specs.Sharing.{isOne}
-use Rattle.places.specs.Memory.{isCell, pointerAt, sharingOf, decode, valid, shownOf, shown, withPicture}
+use Rattle.places.specs.Memory.{isCell, pointerAt, valid, shownOf, shown, withPicture}
 use Rattle.places.specs.Changes.{pointAll, freePlace, takeOf, shareOf, releaseOf, releaseRecordsOf}
 use Rattle.places.proofs.Bytes.{pointer-point, Holders, pointAll-is, pointer-records}
 use Rattle.places.proofs.Validity.{valid-has}
 use Rattle.places.proofs.Meaning.{Free, found-free, found-alone}
-
--- holders that share show the same
-pub shares-shown : (b : List ℕ) (pictures : ℕ → List ℕ) (g k : ℕ) → decode b .shares g k ≡ true → shown b pictures g ≡ shown b pictures k
-unfolding decode sharingOf shown shownOf
-shares-shown b pictures g k e =
-    let q : pointerAt b g ≡ pointerAt b k = eqb-true (pointerAt b g) (pointerAt b k) (both-right (not (eqb (pointerAt b g) 0)) (eqb (pointerAt b g) (pointerAt b k)) e) in
-    rw q
 
 -- a new picture at a place that only its holders have changes what no other holder shows
 module _ (b : List ℕ) (ok : valid b ≡ true) (hs : List ℕ) (all : Holders hs) (p : ℕ) (at-p : freePlace b hs ≡ At p) (pictures : ℕ → List ℕ) (x : List ℕ) where

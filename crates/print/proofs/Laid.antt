@@ -123,21 +123,6 @@ then {d} {x} {y} {s} {t} {at} {n} {m} l k = go (leb at (length d)) refl
     go true b = within d x y s t at n m l k (leb-true at (length d) b)
     go false b = past d x y s t at n m l k (leb-false at (length d) b)
 
--- the memory keeps its length
-pub same-length : {d x s : List ℕ} {at n : ℕ} → Laid d at s x n → length x ≡ length d
-unfolding laid fitting
-same-length {d} {x} {s} {at} {n} l = go (leb at (length d)) refl
-  where
-    go : (b : Bool) → leb at (length d) ≡ b → length x ≡ length d
-    go true b =
-        let h = leb-true at (length d) b in
-        let lf : length (take (length d - at) s) ≡ min (length d - at) (length s) = length-take (length d - at) s in
-        ap length (l .memory) ∙ length-splice d at (take (length d - at) s) (omega arith)
-    go false b =
-        let h = leb-false at (length d) b in
-        let z : length d - at ≡ 0 = omega arith in
-        ap length (l .memory ∙ ap (λ (i : ℕ). splice d at (take i s)) z ∙ splice-nil d at)
-
 -- ---- the byte that parts the entries of a list
 
 pub first-entry : (d : List ℕ) (at part : ℕ) {i : ℕ} → i ≡ 0 → Laid d at (pick (eqb i 0) [] (part ∷ [])) d at

@@ -38,11 +38,6 @@ unfolding endFrom
 end-past zero p j = omega arith
 end-past (suc n) p j = omega (arith, end-past n (p + sizeAt j p) j)
 
-pub end-room : (n p : ℕ) (j : List ℕ) → withinFrom n p j ≡ true → p ≤ journalLength → endFrom n p j ≤ journalLength
-unfolding endFrom
-end-room zero p j w h = h
-end-room (suc n) p j w h = end-room n (p + sizeAt j p) j (within-rest n p j w) (omega (arith, within-first n p j w))
-
 -- their bytes stand between
 bytes-past : (n p : ℕ) (j : List ℕ) → withinFrom n p j ≡ true → p ≤ journalLength → journalLength ≤ length j → p + bytesIn (ordersFrom n p j) ≡ endFrom n p j
 unfolding ordersFrom bytesIn endFrom

@@ -8,7 +8,7 @@ use native.Mathlib.Numerals.{add-one}
 use native.Mathlib.Nat.{zero-mul, one-mul, mul-le-mul, div-add-mod'}
 use lib.Dec.{T, eqb, leb, leb→le, ltb}
 use lib.Bits.{bitAnd}
-use lib.ListN.{length, getD, List·getD-eq-default}
+use lib.ListN.{length, getD}
 use lib.Seq.{drop-cons}
 use borrow.Author.Tests.{le-leb, lt-leb, leb-true, leb-false, ne-eqb, eq-eqb, eqb-true, eqb-false, lt-ltb, le-ltb, ltb-false}
 use Rattle.wire.specs.Tests.{pick, both, either, anyAfter, hasAll}
@@ -223,9 +223,6 @@ NoneOf (suc n) k = NoneOf n k × (k ≡ n → ⊥)
 past : (n k : ℕ) → NoneOf n k → n ≤ k
 past zero k t = omega arith
 past (suc n) k t = omega (arith, past n k (t .0), t .1)
-
-pub past-table : (k : ℕ) → NoneOf 31 k → noRow ≡ getD allRows k noRow
-past-table k t = sym (List·getD-eq-default allRows noRow (past 31 k t))
 
 -- ---- the walk
 

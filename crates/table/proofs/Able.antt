@@ -11,7 +11,6 @@ use Rattle.order.proofs.Accepted.{an-icon}
 use Rattle.slots.specs.Sound.{soundIndex}
 use Rattle.slots.proofs.Soundness.{within-slots}
 use Rattle.index.specs.declared.RecordOrder.{RecordOrder}
-use Rattle.index.specs.declared.Change.{Change}
 use Rattle.index.specs.declared.Plan.{Plan}
 use Rattle.index.specs.declared.Plan.the-variants.{ChangeRecord, ChangeDesktop, Refuse}
 use Rattle.index.specs.Orders.{bringsIcon}
@@ -59,12 +58,3 @@ plan-follows d s bytes ok = go (planOf d s) (planning d s ok bytes)
     go (ChangeRecord c) (changes-record o i place k p h) = record-able d s o i place k p
     go (ChangeDesktop m) (changes-desktop flags k) = (k .within, k .fields)
     go (Refuse m) (changes-none n h) = tt
-
--- the icon that a planned order brings
-pub planned-icon : (d s : List ℕ) → Bytes s → soundIndex d ≡ true → (c : Change) → planOf d s ≡ ChangeRecord c → bringsIcon (c .flags) ≡ true → IconThere s (c .icon)
-planned-icon d s bytes ok c e = go (planOf d s) (planning d s ok bytes) e
-  where
-    go : (p : Plan) → Planning d s p → p ≡ ChangeRecord c → bringsIcon (c .flags) ≡ true → IconThere s (c .icon)
-    go (ChangeRecord b) (changes-record o i place k p h) e t = let q : changeOf s o i place ≡ c = cc in rw (← q) (ordered-icon s o (k .ordered) (rw (← q) at t))
-    go (ChangeDesktop m) (changes-desktop flags k) e t = let z : _≡_ {A = ℕ} 0 1 = cc in absurd (omega arith)
-    go (Refuse m) (changes-none n h) e t = let z : _≡_ {A = ℕ} 0 1 = cc in absurd (omega arith)
