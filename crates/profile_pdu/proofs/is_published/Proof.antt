@@ -6,9 +6,9 @@ use lib.ListN.{length}
 use denote.Ref.{now}
 use borrow.Author.Needs.{needs}
 use Rattle.wire.specs.Tests.{both}
 use Rattle.profile.specs.Programs.{prefix}
-use Rattle.profile.proofs.is_published.Statement.{statement}
-use Rattle.profile.proofs.is_published.Tie as tie
+use Rattle.profile_pdu.proofs.is_published.Statement.{statement}
+use Rattle.profile_pdu.proofs.is_published.Tie as tie
 
 pub is-published-spec : {M : Type 1} → statement M
 is-published-spec =

@@ -6,10 +6,10 @@ use lib.ListN.{length, drop}
 use denote.Ref.{now}
 use borrow.Author.Needs.{needs}
 use borrow.Author.Tests.{eq-eqb, ne-eqb}
 use Rattle.profile.specs.Programs.{begins}
 use Rattle.profile.proofs.Programs.{begins-over, begins-other, begins-next, begins-all}
-use Rattle.profile.proofs.begins_with.Statement.{statement}
-use Rattle.profile.proofs.begins_with.Tie as tie
+use Rattle.profile_pdu.proofs.begins_with.Statement.{statement}
+use Rattle.profile_pdu.proofs.begins_with.Tie as tie
 
 abbrev Inv-loop : tie.InvT-loop
 Inv-loop s start i₀ i = begins s start ≡ begins (drop i s) (drop i start)

@@ -1,8 +1,8 @@
 -- Type 0003 by its setting, every other by itself.
 use borrow.Author.Tests.{eq-eqb, ne-eqb}
 use Rattle.profile.specs.Ends.{serverOnly}
-use Rattle.profile.proofs.is_server_only.Statement.{statement}
-use Rattle.profile.proofs.is_server_only.Tie as tie
+use Rattle.profile_pdu.proofs.is_server_only.Statement.{statement}
+use Rattle.profile_pdu.proofs.is_server_only.Tie as tie
 
 pub is-server-only-spec : {M : Type 1} → statement M
 unfolding serverOnly

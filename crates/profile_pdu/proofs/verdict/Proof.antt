@@ -2,10 +2,10 @@
 use mathlib.Core.Path.{sym, _∙_}
 use denote.Ref.{now}
 use borrow.Author.Needs.{needs}
 use Rattle.profile.proofs.Ends.{name-inside}
 use Rattle.profile.proofs.Counter.{verdict-20, verdict-other, verdict-program}
-use Rattle.profile.proofs.verdict.Statement.{statement}
-use Rattle.profile.proofs.verdict.Tie as tie
+use Rattle.profile_pdu.proofs.verdict.Statement.{statement}
+use Rattle.profile_pdu.proofs.verdict.Tie as tie
 
 pub verdict-spec : {M : Type 1} → statement M
 verdict-spec =

@@ -2,9 +2,9 @@
 use native.Mathlib.Omega.{arith}
 use denote.Ref.{now}
 use borrow.Author.Needs.{needs}
 use Rattle.profile.proofs.Programs.{permits}
-use Rattle.profile.proofs.is_permitted.Statement.{statement}
-use Rattle.profile.proofs.is_permitted.Tie as tie
+use Rattle.profile_pdu.proofs.is_permitted.Statement.{statement}
+use Rattle.profile_pdu.proofs.is_permitted.Tie as tie
 
 pub is-permitted-spec : {M : Type 1} → statement M
 is-permitted-spec =
