@@ -43,6 +43,15 @@ counted() {
     fi
 }
 
+# cargo_tests FOLDER: the tests of a cargo package
+cargo_tests() {
+    (cd "$1" && cargo test --release --locked --offline --quiet) 2>&1 | tee "$work/cargo"
+    local status=${PIPESTATUS[0]} count
+    count=$(grep -oE '[0-9]+ passed' "$work/cargo" | awk '{ n += $1 } END { print n + 0 }')
+    [ "$count" -gt 0 ] || status=1
+    tally "$1: $count tests" "$status" "$count"
+}
+
 finish() {
     echo "$passed passed, $failed failed"
     [ "$failed" -eq 0 ] && [ "$passed" -gt 0 ]

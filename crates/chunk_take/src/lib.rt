@@ -11,7 +11,7 @@ pub fn take(memory: &mut [u8], chunk: &[u8]) -> Taken
         Joined::More(got) => Taken::More(got),
         Joined::Whole(len) => {
             let end = len as usize;
-            Taken::Whole(len, pdu_read::read_pdu(&memory[..end]))
+            Taken::Whole(len, pdu_read_record::read_pdu(&memory[..end]))
         }
         Joined::Refused(number) => Taken::Refused(number),
     }

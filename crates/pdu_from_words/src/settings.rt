@@ -45,11 +45,11 @@ fn setting_from(w: &[u32; 12]) -> Setting
     ensures { λ r. ⌜ r ≡ settingFrom (now (w .entry)) ⌝ }
 {
     let n = w[1];
-    if pdu::is_byte_setting(n) {
-        return pdu::byte_setting(n, value_from(w));
+    if pdu_rule::is_byte_setting(n) {
+        return pdu_rule::byte_setting(n, value_from(w));
     }
-    if pdu::is_area_setting(n) {
-        return pdu::area_setting(n, area_from(w));
+    if pdu_rule::is_area_setting(n) {
+        return pdu_rule::area_setting(n, area_from(w));
     }
     Setting::HighContrast(high_contrast_from(w))
 }

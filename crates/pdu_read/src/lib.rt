@@ -1,4 +1,4 @@
-// Control messages read from lent bytes: to words, and through them to a record.
+// Control messages read from lent bytes to words; to a record, in `pdu_read_record`.
 use pdu::Activate;
 use pdu::ApplicationIdResponse;
 use pdu::ClientInformation;
@@ -9,7 +9,6 @@ use pdu::Handshake;
 use pdu::HandshakeEx;
 use pdu::HighContrast;
 use pdu::NotifyEvent;
-use pdu::Read;
 use pdu::Rectangle;
 use pdu::Span;
 use pdu::SystemCommand;
@@ -21,9 +20,7 @@ ghost use Rattle.wire.specs.Numbers.{numAt};
 ghost use Rattle.pdu.specs.Settings.{isByte, isArea, highContrast};
 ghost use Rattle.pdu.specs.Records.{isYes, yesNumber};
 ghost use Rattle.pdu.specs.Reading.{bodyOf, readOf};
-ghost use Rattle.pdu.specs.RoundTrip.{ReadOutcome};
 ghost use Rattle.pdu_read.specs.Told.{Told};
-ghost use Rattle.pdu_read.specs.Answers.{Answerable, answerOf};
 
 // ---- the words of a message of each type, whose declared length is right
 
@@ -48,7 +45,7 @@ fn read_execute(s: &[u8], words: &mut [u32; 12]) -> u32
             len: c,
         },
     };
-    if !pdu::execute_allowed(e) {
+    if !pdu_rule::execute_allowed(e) {
         return 8;
     }
     pdu_to_words::execute_words(words, e);
@@ -67,7 +64,7 @@ fn read_activate(s: &[u8], words: &mut [u32; 12]) -> u32
         },
         enabled: wire::read_u8(s, 8),
     };
-    if !pdu::activate_allowed(e) {
+    if !pdu_rule::activate_allowed(e) {
         return 8;
     }
     pdu_to_words::activate_words(words, e);
@@ -86,7 +83,7 @@ fn read_system_command(s: &[u8], words: &mut [u32; 12]) -> u32
         },
         command: wire::read_u16(s, 8),
     };
-    if !pdu::system_command_allowed(e) {
+    if !pdu_rule::system_command_allowed(e) {
         return 8;
     }
     pdu_to_words::system_command_words(words, e);
@@ -157,7 +154,7 @@ fn read_move_size(s: &[u8], words: &mut [u32; 12]) -> u32
         return 7;
     }
     let kind = wire::read_u16(s, 10);
-    if !pdu::move_size_type_allowed(kind) {
+    if !pdu_rule::move_size_type_allowed(kind) {
         return 8;
     }
     let id = wire::read_u32(s, 4);
@@ -261,7 +258,7 @@ fn read_execute_result(s: &[u8], words: &mut [u32; 12]) -> u32
         raw_result: wire::read_u32(s, 8),
         exe_or_file: Span { at: 16, len: a },
     };
-    if !pdu::execute_result_allowed(e) {
+    if !pdu_rule::execute_result_allowed(e) {
         return 8;
     }
     pdu_to_words::execute_result_words(words, e);
@@ -317,7 +314,7 @@ fn read_high_contrast(s: &[u8], words: &mut [u32; 12]) -> u32
         flags: wire::read_u32(s, 8),
         color_scheme: Span { at: 18, len: n },
     };
-    if !pdu::high_contrast_allowed(e) {
+    if !pdu_rule::high_contrast_allowed(e) {
         return 8;
     }
     pdu_to_words::high_contrast_words(words, e);
@@ -331,10 +328,10 @@ fn read_system_parameters(s: &[u8], words: &mut [u32; 12]) -> u32
         return 7;
     }
     let number = wire::read_u32(s, 4);
-    if pdu::is_byte_setting(number) {
+    if pdu_rule::is_byte_setting(number) {
         return read_byte_setting(s, number, words);
     }
-    if pdu::is_area_setting(number) {
+    if pdu_rule::is_area_setting(number) {
         return read_area_setting(s, number, words);
     }
     if number == 0x43 {
@@ -390,25 +387,4 @@ pub fn read_words(message: &[u8], words: &mut [u32; 12]) -> u32
         0x80 => read_execute_result(whole, words),
         _ => 4,
     }
-}
-
-// What a number answers, 0 with the record of words.
-fn answer(number: u32, words: [u32; 12]) -> Read
-    requires { ⌜ Answerable number words ⌝ }
-    ensures { λ r. ⌜ r ≡ answerOf number words ⌝ }
-{
-    if number != 0 {
-        return Read::Refused(number as u8);
-    }
-    Read::Message(pdu_from_words::record_from(&words))
-}
-
-// The record of a message, its strings where they stand in s, or the first refusal.
-pub fn read_pdu(s: &[u8]) -> Read
-    ensures { λ r. ⌜ ReadOutcome (now (s .entry)) r ⌝ }
-{
-    let mut words = [0u32; 12];
-    let number = read_words(s, &mut words);
-    let read = answer(number, words);
-    read
 }

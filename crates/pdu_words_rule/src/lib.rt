@@ -29,10 +29,10 @@ fn is_setting(w: &[u32; 12]) -> bool
     ensures { λ r. ⌜ r ≡ within (now (w .entry)) (settingMost (getD (now (w .entry)) 1 0)) ⌝ }
 {
     let n = w[1];
-    if pdu::is_byte_setting(n) {
+    if pdu_rule::is_byte_setting(n) {
         return is_within(w, [0x03, n, U8, 0, 0, 0, 0, 0, 0, 0, 0, 0]);
     }
-    if pdu::is_area_setting(n) {
+    if pdu_rule::is_area_setting(n) {
         return is_within(w, [0x03, n, U16, U16, U16, U16, 0, 0, 0, 0, 0, 0]);
     }
     if n == 0x43 {

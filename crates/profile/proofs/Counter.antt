@@ -20,7 +20,7 @@ use Rattle.pdu_words.specs.Words.{wordsOf}
 use Rattle.pdu_words.specs.FromWords.{stand, Stands, pduOf, executeFrom}
 use Rattle.pdu_words.proofs.FromWords.{kind-word}
 use Rattle.pdu_read.specs.Told.{wordsAfter, Told}
-use Rattle.pdu_write.specs.WordsWritten.{wordsWrittenOf, wordsOutAfter, unless, UnlessOutcome}
+use Rattle.pdu_put.specs.WordsWritten.{wordsWrittenOf, wordsOutAfter, unless, UnlessOutcome}
 use Rattle.profile.specs.Ends.{handshake, reads, readTaken}
 use Rattle.profile.specs.Programs.{executePermitted}
 use Rattle.profile.specs.Counter.{passed, counterRead, verdict, counterNumber, counterWritten, counterOut, counterWordsWritten, counterWordsOut, CounterOutcome}

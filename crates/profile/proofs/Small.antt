@@ -14,7 +14,7 @@ use Rattle.pdu.specs.Writing.{grants, writtenNumber}
 use Rattle.pdu.proofs.Writing.{allowed-of}
 use Rattle.pdu.proofs.ReadBack.{size-small}
 use Rattle.pdu_words.specs.FromWords.{stand, pduOf}
-use Rattle.pdu_write.proofs.Ways.{wrote-says}
+use Rattle.pdu_put.proofs.Ways.{wrote-says}
 use Rattle.profile.specs.Ends.{writes}
 use Rattle.profile.specs.Programs.{permitted}
 use Rattle.profile.specs.Counter.{verdict, counterNumber, counterWritten, counterWordsWritten, CounterOutcome}

@@ -7,8 +7,8 @@ use lib.ListN.{getD}
 use Rattle.pdu.specs.declared.Written.{Written}
 use Rattle.pdu.specs.declared.Written.the-variants.{Bytes, Refused}
 use Rattle.pdu.specs.Answers.{writtenSays}
-use Rattle.pdu_write.specs.WordsWritten.{WordsOutcome}
-use Rattle.pdu_write.proofs.Ways.{bytes-small, number-small}
+use Rattle.pdu_put.specs.WordsWritten.{WordsOutcome}
+use Rattle.pdu_put.proofs.Ways.{bytes-small, number-small}
 use Rattle.profile.specs.Counter.{CounterOutcome}
 use Rattle.profile.proofs.Small as C
 use Rattle.session.specs.Packed.{packedOf}

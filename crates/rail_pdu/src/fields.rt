@@ -25,10 +25,10 @@ const NONE: usize = 17;
 
 // The row of system parameters with this setting.
 fn setting_row(setting: u32) -> usize {
-    if pdu::is_byte_setting(setting) {
+    if pdu_rule::is_byte_setting(setting) {
         return 2;
     }
-    if pdu::is_area_setting(setting) {
+    if pdu_rule::is_area_setting(setting) {
         return 3;
     }
     if setting == 0x43 { 4 } else { NONE }

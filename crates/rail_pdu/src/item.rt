@@ -60,7 +60,7 @@ fn number_of(answer: Read) -> u32 {
 
 // Reads the message s by the plain rules: the number, and the words of its record where that is 0.
 fn read_plain(s: &[u8], words: &mut [u32; 12]) -> u32 {
-    let answer = pdu_read::read_pdu(s);
+    let answer = pdu_read_record::read_pdu(s);
     let Read::Message(p) = answer else {
         return number_of(answer);
     };

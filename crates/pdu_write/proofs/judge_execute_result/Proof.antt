@@ -3,7 +3,7 @@ use mathlib.Core.Path.{refl}
 use borrow.Author.Needs.{needs}
 use Rattle.pdu.specs.Records.{sizeOf, spansOf}
 use Rattle.pdu.specs.Rules.{allowed}
-use Rattle.pdu_write.proofs.Ways.{one}
+use Rattle.pdu_put.proofs.Ways.{one}
 use Rattle.pdu_write.proofs.judge_execute_result.Statement.{statement}
 use Rattle.pdu_write.proofs.judge_execute_result.Tie as tie
 

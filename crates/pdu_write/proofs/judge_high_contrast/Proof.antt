@@ -4,7 +4,7 @@ use borrow.Author.Needs.{needs}
 use Rattle.pdu.specs.Settings.{dataOf, dataAllowed, dataSpans, dataSize}
 use Rattle.pdu.specs.Records.{sizeOf, spansOf}
 use Rattle.pdu.specs.Rules.{allowed}
-use Rattle.pdu_write.proofs.Ways.{one}
+use Rattle.pdu_put.proofs.Ways.{one}
 use Rattle.pdu_write.proofs.judge_high_contrast.Statement.{statement}
 use Rattle.pdu_write.proofs.judge_high_contrast.Tie as tie
 

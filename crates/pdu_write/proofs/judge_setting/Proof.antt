@@ -2,8 +2,8 @@
 use mathlib.Core.Path.{sym, _∙_}
 use denote.Ref.{now}
 use borrow.Author.Needs.{needs}
-use Rattle.pdu_write.proofs.Ways.{judges-as}
-use Rattle.pdu_write.proofs.SettingWays.{byte-judged, area-judged, is-scheme}
+use Rattle.pdu_put.proofs.Ways.{judges-as}
+use Rattle.pdu_put.proofs.SettingWays.{byte-judged, area-judged, is-scheme}
 use Rattle.pdu_write.proofs.judge_setting.Statement.{statement}
 use Rattle.pdu_write.proofs.judge_setting.Tie as tie
 

@@ -4,7 +4,7 @@ use denote.Ref.{now}
 use borrow.Author.Needs.{needs}
 use borrow.Author.Tests.{ne-eqb, not-true, not-false}
 use Rattle.pdu_words.specs.FromWords.{Stands}
-use Rattle.pdu_write.proofs.Ways.{judged-none, judged-8, judged-14, judged-bytes, unless-refused, unless-number, ready, wrote}
+use Rattle.pdu_put.proofs.Ways.{judged-none, judged-8, judged-14, judged-bytes, unless-refused, unless-number, ready, wrote}
 use Rattle.pdu_write.proofs.write_unless.Statement.{statement}
 use Rattle.pdu_write.proofs.write_unless.Tie as tie
 

@@ -1,6 +1,6 @@
 -- No further number applies.
 use borrow.Author.Needs.{needs}
-use Rattle.pdu_write.proofs.Ways.{no-further}
+use Rattle.pdu_put.proofs.Ways.{no-further}
 use Rattle.pdu_write.proofs.write_words.Statement.{statement}
 use Rattle.pdu_write.proofs.write_words.Tie as tie
 
