@@ -36,7 +36,7 @@ fn follow_order(d: &mut [u8], m: &mut [u8], s: &[u8], q: u16, want: Want, near: 
     ensures { λ r. ⌜ now (m .exit) ≡ followedAfter want q (now (d .entry)) (now (s .entry)) (now (m .entry)) ⌝ }
 {
     let p = index_plan::judge_near(d, s, near);
-    follow::follow(m, s, p, q, want);
+    follow_orders::follow(m, s, p, q, want);
     index_change::apply(d, p);
     let number = index_plan::number(p);
     let slot = index_plan::slot(p);
@@ -100,7 +100,7 @@ pub fn from_mark(
     ensures { λ r. ⌜ Replayed (fromMark want (now (index .entry)) (now (bodies .entry)) (now (journal .entry)) count (now (d .entry)) (now (m .entry))) r (now (d .exit)) (now (m .exit)) ⌝ }
 {
     wire::copy_part(d, 0, index, 0, slots::LENGTH);
-    follow::begin(m, index, bodies, want);
+    follow_orders::begin(m, index, bodies, want);
     replay(d, m, journal, count, want)
 }
 

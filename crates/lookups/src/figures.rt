@@ -20,7 +20,7 @@ pub fn figure_for(
     ensures { λ r. ⌜ (r ≡ figureFor target (now (x .entry)) (now (index .entry)) (now (bodies .entry)) (now (journal .entry)) count) × Bytes (now (x .entry)) ⌝ }
 {
     match target {
-        LookupTarget::Desktop => present::count_held(x, index, bodies, journal, count),
+        LookupTarget::Desktop => present_count::count_held(x, index, bodies, journal, count),
         _ => Figure {
             windows: 0,
             pixels: 0,

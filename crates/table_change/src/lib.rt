@@ -34,7 +34,7 @@ fn store_fields(
     ensures { λ _. ⌜ now (slot .exit) ≡ storeOf (rowsFrom low high) 2 flags (now (s .entry)) at (preparedOf fresh (now (slot .entry))) ⌝ }
 {
     body::prepare(slot, fresh);
-    body::store(slot, s, at, flags, low, high);
+    body_store::store(slot, s, at, flags, low, high);
 }
 
 // Changes the slot of a record.
@@ -61,7 +61,7 @@ pub fn desktop_slot(slot: &mut [u8], s: &[u8], flags: u32)
     }
     body::hook(slot, flags);
     body::sync(slot, flags);
-    body::store(slot, s, 7, flags, 29, 31);
+    body_store::store(slot, s, 7, flags, 29, 31);
 }
 
 // Changes the slot that a change names, unless it deletes the record there.
