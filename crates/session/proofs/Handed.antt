@@ -220,25 +220,15 @@ icon-in x f a b w e l is = omega (arith, is, go (slotOf x f a b) refl e)
     go Nothing s e = never e
     go (At i) s e = let h = slot-below x f a b i s in rw (lt-ltb w 3 l) (omega arith)
 
--- the second icon of a record follows its first
-icon-next : (x : List ℕ) (f : Family) (a b : ℕ) → indexOf x .listed f a b ≡ true → {n : ℕ} → n ≡ numberOf (slotOf x) (icon f a b 0) → n + 1 ≡ numberOf (slotOf x) (icon f a b 1)
+-- the icons of a record follow each other
+icon-after : (x : List ℕ) (f : Family) (a b k : ℕ) → indexOf x .listed f a b ≡ true → k < 3 → {n : ℕ} → n ≡ numberOf (slotOf x) (icon f a b 0) → n + k ≡ numberOf (slotOf x) (icon f a b k)
 unfolding indexOf numberOf
-icon-next x f a b e is = ap (λ (k : ℕ). k + 1) is ∙ go (slotOf x f a b) e
+icon-after x f a b k e l is = ap (λ (n : ℕ). n + k) is ∙ go (slotOf x f a b) e
   where
     go : (r : Found) → onFound r false (λ i. true) ≡ true
-        → onFound r holderCount (λ i. pick (ltb 0 3) (iconNumber i 0) holderCount) + 1 ≡ onFound r holderCount (λ i. pick (ltb 1 3) (iconNumber i 1) holderCount)
+        → onFound r holderCount (λ i. pick (ltb 0 3) (iconNumber i 0) holderCount) + k ≡ onFound r holderCount (λ i. pick (ltb k 3) (iconNumber i k) holderCount)
     go Nothing e = never e
-    go (At i) e = omega arith
-
--- and its third that
-icon-third : (x : List ℕ) (f : Family) (a b : ℕ) → indexOf x .listed f a b ≡ true → {n : ℕ} → n ≡ numberOf (slotOf x) (icon f a b 0) → n + 2 ≡ numberOf (slotOf x) (icon f a b 2)
-unfolding indexOf numberOf
-icon-third x f a b e is = ap (λ (k : ℕ). k + 2) is ∙ go (slotOf x f a b) e
-  where
-    go : (r : Found) → onFound r false (λ i. true) ≡ true
-        → onFound r holderCount (λ i. pick (ltb 0 3) (iconNumber i 0) holderCount) + 2 ≡ onFound r holderCount (λ i. pick (ltb 2 3) (iconNumber i 2) holderCount)
-    go Nothing e = never e
-    go (At i) e = omega arith
+    go (At i) e = rw (lt-ltb k 3 l) (omega arith)
 
 module _ (x : List ℕ) (c : ℕ) (listed : indexOf x .sharing .shares (cell c) (cell c) ≡ true) where
   abbrev pointer : ℕ
@@ -300,7 +290,7 @@ module _ {x bodies : List ℕ} {store : List (List ℕ)} {journal m out : List �
 
     pub window-big : {n : ℕ} → n ≡ numberOf (slotOf x) (icon family.Windows (w .id) 0 0) → n + 1 ≡ numberOf (slotOf x) (icon family.Windows (w .id) 0 1)
     unfolding listedIn
-    window-big e = icon-next x family.Windows (w .id) 0 (h .listed) e
+    window-big e = icon-after x family.Windows (w .id) 0 1 (h .listed) (omega arith) e
 
     pub window-ready : Ready x bodies store journal (slice m 1392 128)
     unfolding ReadyFor
@@ -308,7 +298,7 @@ module _ {x bodies : List ℕ} {store : List (List ℕ)} {journal m out : List �
 
     pub window-overlay : {n : ℕ} → n ≡ numberOf (slotOf x) (icon family.Windows (w .id) 0 0) → n + 2 ≡ numberOf (slotOf x) (icon family.Windows (w .id) 0 2)
     unfolding listedIn
-    window-overlay e = icon-third x family.Windows (w .id) 0 (h .listed) e
+    window-overlay e = icon-after x family.Windows (w .id) 0 2 (h .listed) (omega arith) e
 
     pub records-handed : {n k l : ℕ} → n ≡ numberOf (slotOf x) (icon family.Windows (w .id) 0 0) → k ≡ numberOf (slotOf x) (icon family.Windows (w .id) 0 1)
         → l ≡ numberOf (slotOf x) (icon family.Windows (w .id) 0 2) → {p q r s t : List ℕ}

@@ -1,5 +1,5 @@
 -- Each record is the view of the body in its bytes: every part is read from the place of its field. Assumes nothing.
-use mathlib.Core.Path.{_≡_, refl, sym, ap, _∙_}
+use mathlib.Core.Path.{_≡_, sym, ap, _∙_}
 use mathlib.Core.Bool.{Bool, true, false}
 use mathlib.Core.List.{List}
 use Prim.Native.Nat.{ℕ, _+_}
@@ -8,13 +8,13 @@ use lib.Dec.{eqb}
 use lib.ListN.{getD, take, drop, replicate}
 use lib.Seq.{drop-drop}
 use Rattle.wire.specs.Numbers.{numAt}
-use Rattle.wire.specs.Parts.{slice, splice, padded}
+use Rattle.wire.specs.Parts.{slice, splice}
 use Rattle.wire.proofs.Numbers.{num-drop}
 use Rattle.protocol.specs.declared.WindowId.{WindowId}
 use Rattle.rows.specs.declared.Row.{Row}
 use Rattle.rows.specs.Rows.{noRow, numbersRow, textRow, rectanglesRow, idsRow, roomOf}
 use Rattle.order.specs.Icons.{tabled}
-use Rattle.body.specs.Bodies.{Body, notificationFields, desktopFields, fieldIn, fieldsOf, bodyOf}
+use Rattle.body.specs.Bodies.{notificationFields, desktopFields, fieldIn, fieldsOf, bodyOf}
 use Rattle.layout.specs.Layouts.{newerStart, olderFields, newerFields, fieldAt}
 use Rattle.view.specs.declared.Point.{Point}
 use Rattle.view.specs.declared.Pair.{Pair}
@@ -22,7 +22,7 @@ use Rattle.view.specs.declared.Text.{Text}
 use Rattle.view.specs.declared.Rectangles.{Rectangles}
 use Rattle.view.specs.declared.Stack.{Stack}
 use Rattle.view.specs.declared.NewerRecord.{NewerRecord}
-use Rattle.view.specs.Views.{windowId, pointOf, pairOf, textOf, rectanglesOf, stackOf, isMarked, fieldOf, newerOf, WindowParts, windowIn, windowOf, notificationOf, desktopOf, pictureView}
+use Rattle.view.specs.Views.{windowId, pointOf, pairOf, textOf, rectanglesOf, stackOf, isMarked, newerOf, windowIn, windowOf, notificationOf, desktopOf, pictureView}
 use Rattle.view.proofs.ViewsRead.{num-field, num-start, numbers-flag, text-flag, rectangles-flag, ids-flag, content-is}
 
 -- a mark that is read
@@ -30,24 +30,6 @@ marked : {p : Bool} {v w : ℕ} → p ≡ isMarked v → v ≡ w → p ≡ isMar
 marked e f = e ∙ ap isMarked f
 
 -- ---- the newer fields of a window
-
-newer-parts : (b : Body) {left right top bottom : ℕ} {description : Text} {button order bar edge : ℕ} {overlay : Bool}
-    → left ≡ numAt 4 (fieldOf b 0) 0 → right ≡ numAt 4 (fieldOf b 0) 4 → top ≡ numAt 4 (fieldOf b 1) 0 → bottom ≡ numAt 4 (fieldOf b 1) 4 → description ≡ textOf (fieldOf b 2)
-    → button ≡ numAt 1 (fieldOf b 3) 0 → order ≡ numAt 1 (fieldOf b 4) 0 → bar ≡ numAt 1 (fieldOf b 5) 0 → edge ≡ numAt 1 (fieldOf b 6) 0 → overlay ≡ isMarked (b .first)
-    → record {
-      «left_resize_margin» = left;
-      «right_resize_margin» = right;
-      «top_resize_margin» = top;
-      «bottom_resize_margin» = bottom;
-      «overlay_description» = description;
-      «taskbar_button» = button;
-      «enforce_server_z_order» = order;
-      «app_bar_state» = bar;
-      «app_bar_edge» = edge;
-      overlay = overlay;
-    } ≡ newerOf b
-unfolding newerOf
-newer-parts b e0 e1 e2 e3 e4 e5 e6 e7 e8 e9 = rw (e0, e1, e2, e3, e4, e5, e6, e7, e8, e9)
 
 -- a field after k bytes
 place-drop : (r : Row) (k off : ℕ) (s : List ℕ) → fieldAt r s (k + off) ≡ fieldAt r (drop k s) off
@@ -71,53 +53,24 @@ module _ (t : List ℕ) where
         «app_bar_edge» = edge;
         overlay = overlay;
       } ≡ newerOf (bodyOf newerFields (drop newerStart t))
-  unfolding bodyOf fieldsOf
+  unfolding bodyOf fieldsOf newerOf
   newer-is description v overlay left right top bottom button order bar edge =
       let s = drop newerStart t in
       let r : ℕ → Row = λ k. getD newerFields k noRow in
-      newer-parts (bodyOf newerFields s)
-      (left ∙ sym (num-drop 4 newerStart 2 t) ∙ num-start (r 0) s 2 4 (omega arith) (omega arith))
-      (right ∙ sym (num-drop 4 newerStart 6 t) ∙ num-field (r 0) s 2 4 4 (omega arith) (omega arith))
-      (top ∙ sym (num-drop 4 newerStart 10 t) ∙ num-start (r 1) s 10 4 (omega arith) (omega arith))
-      (bottom ∙ sym (num-drop 4 newerStart 14 t) ∙ num-field (r 1) s 10 4 4 (omega arith) (omega arith))
-      (description ∙ ap textOf (place-drop (textRow 0 520) newerStart 18 t ∙ text-flag 0x00400000 520 s 18))
-      (button ∙ sym (num-drop 1 newerStart 540 t) ∙ num-start (r 3) s 540 1 (omega arith) (omega arith))
-      (order ∙ sym (num-drop 1 newerStart 541 t) ∙ num-start (r 4) s 541 1 (omega arith) (omega arith))
-      (bar ∙ sym (num-drop 1 newerStart 542 t) ∙ num-start (r 5) s 542 1 (omega arith) (omega arith))
-      (edge ∙ sym (num-drop 1 newerStart 543 t) ∙ num-start (r 6) s 543 1 (omega arith) (omega arith))
-      (marked overlay (v ∙ sym (num-drop 1 newerStart 0 t)))
+      rw (
+        left ∙ sym (num-drop 4 newerStart 2 t) ∙ num-start (r 0) s 2 4 (omega arith) (omega arith),
+        right ∙ sym (num-drop 4 newerStart 6 t) ∙ num-field (r 0) s 2 4 4 (omega arith) (omega arith),
+        top ∙ sym (num-drop 4 newerStart 10 t) ∙ num-start (r 1) s 10 4 (omega arith) (omega arith),
+        bottom ∙ sym (num-drop 4 newerStart 14 t) ∙ num-field (r 1) s 10 4 4 (omega arith) (omega arith),
+        description ∙ ap textOf (place-drop (textRow 0 520) newerStart 18 t ∙ text-flag 0x00400000 520 s 18),
+        button ∙ sym (num-drop 1 newerStart 540 t) ∙ num-start (r 3) s 540 1 (omega arith) (omega arith),
+        order ∙ sym (num-drop 1 newerStart 541 t) ∙ num-start (r 4) s 541 1 (omega arith) (omega arith),
+        bar ∙ sym (num-drop 1 newerStart 542 t) ∙ num-start (r 5) s 542 1 (omega arith) (omega arith),
+        edge ∙ sym (num-drop 1 newerStart 543 t) ∙ num-start (r 6) s 543 1 (omega arith) (omega arith),
+        marked overlay (v ∙ sym (num-drop 1 newerStart 0 t)),
+      )
 
 -- ---- a window
-
--- by the parts of a body
-window-parts : (w : WindowParts) {owner : WindowId} {style extended show : ℕ} {title : Text} {offset : Point} {size : Pair} {content : ℕ} {root : WindowId} {place delta : Point} {whole : Pair} {rects : Rectangles} {visible : Point} {shown : Rectangles}
-    {small big : Bool} {newer : NewerRecord}
-    → owner ≡ windowId (numAt 4 (fieldOf (w .older) 0) 0) → style ≡ numAt 4 (fieldOf (w .older) 1) 0 → extended ≡ numAt 4 (fieldOf (w .older) 1) 4 → show ≡ numAt 1 (fieldOf (w .older) 2) 0 → title ≡ textOf (fieldOf (w .older) 3)
-    → offset ≡ pointOf (fieldOf (w .older) 4) → size ≡ pairOf (fieldOf (w .older) 5) → content ≡ numAt 1 (fieldOf (w .older) 6) 0 → root ≡ windowId (numAt 4 (fieldOf (w .older) 7) 0) → place ≡ pointOf (fieldOf (w .older) 8)
-    → delta ≡ pointOf (fieldOf (w .older) 9) → whole ≡ pairOf (fieldOf (w .older) 10) → rects ≡ rectanglesOf (fieldOf (w .older) 11) → visible ≡ pointOf (fieldOf (w .older) 12) → shown ≡ rectanglesOf (fieldOf (w .older) 13)
-    → small ≡ isMarked (w .older .first) → big ≡ isMarked (w .older .second) → newer ≡ newerOf (w .newer)
-    → record {
-      owner = owner;
-      style = style;
-      «extended_style» = extended;
-      «show_state» = show;
-      title = title;
-      «client_offset» = offset;
-      «client_size» = size;
-      «rp_content» = content;
-      «root_parent» = root;
-      «window_offset» = place;
-      «client_delta» = delta;
-      «window_size» = whole;
-      «window_rects» = rects;
-      «visible_offset» = visible;
-      «visibility_rects» = shown;
-      small = small;
-      big = big;
-      newer = newer;
-    } ≡ windowOf w
-unfolding windowOf
-window-parts w e0 e1 e2 e3 e4 e5 e6 e7 e8 e9 e10 e11 e12 e13 e14 e15 e16 e17 = rw (e0, e1, e2, e3, e4, e5, e6, e7, e8, e9, e10, e11, e12, e13, e14, e15, e16, e17)
 
 module _ (s : List ℕ) where
   pub window-is : {owner : WindowId} {style extended show : ℕ} {title : Text} {offset : Point} {size : Pair} {content : ℕ} {root : WindowId} {place delta : Point} {whole : Pair} {rects : Rectangles}
@@ -147,75 +100,65 @@ module _ (s : List ℕ) where
         big = big;
         newer = newer;
       } ≡ windowOf (windowIn s)
-  unfolding windowIn bodyOf fieldsOf
+  unfolding windowIn bodyOf fieldsOf windowOf
   window-is newer title offset size place delta whole rects visible shown v small w big owner root style extended show content =
       let r : ℕ → Row = λ k. getD olderFields k noRow in
-      window-parts (windowIn s)
-      (owner ∙ ap windowId (num-start (r 0) s 2 4 (omega arith) (omega arith)))
-      (style ∙ num-start (r 1) s 6 4 (omega arith) (omega arith))
-      (extended ∙ num-field (r 1) s 6 4 4 (omega arith) (omega arith))
-      (show ∙ num-start (r 2) s 14 1 (omega arith) (omega arith))
-      (title ∙ ap textOf (text-flag 0x00000004 520 s 15))
-      (offset ∙ ap pointOf (numbers-flag 0x00004000 8 s 537))
-      (size ∙ ap pairOf (numbers-flag 0x00010000 8 s 545))
-      (content ∙ num-start (r 6) s 553 1 (omega arith) (omega arith))
-      (root ∙ ap windowId (num-start (r 7) s 554 4 (omega arith) (omega arith)))
-      (place ∙ ap pointOf (numbers-flag 0x00000800 8 s 558))
-      (delta ∙ ap pointOf (numbers-flag 0x00008000 8 s 566))
-      (whole ∙ ap pairOf (numbers-flag 0x00000400 8 s 574))
-      (rects ∙ ap rectanglesOf (rectangles-flag 0x00000100 s 582))
-      (visible ∙ ap pointOf (numbers-flag 0x00001000 8 s 712))
-      (shown ∙ ap rectanglesOf (rectangles-flag 0x00000200 s 720))
-      (marked small v)
-      (marked big w)
-      newer
+      rw (
+        owner ∙ ap windowId (num-start (r 0) s 2 4 (omega arith) (omega arith)),
+        style ∙ num-start (r 1) s 6 4 (omega arith) (omega arith),
+        extended ∙ num-field (r 1) s 6 4 4 (omega arith) (omega arith),
+        show ∙ num-start (r 2) s 14 1 (omega arith) (omega arith),
+        title ∙ ap textOf (text-flag 0x00000004 520 s 15),
+        offset ∙ ap pointOf (numbers-flag 0x00004000 8 s 537),
+        size ∙ ap pairOf (numbers-flag 0x00010000 8 s 545),
+        content ∙ num-start (r 6) s 553 1 (omega arith) (omega arith),
+        root ∙ ap windowId (num-start (r 7) s 554 4 (omega arith) (omega arith)),
+        place ∙ ap pointOf (numbers-flag 0x00000800 8 s 558),
+        delta ∙ ap pointOf (numbers-flag 0x00008000 8 s 566),
+        whole ∙ ap pairOf (numbers-flag 0x00000400 8 s 574),
+        rects ∙ ap rectanglesOf (rectangles-flag 0x00000100 s 582),
+        visible ∙ ap pointOf (numbers-flag 0x00001000 8 s 712),
+        shown ∙ ap rectanglesOf (rectangles-flag 0x00000200 s 720),
+        marked small v,
+        marked big w,
+        newer,
+      )
 
 -- ---- a notification icon
-
-notification-parts : (b : Body) {version : ℕ} {tip : Text} {timeout flags : ℕ} {text title : Text} {state : ℕ} {icon : Bool}
-    → version ≡ numAt 4 (fieldOf b 0) 0 → tip ≡ textOf (fieldOf b 1) → timeout ≡ numAt 4 (fieldOf b 2) 0 → flags ≡ numAt 4 (fieldOf b 2) 4 → text ≡ textOf (fieldOf b 3)
-    → title ≡ textOf (fieldOf b 4) → state ≡ numAt 4 (fieldOf b 5) 0 → icon ≡ isMarked (b .first)
-    → record { version = version; tip = tip; timeout = timeout; flags = flags; text = text; title = title; state = state; icon = icon } ≡ notificationOf b
-unfolding notificationOf
-notification-parts b e0 e1 e2 e3 e4 e5 e6 e7 = rw (e0, e1, e2, e3, e4, e5, e6, e7)
 
 module _ (s : List ℕ) where
   pub notification-is : {version : ℕ} {tip : Text} {timeout flags : ℕ} {text title : Text} {state v : ℕ} {icon : Bool}
       → tip ≡ textOf (fieldAt (textRow 0 256) s 6) → text ≡ textOf (fieldAt (textRow 0 510) s 272) → title ≡ textOf (fieldAt (textRow 0 126) s 784)
       → v ≡ numAt 1 s 0 → icon ≡ isMarked v → version ≡ numAt 4 s 2 → timeout ≡ numAt 4 s 264 → flags ≡ numAt 4 s 268 → state ≡ numAt 4 s 912
       → record { version = version; tip = tip; timeout = timeout; flags = flags; text = text; title = title; state = state; icon = icon } ≡ notificationOf (bodyOf notificationFields s)
-  unfolding bodyOf fieldsOf
+  unfolding bodyOf fieldsOf notificationOf
   notification-is tip text title v icon version timeout flags state =
       let r : ℕ → Row = λ k. getD notificationFields k noRow in
-      notification-parts (bodyOf notificationFields s)
-      (version ∙ num-start (r 0) s 2 4 (omega arith) (omega arith))
-      (tip ∙ ap textOf (text-flag 0x00000001 256 s 6))
-      (timeout ∙ num-start (r 2) s 264 4 (omega arith) (omega arith))
-      (flags ∙ num-field (r 2) s 264 4 4 (omega arith) (omega arith))
-      (text ∙ ap textOf (text-flag 0x00000002 510 s 272))
-      (title ∙ ap textOf (text-flag 0x00000002 126 s 784))
-      (state ∙ num-start (r 5) s 912 4 (omega arith) (omega arith))
-      (marked icon v)
+      rw (
+        version ∙ num-start (r 0) s 2 4 (omega arith) (omega arith),
+        tip ∙ ap textOf (text-flag 0x00000001 256 s 6),
+        timeout ∙ num-start (r 2) s 264 4 (omega arith) (omega arith),
+        flags ∙ num-field (r 2) s 264 4 4 (omega arith) (omega arith),
+        text ∙ ap textOf (text-flag 0x00000002 510 s 272),
+        title ∙ ap textOf (text-flag 0x00000002 126 s 784),
+        state ∙ num-start (r 5) s 912 4 (omega arith) (omega arith),
+        marked icon v,
+      )
 
 -- ---- the desktop
-
-desktop-parts : (b : Body) {active : WindowId} {hooked syncing : Bool} {stack : Stack}
-    → active ≡ windowId (numAt 4 (fieldOf b 0) 0) → hooked ≡ eqb (b .first) 1 → syncing ≡ eqb (b .second) 1 → stack ≡ stackOf (fieldOf b 1)
-    → record { active = active; hooked = hooked; syncing = syncing; stack = stack } ≡ desktopOf b
-unfolding desktopOf
-desktop-parts b e0 e1 e2 e3 = rw (e0, e1, e2, e3)
 
 module _ (s : List ℕ) where
   pub desktop-is : {active : WindowId} {a b : ℕ} {stack : Stack} → stack ≡ stackOf (fieldAt (idsRow 0) s 6) → active ≡ windowId (numAt 4 s 2) → a ≡ numAt 1 s 0 → b ≡ numAt 1 s 1
       → record { active = active; hooked = eqb a 1; syncing = eqb b 1; stack = stack } ≡ desktopOf (bodyOf desktopFields s)
-  unfolding bodyOf fieldsOf
+  unfolding bodyOf fieldsOf desktopOf
   desktop-is stack active a b =
       let r : ℕ → Row = λ k. getD desktopFields k noRow in
-      desktop-parts (bodyOf desktopFields s)
-      (active ∙ ap windowId (num-start (r 0) s 2 4 (omega arith) (omega arith)))
-      (ap (λ (n : ℕ). eqb n 1) a)
-      (ap (λ (n : ℕ). eqb n 1) b)
-      (stack ∙ ap stackOf (ids-flag 0x00000010 s 6))
+      rw (
+        active ∙ ap windowId (num-start (r 0) s 2 4 (omega arith) (omega arith)),
+        ap (λ (n : ℕ). eqb n 1) a,
+        ap (λ (n : ℕ). eqb n 1) b,
+        stack ∙ ap stackOf (ids-flag 0x00000010 s 6),
+      )
 
 -- ---- a picture
 
