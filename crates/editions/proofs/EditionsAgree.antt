@@ -1,5 +1,5 @@
 -- The earlier edition of the rules beside the newer one. Assumes nothing.
-use mathlib.Core.Path.{_≡_, refl, sym, ap, ap₂, _∙_}
+use mathlib.Core.Path.{_≡_, refl, sym, ap, _∙_}
 use mathlib.Core.Bool.{Bool, true, false, not}
 use mathlib.Core.List.{List, [], _∷_}
 use Prim.Native.Nat.{ℕ, zero, suc, _+_, _*_, _/_, _%_, _-_, _≤_, _<_, min}
@@ -14,12 +14,12 @@ use Rattle.wire.proofs.Tests.{both-left, both-right}
 use Rattle.rows.specs.declared.Row.{Row}
 use Rattle.rows.specs.declared.Fit.{Fit}
 use Rattle.rows.specs.declared.Fit.the-variants.{Ends, Short}
-use Rattle.rows.specs.Rows.{windowRows, notificationRows, desktopRows, lenOf, stepOf, onFit, walkOf}
+use Rattle.rows.specs.Rows.{windowRows, lenOf, stepOf, onFit, walkOf}
 use Rattle.order.specs.declared.Judged.{Judged}
 use Rattle.order.specs.declared.Judged.the-variants.{Window, Notification, Desktop, Refused}
 use Rattle.order.specs.declared.WindowOrder.{WindowOrder}
 use Rattle.order.specs.declared.NotificationOrder.{NotificationOrder}
-use Rattle.order.specs.Flags.{isWindow, isNotification, isDesktop, oneType, inList, closedIn, closed, clash}
+use Rattle.order.specs.Flags.{isWindow, isNotification, isDesktop, oneType, inList, closedIn, closed}
 use Rattle.order.specs.Judge.{refuse, numberOf, flagsOf, fieldsFit, judgeBy, judgeOf}
 use Rattle.editions.specs.Editions.{earlierFlags, newerFlags, rowsIn, earlierFit, earlierJudge, fieldsWithin, earlierRecordNumber, earlierNumberIn, SameRecords, Unchanged, EditionsAgree}
 use Rattle.rows.proofs.Absent.{unlisted}

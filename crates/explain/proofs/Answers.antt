@@ -1,11 +1,11 @@
 -- What the code answers is the explanation. Assumes nothing.
 use mathlib.Core.Path.{_≡_, refl, sym, ap, _∙_}
-use mathlib.Core.Bool.{Bool, true, false, not}
+use mathlib.Core.Bool.{Bool, true, false}
 use mathlib.Core.List.{List, [], _∷_, _++_}
 use Prim.Native.Nat.{ℕ}
 use native.Mathlib.Omega.{arith}
 use lib.Dec.{eqb}
-use borrow.Author.Tests.{eqb-true, ne-eqb, eq-eqb}
+use borrow.Author.Tests.{eqb-true, ne-eqb}
 use Rattle.wire.specs.Tests.{pick}
 use Rattle.wire.specs.Numbers.{Bytes}
 use Rattle.order.specs.declared.WindowOrder.{WindowOrder}
@@ -15,8 +15,7 @@ use Rattle.order.specs.declared.Refusal.{Refusal}
 use Rattle.order.specs.declared.Judged.{Judged}
 use Rattle.order.specs.declared.Judged.the-variants.{Window, Notification, Desktop, Refused}
 use Rattle.order.specs.Judge.{numberOf, judgeOf}
-use Rattle.index.specs.Orders.{onJudged}
-use Rattle.index.specs.Index.{Index, recordNumber, numberIn}
+use Rattle.index.specs.Index.{Index, numberIn}
 use Rattle.index.specs.Plans.{planOf, planNumber}
 use Rattle.index.specs.Steps.{stepNumber}
 use Rattle.index.specs.declared.Plan.{Plan}

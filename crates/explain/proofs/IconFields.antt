@@ -1,20 +1,19 @@
 -- An icon or cached icon is told by the walk over its fields. Assumes nothing.
 use mathlib.Core.Path.{_≡_, refl, sym, ap, _∙_}
 use mathlib.Core.Bool.{Bool, true, false, not}
-use mathlib.Core.List.{List, [], _∷_}
+use mathlib.Core.List.{List, []}
 use Prim.Native.Nat.{ℕ, _+_, _*_, _/_, _-_, _≤_, _<_}
 use native.Mathlib.Omega.{arith}
-use lib.Dec.{leb, ltb}
+use lib.Dec.{leb}
 use lib.ListN.{length}
-use borrow.Author.Tests.{leb-true, leb-false, lt-ltb, le-ltb}
+use borrow.Author.Tests.{leb-false}
 use Rattle.wire.specs.Tests.{pick, has}
 use Rattle.wire.specs.Numbers.{numAt}
 use Rattle.protocol.specs.Flags.{flagCachedIcon, flagIcon}
-use Rattle.rows.specs.declared.Fit.{Fit}
 use Rattle.rows.specs.declared.Fit.the-variants.{Ends, Short}
 use Rattle.rows.specs.Rows.{firstBad}
 use Rattle.order.specs.declared.IconParts.{IconParts}
-use Rattle.order.specs.Icons.{tabled, partsFrom, partsOf, entryOk, cacheOk, bitsOk, sideOk, iconNumbersBad, iconBad, cachedNumbersBad, cachedBad, headCut, partsCut, iconFit, cachedFit, pictureFit}
+use Rattle.order.specs.Icons.{tabled, partsFrom, partsOf, entryOk, cacheOk, bitsOk, sideOk, iconNumbersBad, iconBad, cachedBad, headCut, partsCut, iconFit, cachedFit, pictureFit}
 use Rattle.order.proofs.Pictures.{head-entry, head-byte, head-word, cut-head, cut-mask, cut-table, cut-color}
 use Rattle.explain.specs.Fields.{Field, tabledFields, plainFields, begun, iconFields, cachedFields, pictureFields, endOf, allFit, firstCut, firstOutside}
 use Rattle.explain.proofs.Walks.{leb-same, fitOf, fit-told, fit-end, cut-step}

@@ -1,16 +1,15 @@
 -- An order is judged on its bytes by the conditions of the numbers 2 to 8. Assumes nothing.
-use mathlib.Core.Path.{_≡_, refl, sym, ap, _∙_}
+use mathlib.Core.Path.{_≡_, refl, sym, _∙_}
 use mathlib.Core.Bool.{Bool, true, false, not}
-use mathlib.Core.List.{List, [], _∷_, _++_}
-use Prim.Native.Nat.{ℕ, _+_, _≤_}
+use mathlib.Core.List.{List}
+use Prim.Native.Nat.{ℕ, _≤_}
 use native.Mathlib.Omega.{arith}
-use lib.Dec.{eqb, leb, ltb}
-use lib.ListN.{length, getD}
+use lib.Dec.{eqb, ltb}
+use lib.ListN.{length}
 use borrow.Author.Tests.{leb-true, ltb-false, eqb-true}
 use Rattle.wire.specs.Tests.{pick, either}
 use Rattle.wire.specs.Numbers.{numAt, Bytes}
 use Rattle.wire.proofs.Numbers.{num2-is}
-use Rattle.rows.specs.declared.Fit.{Fit}
 use Rattle.rows.specs.declared.Fit.the-variants.{Ends, Short}
 use Rattle.rows.specs.Rows.{firstBad, onFit, walkOf}
 use Rattle.order.specs.declared.Judged.{Judged}

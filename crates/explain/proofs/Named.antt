@@ -1,30 +1,25 @@
 -- The number that delivery gives names a condition: those before it are false, and it is true. Assumes nothing.
-use mathlib.Core.Path.{_≡_, refl, sym, ap, subst, _∙_}
+use mathlib.Core.Path.{_≡_, refl, sym, ap, _∙_}
 use mathlib.Core.Bool.{Bool, true, false, not}
 use mathlib.Core.List.{List, [], _∷_, _++_}
 use Prim.Native.Nat.{ℕ}
 use native.Mathlib.Omega.{arith}
 use lib.Dec.{eqb}
 use lib.ListN.{length}
-use borrow.Author.Tests.{ne-eqb}
-use Rattle.wire.specs.Tests.{pick, both, either}
+use Rattle.wire.specs.Tests.{pick, either}
 use Rattle.wire.specs.Numbers.{numAt, Bytes}
-use Rattle.order.specs.declared.Judged.{Judged}
-use Rattle.order.specs.declared.Judged.the-variants.{Window, Notification, Desktop, Refused}
 use Rattle.order.specs.Flags.{isWindow, isNotification, oneType}
-use Rattle.order.specs.Judge.{refuse, flagsOf, orderOf, judgeOf}
-use Rattle.places.specs.declared.Family.the-variants.{Windows, Notifications}
-use Rattle.index.specs.declared.RecordOrder.{RecordOrder}
+use Rattle.order.specs.Judge.{refuse, flagsOf, orderOf}
 use Rattle.index.specs.Orders.{onJudged}
-use Rattle.index.specs.Index.{Index, notThere, noRoom, noPicture, noPlace, recordNumber, numberIn}
+use Rattle.index.specs.Index.{Index, recordNumber, numberIn}
 use Rattle.table.specs.Table as table
-use Rattle.journal.specs.State.{State, present}
-use Rattle.journal.specs.View.{Memory, tooShort, wellFormed, meetsRule, stateOf, viewOf}
-use Rattle.session.specs.Calls.{Answer, deliver, overFull, nothing, grant, answer, answerView}
+use Rattle.journal.specs.State.{present}
+use Rattle.journal.specs.View.{Memory, tooShort, wellFormed, stateOf, viewOf}
+use Rattle.session.specs.Calls.{deliver, overFull, nothing, grant, answer, answerView}
 use Rattle.session.specs.Calls as calls
 use Rattle.explain.specs.Fields.{firstCut, firstOutside, fieldsOf, iconAt}
 use Rattle.explain.specs.Explain.{explain}
-use Rattle.explain.specs.Conditions.{tooFew, otherSize, noOrder, unlisted, clashing, unfilled, outside, forRecord, recordNamed, wrongId, tableFull, emptyCell, placesFull, Condition, condition, indexIn, conditions, Names, none, this, later, NoneHolds, Told, Explained}
+use Rattle.explain.specs.Conditions.{tooFew, otherSize, noOrder, unlisted, clashing, unfilled, outside, wrongId, tableFull, emptyCell, placesFull, Condition, condition, indexIn, conditions, Names, none, this, later, NoneHolds, Explained}
 use Rattle.explain.proofs.Judging.{ladder, judged}
 
 -- ---- the first condition that holds

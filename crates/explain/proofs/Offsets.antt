@@ -1,21 +1,19 @@
 -- The offset of the number that an order gets: the one that judging its bytes tells, or 7. Assumes nothing.
-use mathlib.Core.Path.{_≡_, refl, sym, ap, _∙_}
+use mathlib.Core.Path.{_≡_, refl}
 use mathlib.Core.Bool.{Bool, true, false, not}
-use mathlib.Core.List.{List, [], _∷_}
+use mathlib.Core.List.{List}
 use Prim.Native.Nat.{ℕ}
 use native.Mathlib.Omega.{arith}
-use lib.Dec.{eqb, ltb}
-use lib.ListN.{length}
-use borrow.Author.Tests.{eqb-true, ne-eqb}
+use lib.Dec.{eqb}
 use Rattle.wire.specs.Tests.{pick}
 use Rattle.wire.specs.Numbers.{numAt, Bytes}
 use Rattle.order.specs.declared.Judged.{Judged}
 use Rattle.order.specs.declared.Judged.the-variants.{Window, Notification, Desktop, Refused}
-use Rattle.order.specs.Flags.{isWindow, isNotification, oneType, closed, clash}
+use Rattle.order.specs.Flags.{isWindow, isNotification, oneType}
 use Rattle.order.specs.Judge.{refuse, numberOf, flagsOf, orderOf, judgeOf}
 use Rattle.index.specs.declared.RecordOrder.{RecordOrder}
 use Rattle.index.specs.Orders.{onJudged}
-use Rattle.index.specs.Index.{Index, notThere, noRoom, noPicture, noPlace, recordNumber, numberIn}
+use Rattle.index.specs.Index.{Index, notThere, noRoom, noPicture, noPlace, recordNumber}
 use Rattle.explain.specs.Fields.{iconAt}
 use Rattle.explain.specs.Explain.{offsetOf}
 use Rattle.explain.specs.Conditions.{tooFew, otherSize, unlisted, clashing, unfilled, outside}

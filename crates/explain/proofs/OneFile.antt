@@ -1,11 +1,11 @@
 -- A state in one file: too short where its parts are not whole, else the parts that the code lends. Assumes nothing.
-use mathlib.Core.Path.{_≡_, refl, sym, ap, _∙_}
+use mathlib.Core.Path.{_≡_, refl}
 use mathlib.Core.Bool.{Bool, true, false}
 use mathlib.Core.List.{List, [], _∷_}
-use Prim.Native.Nat.{ℕ, _+_, _-_, _/_, _<_, _≤_}
+use Prim.Native.Nat.{ℕ, _-_, _/_, _<_}
 use native.Mathlib.Omega.{arith}
 use lib.Dec.{ltb}
-use lib.ListN.{length, take, drop, length-take, length-drop}
+use lib.ListN.{length, drop, length-take, length-drop}
 use borrow.Author.Tests.{lt-ltb}
 use Rattle.wire.specs.Tests.{either}
 use Rattle.wire.specs.Parts.{slice}
@@ -13,7 +13,7 @@ use Rattle.places.specs.Sizes.{fewestPlaces}
 use Rattle.figure.specs.Kept.{keptLength}
 use Rattle.table.specs.Memory.{bodiesLength}
 use Rattle.journal.specs.Limits.{journalLength}
-use Rattle.journal.specs.View.{Memory, tooShort, meetsRule}
+use Rattle.journal.specs.View.{tooShort, meetsRule}
 use Rattle.store.specs.Store.{placeLength, placesIn}
 use Rattle.explain.specs.OneFile.{bodiesAt, journalAt, placesAt, memoryIn}
 

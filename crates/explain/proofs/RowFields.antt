@@ -16,7 +16,7 @@ use Rattle.rows.specs.Rows.{numbersRow, showRow, switchRow, textRow, rectangles
 use Rattle.rows.proofs.Fields.{bad-zero}
 use Rattle.order.specs.Flags.{isWindow, isNotification}
 use Rattle.order.specs.Judge.{kindRows}
-use Rattle.explain.specs.Fields.{Field, anyNumber, run, laterFields, rowFields, rowsFields}
+use Rattle.explain.specs.Fields.{anyNumber, laterFields, rowFields, rowsFields}
 use Rattle.explain.proofs.Walks.{leb-same, fitOf, fit-append}
 
 -- ---- numbers of one width

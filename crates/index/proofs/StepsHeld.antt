@@ -2,8 +2,7 @@
 use mathlib.Core.Path.{_≡_, refl, sym, subst, _∙_}
 use mathlib.Core.Bool.{Bool, true, false}
 use mathlib.Core.List.{List, [], _∷_}
-use Prim.Native.Nat.{ℕ, _+_, _<_, _≤_}
-use lib.ListN.{length}
+use Prim.Native.Nat.{ℕ, _+_, _<_}
 use Rattle.wire.specs.Tests.{pick}
 use Rattle.order.specs.declared.Judged.{Judged}
 use Rattle.order.specs.declared.Judged.the-variants.{Window, Notification, Desktop, Refused}
@@ -11,7 +10,6 @@ use Rattle.order.specs.Judge.{judgeOf}
 use Rattle.places.specs.declared.Found.{Found}
 use Rattle.places.specs.declared.Found.the-variants.{At, Nothing}
 use Rattle.places.specs.Counts.{onFound}
-use Rattle.places.specs.Memory.{valid}
 use Rattle.places.specs.Changes.{pointAll, freePlace}
 use Rattle.places.specs.Held.{HeldBelow}
 use Rattle.places.proofs.HeldTaken.{held-none, held-taken}
@@ -20,11 +18,10 @@ use Rattle.slots.proofs.Ways.{sound-long, sound-holders}
 use Rattle.index.specs.declared.RecordOrder.{RecordOrder}
 use Rattle.index.specs.declared.Place.{Place}
 use Rattle.index.specs.declared.Place.the-variants.{Slot, Not}
-use Rattle.index.specs.declared.Change.{Change}
 use Rattle.index.specs.declared.Plan.{Plan}
 use Rattle.index.specs.declared.Stepped.{Stepped}
 use Rattle.index.specs.declared.Plan.the-variants.{ChangeRecord, ChangeDesktop, Refuse}
-use Rattle.index.specs.Orders.{onJudged, isNew, isDelete, bringsIcon, cellAt, whichOf}
+use Rattle.index.specs.Orders.{onJudged, isNew, isDelete, bringsIcon, cellAt}
 use Rattle.index.specs.Plans.{slotFor, lacksPicture, pointerFor, cellFor, changeOf, planAt, planIn, onPlace, planRecord, planOf}
 use Rattle.index.specs.Changes.{listedOf, picturedOf, changedOf, removedOf, appliedOf}
 use Rattle.index.specs.Steps.{stepHeld, stepOf, steppedOf, StepOutcome}

@@ -1,25 +1,22 @@
 -- Settings by the shape of their data: what a setting's number says of its layout, and back. Assumes nothing.
 use mathlib.Core.Path.{_≡_, refl, sym, ap, _∙_}
-use mathlib.Core.Bool.{Bool, true, false, not}
+use mathlib.Core.Bool.{Bool, true, false}
 use mathlib.Core.List.{List, [], _∷_, _++_, map}
-use Prim.Native.Nat.{ℕ, _+_, _≤_, _<_}
+use Prim.Native.Nat.{ℕ, _+_, _≤_}
 use native.Mathlib.Omega.{arith}
-use native.Mathlib.Nat.{add-zero}
-use lib.ListN.{length, getD}
-use lib.Dec.{eqb, leb}
+use lib.ListN.{getD}
+use lib.Dec.{eqb}
 use borrow.Author.Tests.{leb-true, eq-eqb, eqb-true}
-use Rattle.wire.specs.Tests.{either, both, pick}
+use Rattle.wire.specs.Tests.{either}
 use Rattle.wire.specs.Numbers.{numAt, numsAt, putAll, total}
 use Rattle.wire.proofs.Tests.{one-of}
-use Rattle.pdu.specs.declared.Rectangle.{Rectangle}
 use Rattle.pdu.specs.declared.HighContrast as H
 use Rattle.pdu.specs.declared.Setting.{Setting}
 use Rattle.pdu.specs.declared.Setting.the-variants.{DragFullWindows, KeyboardCues, KeyboardPref, MouseButtonSwap, WorkArea, TaskbarPos, DisplayChange, HighContrast, ScreenSaveActive, ScreenSaveSecure}
-use Rattle.pdu.specs.declared.Pdu.{Pdu}
 use Rattle.pdu.specs.declared.Pdu.the-variants.{SystemParameters}
 use Rattle.pdu.specs.Settings.{byteSettings, areaSettings, isByte, isArea, highContrast, knownSetting, settingWidths, Data, byte, area, scheme, numberOf, dataOf, settingWith, dataAt, dataNums, dataSize, dataSpans, dataAllowed, moved}
 use Rattle.pdu.specs.Records.{recordOf, kindOf, numsOf, sizeOf, spansOf}
-use Rattle.pdu.specs.Reading.{recordAs, settingAt, unknownSetting, lengthsAgree}
+use Rattle.pdu.specs.Reading.{recordAs, unknownSetting, lengthsAgree}
 use Rattle.pdu.specs.Writing.{filled, stringsOf, joined, encode}
 use Rattle.pdu.proofs.Strings.{spansFrom, sum, parts, lens}
 

@@ -1,11 +1,10 @@
 -- The ways through judging and writing a setting that words stand for, by the shape of its body. Assumes nothing.
 use mathlib.Core.Path.{_≡_, refl, sym, ap, _∙_, subst}
-use mathlib.Core.Bool.{Bool, true, false}
-use mathlib.Core.List.{List, [], _∷_, _++_, append-nil}
+use mathlib.Core.Bool.{true, false}
+use mathlib.Core.List.{List, [], _∷_, append-nil}
 use Prim.Native.Nat.{ℕ, _+_, _≤_}
 use lib.ListN.{length, getD}
 use borrow.Author.Tests.{leb-true}
-use Rattle.wire.specs.Tests.{both}
 use Rattle.wire.specs.Parts.{splice}
 use Rattle.wire.specs.Numbers.{putAll}
 use Rattle.wire.proofs.Tests.{both-left}
@@ -14,16 +13,15 @@ use Rattle.pdu.specs.declared.HighContrast as H
 use Rattle.pdu.specs.declared.Setting.the-variants.{HighContrast}
 use Rattle.pdu.specs.declared.Pdu.{Pdu}
 use Rattle.pdu.specs.declared.Pdu.the-variants.{SystemParameters}
-use Rattle.pdu.specs.Settings.{isByte, isArea, settingWidths, Data, byte, area, scheme, numberOf, dataOf, settingWith, dataNums, dataSize, dataSpans, dataAllowed}
+use Rattle.pdu.specs.Settings.{isByte, isArea, settingWidths, Data, byte, area, scheme, dataOf, settingWith, dataNums, dataSize, dataSpans, dataAllowed}
 use Rattle.pdu.specs.Records.{sizeOf, spansOf}
 use Rattle.pdu.specs.Rules.{allowed}
-use Rattle.pdu.specs.Writing.{lies, allLie, joined, encode}
-use Rattle.pdu.proofs.Settings.{Shape, Made, made, encode-made}
+use Rattle.pdu.specs.Writing.{lies, joined, encode}
+use Rattle.pdu.proofs.Settings.{Shape, made, encode-made}
 use Rattle.pdu.proofs.Writing.{allowed-of, lie-of}
 use Rattle.pdu_words.specs.FromWords.{areaFrom, schemeFrom, dataFrom, systemParametersFrom}
 use Rattle.pdu_words.proofs.FromWords.{from-byte, from-area, from-scheme}
-use Rattle.pdu_put.specs.declared.Judged.{Judged}
-use Rattle.pdu_put.specs.Judging.{Judges, Ready, Encoded, Text, TextReady}
+use Rattle.pdu_put.specs.Judging.{Judges, Ready, Encoded, TextReady}
 use Rattle.pdu_put.proofs.Ways.{judges-as, ready-as, put-as}
 
 abbrev record-with : ℕ → Data → Pdu

@@ -14,7 +14,7 @@ use Rattle.pdu.specs.declared.Pdu.the-variants.{Execute, Activate, SystemComman
 use Rattle.pdu.specs.declared.Read.{Read}
 use Rattle.pdu.specs.declared.Read.the-variants.{Message, Refused}
 use Rattle.pdu.specs.Layout.{known, widths}
-use Rattle.pdu.specs.Settings.{isByte, isArea, highContrast, knownSetting, Data, byte, area, scheme, numberOf, dataOf, settingWith, dataAt, dataSize, dataAllowed, settingWidths}
+use Rattle.pdu.specs.Settings.{isByte, isArea, highContrast, knownSetting, Data, dataOf, settingWith, dataAt, dataSize, dataAllowed, settingWidths}
 use Rattle.pdu.specs.Records.{span, isYes, yesNumber, recordOf, sizeOf}
 use Rattle.signs.specs.TwosComplement.{unsigned, signedAt}
 use Rattle.pdu.specs.Rules.{allowed}

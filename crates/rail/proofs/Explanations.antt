@@ -1,7 +1,7 @@
 -- An explanation at the C boundary fits its places. Assumes nothing.
 use mathlib.Core.Path.{_≡_, ap, _∙_}
 use mathlib.Core.List.{List}
-use Prim.Native.Nat.{ℕ, _/_, _%_}
+use Prim.Native.Nat.{ℕ}
 use native.Mathlib.Omega.{arith}
 use Rattle.wire.specs.Numbers.{Bytes}
 use Rattle.journal.specs.View.{Memory}

@@ -19,7 +19,6 @@ use Rattle.journal.specs.State.{bytesIn}
 use Rattle.record.specs.declared.Reader.{Reader}
 use Rattle.record.specs.declared.Handed.{Handed}
 use Rattle.record.specs.declared.Turn.{Turn}
-use Rattle.record.specs.declared.Entry.{Entry}
 use Rattle.record.specs.declared.Inspected.{Inspected}
 use Rattle.record.specs.Layout.{entry, headOf, mostRecord}
 use Rattle.record.specs.Reading.{countIn, contentsOf, pastEnd, cutShort, irregular, recordNumber, partOf, partsOf, bodiesOf, inspectedOf, placeOf}

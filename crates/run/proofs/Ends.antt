@@ -13,7 +13,7 @@ use Rattle.wire.specs.Tests.{pick}
 use Rattle.wire.specs.Parts.{slice}
 use Rattle.wire.specs.Numbers.{numAt}
 use Rattle.wire.proofs.Numbers.{num-drop}
-use Rattle.run.specs.Script.{stepOf, lastKind, kindOf, itemLength, firstCall, blockLength, endsWith, Course, endsHere, callFirst, unlessEnds, courseFrom}
+use Rattle.run.specs.Script.{stepOf, lastKind, kindOf, itemLength, firstCall, blockLength, endsWith, endsHere, callFirst, courseFrom}
 use Rattle.run.specs.Steps.{Takes, endNumber, EndsAt}
 
 -- ---- from the number to the tests

@@ -1,6 +1,6 @@
 -- A holder by its numbers: each kind is holderFrom's. Assumes nothing.
 use Prim.Native.Nat.{ℕ, _≤_, _<_}
-use mathlib.Core.Path.{_≡_, sym}
+use mathlib.Core.Path.{_≡_}
 use borrow.Author.Tests.{ne-eqb, lt-ltb, le-ltb}
 use Rattle.session.specs.declared.PictureHolder.the-variants.{Cell, Small, Big, Overlay, Notification}
 use Rattle.session.specs.Holders.{capped, holderFrom}

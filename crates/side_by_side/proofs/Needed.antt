@@ -11,7 +11,7 @@ use Rattle.rows.specs.Rows.{firstOf, lenOf, okOf, cutOf, fieldOf, stepOf, walkO
 use Rattle.order.specs.Icons.{pictureFit}
 use Rattle.order.specs.Judge.{flagsOf, orderOf, fieldsFit, judgeOf}
 use Rattle.places.specs.declared.Family.the-variants.{Windows}
-use Rattle.places.specs.Sharing.{Sharing, drop, dropAll}
+use Rattle.places.specs.Sharing.{Sharing, drop}
 use Rattle.places.specs.Holder.{Holder}
 use Rattle.index.specs.Index as index
 use Rattle.body.specs.Bodies.{windowFields, setFlagged, beginsAt, carriedAt, emptyFields, emptyBody}

@@ -3,12 +3,12 @@ use mathlib.Core.Path.{_≡_, refl, sym, ap, _∙_, subst}
 use mathlib.Core.Bool.{Bool, true, false}
 use Prim.Native.Nat.{ℕ, suc, _+_, _-_, _*_, _%_, _<_, _≤_, _^_}
 use native.Mathlib.Omega.{arith}
-use lib.IntN.{ℤ, pos, negsuc, _+ℤ_, _-ℤ_, natAbs, subℕ}
+use lib.IntN.{ℤ, pos, negsuc, _+ℤ_, _-ℤ_, natAbs}
 use lib.Signed.{ltZ, nonNeg, mag}
 use lib.Dec.{T, ltb, leb}
 use borrow.Author.Tests.{le-ltb, lt-ltb, ltb-true, ltb-false, leb-true, leb-false}
 use mir.Syntax.{Width, w16, w32, w64}
-use mir.Val.{ofZ, toZ, SFits, Fits, bits, hbits}
+use mir.Val.{ofZ, toZ, SFits, Fits}
 use mir.ValLaws.{toZ-ofZ, toZ-pos}
 use Rattle.wire.specs.Tests.{either}
 use Rattle.signs.specs.TwosComplement.{signed, unsigned, holds}

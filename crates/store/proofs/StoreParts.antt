@@ -1,14 +1,13 @@
 -- Places through the parts: a place in the first part, or in the rest; what putting leaves and changes. Assumes nothing.
-use Prim.Native.Nat.{ℕ, _+_, _*_, _-_, _/_, _<_, _≤_}
-use mathlib.Core.Path.{_≡_, refl, sym, _∙_, ap}
+use Prim.Native.Nat.{ℕ, _*_, _-_, _<_, _≤_}
+use mathlib.Core.Path.{_≡_, sym, _∙_, ap}
 use mathlib.Core.List.{List, [], _∷_}
-use native.Mathlib.Omega.{arith}
 use borrow.Author.Tests.{lt-ltb, le-ltb}
-use lib.ListN.{length, take, drop}
+use lib.ListN.{take, drop}
 use lib.Seq.{take-nil, take-take}
 use Rattle.wire.proofs.Parts.{splice-nil}
 use Rattle.wire.specs.Parts.{slice, splice}
-use Rattle.store.specs.Store.{placeLength, wholeIn, placesIn, placeAt, putAt, five}
+use Rattle.store.specs.Store.{placeLength, wholeIn, placeAt, putAt, five}
 
 pub place-here : (part : List ℕ) (parts : List (List ℕ)) (p : ℕ) → p < wholeIn part → placeAt (part ∷ parts) p ≡ slice part (placeLength * p) placeLength
 unfolding placeAt

@@ -1,11 +1,11 @@
 -- An icon with cache id FF touches its pointer alone; a place that only its holders point at is shared with no other. Assumes nothing.
 use mathlib.Core.Path.{_≡_, refl, sym, ap, _∙_}
 use mathlib.Core.Bool.{Bool, true, false}
-use mathlib.Core.List.{List, [], _∷_}
+use mathlib.Core.List.{List}
 use mathlib.Core.Option.{some}
 use Prim.Native.Nat.{ℕ}
 use native.Mathlib.Omega.{arith}
-use Rattle.wire.specs.Tests.{pick, either}
+use Rattle.wire.specs.Tests.{pick}
 use Rattle.order.specs.declared.Judged.{Judged}
 use Rattle.order.specs.declared.Judged.the-variants.{Window, Notification, Desktop, Refused}
 use Rattle.order.specs.Judge.{judgeOf}
@@ -18,7 +18,7 @@ use Rattle.index.specs.Index as index
 use Rattle.index.specs.Promises.{touched}
 use Rattle.index.proofs.Ordered.{windowOrder, notificationOrder}
 use Rattle.index.proofs.Promises.{others-keep}
-use Rattle.table.specs.Table.{Table, number, changeRecord, after}
+use Rattle.table.specs.Table.{Table, number, changeRecord}
 use Rattle.table.specs.Promises.{recordOrder, Updates, Updated, UpdatesKeep, OnceOnly, OnceKeeps}
 use Rattle.table.proofs.Promises.{after-is, updates-keep}
 

@@ -3,14 +3,13 @@
 use mathlib.Core.Path.{_≡_, refl, sym, ap, _∙_}
 use mathlib.Core.Bool.{Bool, true, false}
 use mathlib.Core.List.{List, [], _∷_, map}
-use Prim.Native.Nat.{ℕ, zero, suc, _+_, _*_, _-_, _/_, _%_, _≤_, _<_}
+use Prim.Native.Nat.{ℕ, zero, suc, _+_, _*_, _-_, _≤_, _<_}
 use native.Mathlib.Nat.{add-zero, zero-add, mul-suc, mul-zero}
 use native.Mathlib.Omega.{arith}
 use lib.Dec.{eqb}
 use lib.ListN.{length, getD, replicate}
 use lib.Seq.{ext-getD}
 use borrow.Author.Tests.{eqb-true, eqb-false}
-use Rattle.wire.specs.Tests.{pick}
 use Rattle.wire.specs.Numbers.{numAt, numsAt, total, Bytes}
 use Rattle.wire.specs.Parts.{padded}
 use Rattle.wire.proofs.Parts.{padded-same}
@@ -35,7 +34,7 @@ use Rattle.view.specs.declared.NewerRecord.{NewerRecord}
 use Rattle.view.specs.declared.WindowRecord.{WindowRecord}
 use Rattle.view.specs.declared.NotificationRecord.{NotificationRecord}
 use Rattle.view.specs.declared.DesktopRecord.{DesktopRecord}
-use Rattle.view.specs.Views.{windowId, eachOf, pointOf, pairOf, textOf, rectanglesOf, stackOf, isMarked, newerOf, WindowParts, windowOf, notificationOf, desktopOf}
+use Rattle.view.specs.Views.{windowId, eachOf, pointOf, pairOf, textOf, rectanglesOf, stackOf, newerOf, WindowParts, windowOf, notificationOf, desktopOf}
 use Rattle.view.specs.Lossless.{BytesEach, ValidRecord, ValidWindow}
 use Rattle.view.proofs.ViewsRead.{length-each}
 

@@ -1,5 +1,4 @@
 use Rattle.body.proofs.Ways.{store-done}
-use Prim.Native.Nat.{_≤_}
 use lib.ListN.{length}
 use denote.Ref.{now}
 use mathlib.Core.Path.{_≡_, sym, _∙_}

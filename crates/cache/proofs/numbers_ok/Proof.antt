@@ -1,6 +1,5 @@
 use Rattle.cache.proofs.Ways.{bits-bad, bits-fine}
 use borrow.Author.Tests.{not-true, not-false}
-use borrow.Author.Needs.{needs}
 use Rattle.cache.proofs.numbers_ok.Statement.{statement}
 use Rattle.cache.proofs.numbers_ok.Tie as tie
 

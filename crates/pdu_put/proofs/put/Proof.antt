@@ -1,10 +1,6 @@
 -- Each arm writes the record of its type.
-use mathlib.Core.Path.{refl, ap, _∙_}
-use mathlib.Core.List.{[], _∷_}
-use Prim.Native.Nat.{ℕ}
-use denote.Ref.{now}
+use mathlib.Core.Path.{refl, ap}
 use borrow.Author.Needs.{needs}
-use Rattle.wire.specs.Parts.{splice}
 use Rattle.wire.specs.Numbers.{bytesOf, putAll}
 use Rattle.pdu.specs.declared.Pdu.the-variants.{Execute, Activate, SystemCommand, NotifyEvent, ApplicationIdResponse, ExecuteResult, HandshakeEx}
 use Rattle.pdu.specs.Layout.{widths}

@@ -1,5 +1,4 @@
 -- 7 where the string does not make the length of the message or its outer length is not the inner plus 2, 8 where it is too long, else the words of the setting.
-use mathlib.Core.List.{List}
 use mathlib.Core.Path.{refl, sym, _∙_}
 use Prim.Native.Nat.{ℕ}
 use native.Mathlib.Omega.{arith}
@@ -7,7 +6,6 @@ use denote.Ref.{now}
 use borrow.Author.Needs.{needs}
 use borrow.Author.Tests.{not-true, not-false}
 use Rattle.wire.specs.Numbers.{numAt}
-use Rattle.pdu.specs.declared.HighContrast.{HighContrast}
 use Rattle.pdu.specs.Settings.{highContrast, Data, scheme, dataSize, dataAllowed}
 use Rattle.pdu.proofs.Settings.{scheme-is}
 use Rattle.pdu_read.proofs.Ways.{scheme-agrees, scheme-apart, data-unfilled, data-apart, data-outside, data-fine, told-refused}

@@ -1,5 +1,5 @@
 -- 7 where the length is another, else the words of the record that the numbers make.
-use mathlib.Core.Path.{refl, sym, _∙_}
+use mathlib.Core.Path.{refl, sym}
 use denote.Ref.{now}
 use borrow.Author.Needs.{needs}
 use Rattle.pdu.specs.Records.{recordOf, sizeOf}

@@ -1,4 +1,3 @@
-use native.Mathlib.Omega.{arith}
 use denote.Ref.{now}
 use Rattle.store.specs.Store.{five}
 use Rattle.shown.proofs.ShownHanded.{store-asks, from-store, order-within, from-journal}

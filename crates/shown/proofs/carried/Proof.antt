@@ -1,4 +1,3 @@
-use native.Mathlib.Omega.{arith}
 use denote.Ref.{now}
 use Rattle.shown.proofs.StepsCarried.{carried-put}
 use borrow.Author.Needs.{needs}

@@ -1,6 +1,5 @@
 -- A number below 8000 is cast as it is; from one in the upper half 4,294,967,296 is taken in 64 bits.
 use mathlib.Core.Path.{sym, _∙_}
-use native.Mathlib.Omega.{arith}
 use mir.Syntax.{w16}
 use mir.ValLaws.{toZ-pos}
 use borrow.Author.Needs.{needs}

@@ -3,7 +3,7 @@ use Rattle.slots.specs.Sound.{eachFrom}
 use Rattle.slots.proofs.Ways.{ok-stop, ok-next, ok-done}
 use Rattle.rows.specs.Rows.{rowsFrom}
 use Rattle.table.specs.Memory.{recordOk}
-use Prim.Native.Nat.{_+_, _-_, _≤_}
+use Prim.Native.Nat.{_-_, _≤_}
 use mathlib.Core.Path.{_≡_, refl, sym, _∙_}
 use borrow.Author.Tests.{not-true, not-false}
 use denote.Ref.{now}
