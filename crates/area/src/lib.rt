@@ -2,6 +2,8 @@
 //
 // A rectangle adds what those before it leave of it: the whole, where none of them meets it; else it is cut into four pieces
 // around the last one that does, and each piece goes against those before that one. A box is a rectangle, or a piece of one.
+#![tactic(auto)]
+
 ghost use Rattle.std.specs.Prelude.{◌≡◌, true, ◌+◌, ◌-◌, ◌*◌, ◌<◌, ◌≤◌, min, max, length};
 ghost use Rattle.wire.specs.Numbers.{num_at};
 ghost use Rattle.area.specs.Area.{area_of, rect_at, list_length};
@@ -9,7 +11,7 @@ ghost use Rattle.area.specs.Area.{listed as Area·listed};
 ghost use Rattle.area.specs.Cutting.{left_over, most_points, box, meets, Met};
 
 // Its points are those from left and top on; right and bottom are outside.
-#[derive(Drop)]
+#[derive(Clone, Copy)]
 pub struct Rect {
     pub left: u16,
     pub top: u16,

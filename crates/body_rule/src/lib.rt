@@ -1,4 +1,6 @@
 // The rule of a body: whether a slot of `body` holds one, its marks within their limits and each field in its set.
+#![tactic(auto)]
+
 ghost use Rattle.std.specs.Prelude.{◌≡◌, ◌≤◌, leb};
 ghost use Rattle.wire.specs.Tests.{both};
 ghost use Rattle.wire.specs.Numbers.{num_at};

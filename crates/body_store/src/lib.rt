@@ -1,4 +1,6 @@
 // The flagged fields of an order put into the slot of a record, or of the desktop state, at their places.
+#![tactic(auto)]
+
 ghost use Rattle.std.specs.Prelude.{◌≡◌, ◌+◌, ◌<◌, ◌≤◌, length, get_or};
 ghost use Rattle.rows.specs.Rows.{all_rows, no_row, rows_from, room_of, kind_row};
 ghost use Rattle.body.specs.Stores.{store_of, room_all, EndsWell, Turned, Placed};

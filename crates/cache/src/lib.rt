@@ -1,4 +1,6 @@
 // The numbers of an icon, as an order carries it, in a cell: whether they are in their sets.
+#![tactic(auto)]
+
 ghost use Rattle.std.specs.Prelude.{◌≡◌, ◌-◌};
 ghost use Rattle.wire.specs.Numbers.{num_at};
 ghost use Rattle.order.specs.Icons.{parts_of};

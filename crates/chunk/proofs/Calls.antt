@@ -44,6 +44,10 @@ module _ {A : Type 0} (f : Answer → A) where
       let x : expected got (part ∷ parts) m ≡ awaited (got + length part) ∷ expected (got + length part) parts m = expected_more more got part m in
       let t : answers (chunk_step state chunk).state (next ∷ chunks) ≡ expected (got + length part) parts m = cc in
       stands mid end m next parts chunks total (got + length part) _ rs (chunk_step state chunk).state (describes mem chunk mid r state o v) rest more t
+  stands mem end m chunk [] chunks total got first rs state v _ x5 e = elim x5 [ ]
+  stands mem end m chunk (part ∷ parts) [] total got first [] state v x13 _ e = elim x13 [ ]
+  stands mem end m chunk (part ∷ parts) [] total got first (r ∷ rs) state v (call {mid = mid} o rest) (cut_more k more) e = elim more [ ]
+  stands mem end m chunk (part ∷ parts) (next ∷ chunks) total got first [] state v x14 _ e = elim x14 [ ]
 
 pub any_chunks : AnyChunks
 unfolding AnyChunks answers state_after
@@ -51,6 +55,8 @@ any_chunks A f mem end [] [] state v done = (refl, v)
 any_chunks A f mem end (chunk ∷ chunks) (r ∷ rs) state v (call {mid = mid} o rest) =
     let z = any_chunks A f mid end chunks rs (chunk_step state chunk).state (describes f mem chunk mid r state o v) rest in
     (ap (λ x. x ∷ rs) (answers-as f mem chunk mid r state o v) ∙ ap (λ xs. f (chunk_step state chunk).answer ∷ xs) z.0, z.1)
+any_chunks A f mem end [] (r ∷ rs) state v x4 = elim x4 [ ]
+any_chunks A f mem end (chunk ∷ chunks) [] state v x4 = elim x4 [ ]
 
 pub any_cutting : AnyCutting
 unfolding AnyCutting CuttingClaim AnyChunks
@@ -58,3 +64,4 @@ any_cutting A f m parts (chunk ∷ chunks) e p w c mem end rs state v t =
     let a = cutting m parts (chunk ∷ chunks) e p w c state in
     let z = any_chunks A f mem end (chunk ∷ chunks) rs state v t in
     (z.0 ∙ ap (map f) a.0, z.1 ∙ ap formed a.1, stands f mem end m chunk parts chunks (length m) 0 _ rs state v t c a.0)
+any_cutting A f m parts [] e p w c mem end rs state v t = elim c [ ]

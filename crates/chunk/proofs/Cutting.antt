@@ -68,6 +68,8 @@ module _ (total : ℕ) (positive : 1 ≤ total) (most : total ≤ Chunk.most) wh
       let n : length (bytes ++ part) ≡ got + length part = length-append bytes part ∙ ap (λ (x : ℕ). x + length part) g in
       let z = run m (bytes ++ part) (got + length part) false parts chunks (begun total (bytes ++ part)) l j n rest going in
       (rw (s, g) (ap (λ (x : List Answer). awaited (got + length part) ∷ x) z.0 ∙ sym (expected_more rest got part m)), ap (λ (x : Step). state_after x.state chunks) s ∙ z.1)
+  run m bytes got first [] chunks state l e g x5 r = elim x5 [ ]
+  run m bytes got first (part ∷ parts) [] state l e g x11 r = elim x11 [ ]
 
 pub cutting : CuttingClaim
 unfolding CuttingClaim

@@ -54,6 +54,8 @@ pub sent_cut : (total : ℕ) → total < 4294967296 → {first : Bool} (flags : 
 unfolding sent
 sent_cut total h (f ∷ []) (part ∷ []) (mark_last k) = cut_last (carries total f part h k.small k)
 sent_cut total h (f ∷ fs) (part ∷ parts) (mark_more k rest) = cut_more (carries total f part h k.small k) (sent_cut total h fs parts rest)
+sent_cut total h {first = first} [] parts x' = elim x' [ ]
+sent_cut total h {first = first} (f ∷ fs) [] x3 = elim x3 [ ]
 
 pub sending : SendingClaim
 unfolding SendingClaim CuttingClaim

@@ -1,6 +1,8 @@
 // Control messages that arrive in chunks (MS-RDPBCGR 2.2.6.1), joined in lent memory: the bytes of
 // the message from its start on, then its total length and how many of its bytes have come. A total
 // of 0 says that nothing is begun. Definitions and proofs only.
+#![tactic(auto)]
+
 use pdu::Read;
 
 // How much memory is lent.

@@ -1,4 +1,6 @@
 // Joins the chunks of a control message in lent memory.
+#![tactic(auto)]
+
 ghost use Rattle.std.specs.Prelude.{◌≡◌, ◌≤◌, length, eqb, ltb};
 ghost use Rattle.wire.specs.Tests.{either, has};
 ghost use Rattle.chunk.specs.Chunk.{most, head_size, flag_first, flag_last, compressed};

@@ -1,4 +1,6 @@
 // Takes the chunks of a control message, and reads the whole message.
+#![tactic(auto)]
+
 ghost use Rattle.chunk.specs.Outcome.{TakeOutcome};
 
 use chunk::{Joined, Taken};

@@ -1,5 +1,6 @@
 // Why an order would be refused: the conditions of each number, the byte offset of the field at fault, and what is told of a state
 // and an order. Types, definitions and laws; `explain_call` tells it.
+#![tactic(auto)]
 
 #[derive(Drop)]
 pub struct Explanation {

@@ -1,4 +1,6 @@
 // Why an order would be refused: the number that delivery would give, and the byte offset of the field at fault.
+#![tactic(auto)]
+
 ghost use Rattle.std.specs.Prelude.{◌≡◌, ◌-◌, ◌≤◌, length};
 ghost use Rattle.wire.specs.Parts.{slice};
 ghost use Rattle.journal.specs.View.{memory, InEachStore};

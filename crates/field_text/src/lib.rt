@@ -1,4 +1,6 @@
 // The fields of a record as text: strings, rectangles, ids and pictures.
+#![tactic(auto)]
+
 pub mod fields;
 pub mod pictures;
 

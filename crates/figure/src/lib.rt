@@ -1,5 +1,7 @@
 // How much is visible: the number of windows that are shown, and the pixels of their visibility rectangles. Both stand behind
 // the index, so that nobody counts again: the pixels of each slot's window 4, the windows that are shown 4, the pixels in all 8.
+#![tactic(auto)]
+
 ghost use Rattle.std.specs.Prelude.{◌≡◌, ◌+◌, ◌<◌, ◌≤◌, length};
 ghost use Rattle.wire.specs.Parts.{splice};
 ghost use Rattle.area.specs.Cutting.{most_points};

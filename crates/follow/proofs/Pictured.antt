@@ -51,6 +51,7 @@ planned_carries x s sound bytes c = go (judge_of s) refl
         let f : o.flags ≡ c.flags = ap (λ (c : Change). c.flags) r in
         let k : o.icon ≡ c.icon = ap (λ (c : Change). c.icon) r in
         rw (f, t, k)
+    of o (ChangeDesktop _) x5 h t = elim x5 [ ]
 
     go : (j : Judged) → judge_of s ≡ j → on_judged j (plan_record x s) ChangeDesktop Refuse ≡ ChangeRecord c → brings_icon c.flags ≡ true
         → on_judged j (λ o. pick (brings_icon o.flags) (carried_picture s o.icon) []) (λ flags. []) (λ n. []) ≡ carried_picture s c.icon

@@ -1,10 +1,12 @@
 // A record with the pictures, the pictures alone or the desktop state followed through the orders of a journal, in a memory of
 // its own. Types, definitions and laws; the functions are in `follow_orders`.
+#![tactic(auto)]
+
 use protocol::{NotifyIconId, WindowId};
 
 // What is followed: nothing, a window by its id, a notification icon by its two ids (each with all pictures), the pictures
 // alone, or the desktop state.
-#[derive(Drop)]
+#[derive(Clone, Copy)]
 pub enum Want {
     Nothing,
     Window(WindowId),

@@ -1,4 +1,6 @@
 // What is looked up taken from the table at the mark and followed through the orders of a journal, in a memory of its own.
+#![tactic(auto)]
+
 ghost use Rattle.std.specs.Prelude.{◌≡◌, ◌+◌, ◌<◌, ◌≤◌, length};
 ghost use Rattle.slots.specs.Families.{index_length};
 ghost use Rattle.table.specs.Memory.{bodies_length};

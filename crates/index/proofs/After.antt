@@ -183,6 +183,7 @@ module _ (x s : List ℕ) (o : RecordOrder) (sound : Sound x) (h : Ordered s o) 
             pointer = omega arith;
             place = p.small;
           }
+      go (ChangeDesktop _) x3 = elim x3 [ ]
 
   pub record_number_lem : plan_number (plan_record x s o) ≡ record_number (index_of x) s o
   record_number_lem = go (plan_record x s o) (outcome x s o sound h)
@@ -190,6 +191,7 @@ module _ (x s : List ℕ) (o : RecordOrder) (sound : Sound x) (h : Ordered s o) 
       go : (w : Plan) → Outcome x s o w → plan_number w ≡ record_number (index_of x) s o
       go (Refuse m) (refused n ne e) = sym e
       go (ChangeRecord c) (changes i place e p) = sym e
+      go (ChangeDesktop _) x3 = elim x3 [ ]
 
   pub record_done : Done x (applied_of x (plan_record x s o)) (pick (eqb (record_number (index_of x) s o) 0) (change_record (index_of x) s o) (index_of x))
   unfolding applied_of
@@ -198,6 +200,7 @@ module _ (x s : List ℕ) (o : RecordOrder) (sound : Sound x) (h : Ordered s o) 
       go : (w : Plan) → Outcome x s o w → Done x (applied_of x w) (pick (eqb (record_number (index_of x) s o) 0) (change_record (index_of x) s o) (index_of x))
       go (Refuse m) (refused n ne e) = rw (e, ne_eqb n 0 ne) (record { index = refl; sound = sound; long = refl })
       go (ChangeRecord c) (changes i place e p) = rw e (changed_done i place p)
+      go (ChangeDesktop _) x3 = elim x3 [ ]
 
 -- ---- the desktop
 

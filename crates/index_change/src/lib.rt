@@ -1,4 +1,6 @@
 // What a plan changes in the index of a table, carried out.
+#![tactic(auto)]
+
 ghost use Rattle.std.specs.Prelude.{◌≡◌, ◌<◌, ◌≤◌, length};
 ghost use Rattle.places.specs.Sizes.{slot_count};
 ghost use Rattle.slots.specs.Families.{index_length};

@@ -1,4 +1,6 @@
 // Judging an order on the index of a table: the first of its numbers that applies, or the plan of what it changes. No byte is changed.
+#![tactic(auto)]
+
 ghost use Rattle.std.specs.Prelude.{◌≡◌, true, not, ◌<◌, ◌≤◌, length};
 ghost use Rattle.wire.specs.Tests.{both};
 ghost use Rattle.places.specs.Sizes.{holder_count, slot_count};

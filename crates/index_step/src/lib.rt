@@ -1,4 +1,6 @@
 // An order judged on the index of a table and carried out in one step: its plan carried out as it is made.
+#![tactic(auto)]
+
 ghost use Rattle.std.specs.Prelude.{◌≡◌, true, false, ◌<◌, ◌≤◌, length};
 ghost use Rattle.wire.specs.Numbers.{num_at};
 ghost use Rattle.single.specs.Single.{delete_flags, BringsCached, BringsIcon};

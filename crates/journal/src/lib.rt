@@ -1,6 +1,7 @@
 // The journal: the orders since the last checkpoint (document 01's history since the mark), and what a memory with it describes.
 // Types, definitions and laws. `journal_replay` replays the orders on an index to validate the memory that is lent to a call;
 // `journal_apply` applies them to the table at a checkpoint.
+#![tactic(auto)]
 
 // The history room: the most orders after a checkpoint, and the most bytes of theirs.
 pub const MOST_ORDERS: usize = 128;
@@ -13,7 +14,7 @@ pub const START: usize = 2;
 pub const LENGTH: usize = 32770;
 
 // How many orders stand and where they end; 0 and 0 where the memory does not meet the rule.
-#[derive(Drop)]
+#[derive(Clone, Copy)]
 pub struct JournalExtent {
     pub count: usize,
     pub end: usize,

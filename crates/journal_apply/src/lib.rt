@@ -1,4 +1,6 @@
 // The journal's orders applied to the table, at a checkpoint.
+#![tactic(auto)]
+
 ghost use Rattle.std.specs.Prelude.{◌≡◌, true, ◌≤◌, length};
 ghost use Rattle.store.specs.Store.{places_in, five};
 ghost use Rattle.table.specs.Memory.{sound_table};

@@ -1,4 +1,6 @@
 // The journal's orders replayed on an index, to validate the memory that is lent to a call; what is looked up is followed on the way.
+#![tactic(auto)]
+
 ghost use Rattle.std.specs.Prelude.{◌≡◌, true, [], ◌≤◌, length};
 ghost use Rattle.slots.specs.Families.{index_length};
 ghost use Rattle.slots.specs.Sound.{sound_index};

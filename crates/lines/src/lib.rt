@@ -1,4 +1,6 @@
 // The lines of a call script's answers: what a call answers, and the record that a lookup hands out, a name=value for each field.
+#![tactic(auto)]
+
 ghost use Rattle.print.specs.Laid.{Laid};
 ghost use Rattle.lines.specs.Lines.{reply_text, update_text, shared_text, record_text, found_text, lists_text};
 

@@ -1,4 +1,6 @@
 // The lists of ids as text.
+#![tactic(auto)]
+
 ghost use Rattle.std.specs.Prelude.{◌≡◌};
 ghost use Rattle.print.specs.Laid.{Laid};
 ghost use Rattle.list_text.specs.Lists.{entry_text, entries_text, laid_of, both_text};

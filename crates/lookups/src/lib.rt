@@ -1,4 +1,6 @@
 // The lookup: what is looked up is followed from the mark through the journal's orders, and handed out in its fixed layout.
+#![tactic(auto)]
+
 ghost use Rattle.std.specs.Prelude.{◌≡◌, ◌+◌, ◌<◌, ◌≤◌, true, ◌++◌, length};
 ghost use Rattle.wire.specs.Parts.{splice};
 ghost use Rattle.places.specs.Sizes.{holder_count};

@@ -1,4 +1,6 @@
 // The flags of an order: its type bits, the closed list of its kind, and the flags that clash.
+#![tactic(auto)]
+
 ghost use Rattle.std.specs.Prelude.{◌≡◌};
 ghost use Rattle.order.specs.Flags.{one_type, closed, clash};
 

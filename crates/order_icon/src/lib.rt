@@ -1,4 +1,6 @@
 // An icon or a cached icon, after the other fields of an order.
+#![tactic(auto)]
+
 ghost use Rattle.std.specs.Prelude.{◌≡◌, ◌+◌, ◌≤◌, length};
 ghost use Rattle.rows.specs.Rows.{Within};
 ghost use Rattle.order.specs.Icons.{tabled, parts_from, parts_of, icon_numbers_bad, icon_bad, cached_numbers_bad, cached_bad, head_cut, parts_cut, icon_fit, cached_fit, picture_fit, icon_whole, cached_whole};

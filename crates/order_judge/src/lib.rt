@@ -1,5 +1,7 @@
 // A windowing order judged whole on its bytes, after `order`: its length and type, its flags, its fields by the rows of its kind, its
 // icon.
+#![tactic(auto)]
+
 ghost use Rattle.std.specs.Prelude.{◌≡◌, ◌≤◌, length};
 ghost use Rattle.rows.specs.Rows.{walk_of, Within};
 ghost use Rattle.order.specs.Judge.{refuse, number_of, order_of, kind_rows, judge_end, judge_rows, judge_flags, judge_of};

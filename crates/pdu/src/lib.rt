@@ -1,15 +1,17 @@
 // The control messages (PDUs) as records. Types, definitions and laws; document 01's rules for their numbers are decided in `pdu_rule`.
+#![tactic(auto)]
+
 use protocol::{NotifyIconId, WindowId};
 
 // The part of the lent bytes where a string stands.
-#[derive(Drop)]
+#[derive(Clone, Copy)]
 pub struct Span {
     pub at: u32,
     pub len: u32,
 }
 
 // TS_RAIL_ORDER_EXEC, type 0001
-#[derive(Drop)]
+#[derive(Clone, Copy)]
 pub struct Execute {
     pub flags: u16,
     pub exe_or_file: Span,
@@ -18,14 +20,14 @@ pub struct Execute {
 }
 
 // TS_RAIL_ORDER_ACTIVATE, type 0002
-#[derive(Drop)]
+#[derive(Clone, Copy)]
 pub struct Activate {
     pub window_id: WindowId,
     pub enabled: u8,
 }
 
 // TS_RAIL_ORDER_SYSCOMMAND, type 0004
-#[derive(Drop)]
+#[derive(Clone, Copy)]
 pub struct SystemCommand {
     pub window_id: WindowId,
     pub command: u16,
@@ -100,14 +102,14 @@ pub struct GetApplicationId {
 }
 
 // TS_RAIL_ORDER_GET_APPID_RESP, type 000F
-#[derive(Drop)]
+#[derive(Clone, Copy)]
 pub struct ApplicationIdResponse {
     pub window_id: WindowId,
     pub application_id: Span,
 }
 
 // TS_RAIL_ORDER_EXEC_RESULT, type 0080
-#[derive(Drop)]
+#[derive(Clone, Copy)]
 pub struct ExecuteResult {
     pub flags: u16,
     pub exec_result: u16,
@@ -125,7 +127,7 @@ pub struct Rectangle {
 }
 
 // TS_HIGHCONTRAST
-#[derive(Drop)]
+#[derive(Clone, Copy)]
 pub struct HighContrast {
     pub flags: u32,
     pub color_scheme: Span,

@@ -1,4 +1,6 @@
 // The record that words stand for.
+#![tactic(auto)]
+
 mod records;
 mod settings;
 

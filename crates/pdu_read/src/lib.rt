@@ -1,4 +1,6 @@
 // Control messages read from lent bytes to words; to a record, in `pdu_read_record`.
+#![tactic(auto)]
+
 ghost use Rattle.std.specs.Prelude.{true, false, ◌≡◌};
 ghost use Rattle.wire.specs.Numbers.{num_at};
 ghost use Rattle.pdu.specs.Settings.{is_byte, is_area, high_contrast};

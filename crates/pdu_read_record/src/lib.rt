@@ -1,4 +1,6 @@
 // A control message read to a record: its words, and the record that they stand for.
+#![tactic(auto)]
+
 ghost use Rattle.std.specs.Prelude.{◌≡◌};
 ghost use Rattle.pdu.specs.RoundTrip.{ReadOutcome};
 ghost use Rattle.pdu_read.specs.Answers.{Answerable, answer_of};

@@ -1,4 +1,6 @@
 // Document 01's rules for the numbers of a control message: what a record may hold (8), and which number is which setting.
+#![tactic(auto)]
+
 ghost use Rattle.std.specs.Prelude.{◌≡◌, leb};
 ghost use Rattle.pdu.specs.Rules.{text_ok, execute_flags_ok, commands, exec_results, execute_allowed, move_size_type_ok, execute_result_allowed};
 ghost use Rattle.pdu.specs.Layout.{one_of};

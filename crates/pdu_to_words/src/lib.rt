@@ -1,4 +1,6 @@
 // The words of a record of each kind.
+#![tactic(auto)]
+
 mod settings;
 mod words;
 

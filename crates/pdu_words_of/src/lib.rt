@@ -1,4 +1,6 @@
 // The words of a record, by its kind.
+#![tactic(auto)]
+
 ghost use Rattle.std.specs.Prelude.{◌≡◌};
 ghost use Rattle.pdu.specs.Settings.{number_of, data_of};
 ghost use Rattle.pdu_words.specs.Words.{setting_words, words_of};

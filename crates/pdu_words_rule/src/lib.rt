@@ -1,4 +1,6 @@
 // Whether words stand for a record.
+#![tactic(auto)]
+
 ghost use Rattle.std.specs.Prelude.{◌≡◌, get_or};
 ghost use Rattle.pdu_words.specs.FromWords.{setting_most, within, stand};
 

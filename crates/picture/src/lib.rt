@@ -1,5 +1,7 @@
 // Pictures at the places of a store: the numbers of each in a head of 14 bytes in state memory, its mask, color table and color in
 // the place.
+#![tactic(auto)]
+
 ghost use Rattle.std.specs.Prelude.{◌≡◌, true, ◌+◌, ◌*◌, ◌-◌, ◌<◌, ◌≤◌, length};
 ghost use Rattle.wire.specs.Parts.{splice};
 ghost use Rattle.order.specs.Icons.{parts_of};

@@ -1,6 +1,7 @@
 // Holders of pictures and the places they point at: 12 cells of the icon cache (holders 0 to 11) and 144 icons of records
 // (holders 12 to 155). The memory: byte 0 the number of places, byte 1 + h the pointer of holder h, 0 for none, else place + 1.
 // Sizes, definitions and proofs: the functions are those of `places_valid`, `places_free`, `places_held` and `places_change`.
+#![tactic(auto)]
 
 // Cells of the icon cache.
 pub const CELLS: usize = 12;
@@ -26,13 +27,13 @@ pub const MOST: u8 = 64;
 pub const POINTERS: usize = 65;
 
 // The records that have icons.
-#[derive(Drop)]
+#[derive(Clone, Copy)]
 pub enum Family {
     Windows,
     Notifications,
 }
 
-#[derive(Drop)]
+#[derive(Clone, Copy)]
 pub enum Found {
     At(usize),
     Nothing,

@@ -1,4 +1,6 @@
 // The changes of the pointers: to take a place, to share one, to let one go.
+#![tactic(auto)]
+
 ghost use Rattle.std.specs.Prelude.{◌≡◌, ◌∷◌, [], ◌+◌, ◌<◌, ◌≤◌, length};
 ghost use Rattle.places.specs.Sizes.{holder_count, holders_length, most_places};
 ghost use Rattle.places.specs.Changes.{point_all, share_of, release_of, release_records_of};

@@ -1,4 +1,6 @@
 // The places that holders point at, marked in one pass over the pointers, and the first that is free once two have let go.
+#![tactic(auto)]
+
 ghost use Rattle.std.specs.Prelude.{◌≡◌, true, ◌∷◌, [], ℕ, ◌+◌, ◌<◌, ◌≤◌, eqb, length, get_or};
 ghost use Rattle.places.specs.Sizes.{holder_count, group_size, most_places, pointer_count};
 ghost use Rattle.places.specs.Counts.{first_from};

@@ -1,4 +1,6 @@
 // The first free place where the first places are known to be held: of those only the two holders' own are looked at.
+#![tactic(auto)]
+
 ghost use Rattle.std.specs.Prelude.{◌≡◌, true, ◌∷◌, [], ◌-◌, ◌<◌, ◌≤◌, ltb, length};
 ghost use Rattle.places.specs.Sizes.{holder_count, holders_length};
 ghost use Rattle.wire.specs.Tests.{pick};

@@ -1,4 +1,6 @@
 // Whether a memory describes holders and places: the rule of `places`.
+#![tactic(auto)]
+
 ghost use Rattle.std.specs.Prelude.{◌≡◌, ℕ, ◌<◌, ◌≤◌, ltb, length};
 ghost use Rattle.places.specs.Sizes.{holder_count, holders_length, pointer_count};
 ghost use Rattle.wire.specs.Tests.{pick};

@@ -1,4 +1,6 @@
 // The figure of the present table counted: each window that its index lists is followed from the mark through the journal's orders.
+#![tactic(auto)]
+
 ghost use Rattle.std.specs.Prelude.{◌≡◌, ◌<◌, ◌≤◌, length};
 ghost use Rattle.places.specs.declared.Family.TheVariants as family;
 ghost use Rattle.slots.specs.Families.{capacity};

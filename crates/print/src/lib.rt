@@ -1,12 +1,12 @@
 // Text laid in lent memory. Each function lays its text from index at on and answers the index after it; what would pass
 // the end of the memory is left out, so that texts laid one after the other are one text.
+#![tactic(auto)]
+
 ghost use Rattle.std.specs.Prelude.{◌≡◌, [], ◌∷◌, ◌++◌, ◌+◌, ◌/◌, ◌%◌, ◌<◌, ◌≤◌, min, length, nat_abs, eqb};
 ghost use Rattle.wire.specs.Parts.{slice};
 ghost use Rattle.wire.specs.Tests.{pick};
 ghost use Rattle.print.specs.Laid.{Laid, laid};
 ghost use Rattle.print.specs.Texts.{hex_digit, hex_text, decimal_text, signed_text, numbers_text, rectangles_text};
-
-use libc::STDOUT_FILENO;
 
 pub mod fill;
 
@@ -196,13 +196,14 @@ pub fn rectangles(out: &mut [u8], at: usize, ns: &[u16]) -> usize
     n
 }
 
-// Ends the line before index at and writes it to standard output. True where the write was whole.
-pub fn end_line(out: &mut [u8], at: usize) -> bool
+// Ends the line before index at and writes it. False where index at is past the end of the memory: nothing is written then.
+pub fn end_line(rt: &impl Print, out: &mut [u8], at: usize) -> std::io::Result<bool>
     ensures { out.new ≡ laid out.old at (10 ∷ []) }
 {
     let n = byte(out, at, b'\n');
     if n > out.len() {
-        return false;
+        return Ok(false);
     }
-    io::write_all(STDOUT_FILENO, &out[0..n])
+    rt.write_all(&out[0..n])?;
+    Ok(true)
 }

@@ -1,5 +1,7 @@
 // Messages read and written by the counter profile: judged by the plain rules, then by the end that sends them and the program that
 // they start.
+#![tactic(auto)]
+
 ghost use Rattle.std.specs.Prelude.{◌+◌, ◌≤◌, true, ◌≡◌, length};
 ghost use Rattle.wire.specs.Tests.{both};
 ghost use Rattle.wire.specs.Parts.{slice};

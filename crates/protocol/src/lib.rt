@@ -1,15 +1,16 @@
 // The protocol's numbers that have no place of their own: ids, and the bits of an order's flags.
+#![tactic(auto)]
 
 // Ids that a server or an application gives. They are separate counts: one never serves for the other.
 
 // A window's id, given by the server.
-#[derive(Drop)]
+#[derive(Clone, Copy)]
 pub struct WindowId {
     pub id: u32,
 }
 
 // A notification icon's id, given by the application that owns its window.
-#[derive(Drop)]
+#[derive(Clone, Copy)]
 pub struct NotifyIconId {
     pub id: u32,
 }

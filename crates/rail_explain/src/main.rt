@@ -1,9 +1,14 @@
 // Tells why an order would be refused. The first argument names a file with the state, its parts end to end and then its places,
 // the second one with the order. Prints the number, its words and, where it is not 0, the offset of the field at fault.
+#![tactic(auto)]
+
 ghost use Rattle.std.specs.Prelude.{◌≤◌, length};
 
 use explain::Explanation;
-use libc::STDERR_FILENO;
+use std::env::FillError;
+use std::fs::File;
+use std::io;
+use std::rt::{Env, Files};
 
 mod words;
 
@@ -16,92 +21,92 @@ const ORDER: usize = 65536;
 // The longest text: the longest words, two numbers of up to 20 digits, and the ends of three lines.
 const TEXT: usize = 160;
 
-// A file: whether it can be read, and how many of its bytes were.
+// What was read of a file: whether it can be read, and how many of its bytes were.
 #[derive(Drop)]
-struct File {
+struct Content {
     pub fit: bool,
     pub len: usize,
 }
 
-fn unfit() -> File
+fn unfit() -> Content
     ensures { result.len ≤ 0 }
 {
-    File { fit: false, len: 0 }
+    Content { fit: false, len: 0 }
 }
 
 // Reads the file that argument i names, as much of it as out has room for. Nothing where it cannot be read.
-fn read(i: usize, out: &mut [u8]) -> File
+fn read(rt: &(impl Env + Files), i: usize, out: &mut [u8]) -> Content
     ensures { result.len ≤ length out.new }
 {
-    let mut path = io::buffer();
-    let n = os::arg(i, &mut path);
-    let fd = os::open_read(&path[..n]);
-    if fd < 0 {
+    let mut path = [0u8; 4096];
+    let Ok(n) = rt.arg(i, &mut path) else {
         return unfit();
+    };
+    let Ok(name) = str::from_utf8(&path[..n]) else {
+        return unfit();
+    };
+    let Ok(mut file) = File::open(rt, name) else {
+        return unfit();
+    };
+    match input::fill(&mut file, out) {
+        Ok(len) => Content { fit: true, len },
+        Err(_) => unfit(),
     }
-    let len = io::read_full(fd, out);
-    let mut fit = true;
-    if len == 0 {
-        // a further read tells an empty file from a folder
-        fit = libc::read(fd, &mut path) >= 0;
-    }
-    libc::close(fd);
-    File { fit, len }
 }
 
-fn tell(e: Explanation) {
-    let mut out = [0u8; TEXT];
-    let n = print::decimal(&mut out, 0, e.number as u64);
-    let n = print::byte(&mut out, n, b'\n');
-    let n = words::lay(&mut out, n, e.number);
+// Lays what the program prints without the end of the last line, and answers where it ends.
+fn lay(out: &mut [u8], e: Explanation) -> usize {
+    let n = print::decimal(out, 0, e.number as u64);
+    let n = print::byte(out, n, b'\n');
+    let n = words::lay(out, n, e.number);
     if e.number != 0 {
-        let n = print::byte(&mut out, n, b'\n');
-        let n = print::decimal(&mut out, n, e.at as u64);
-        print::end_line(&mut out, n);
-        return;
+        let n = print::byte(out, n, b'\n');
+        return print::decimal(out, n, e.at as u64);
     }
-    print::end_line(&mut out, n);
+    n
 }
 
 // Whether there is an argument after the two.
-fn is_more() -> bool {
-    let mut word = io::buffer();
-    os::arg(3, &mut word) > 0
+fn is_more(rt: &impl Env) -> bool {
+    let mut word = [0u8; 1];
+    match rt.arg(3, &mut word) {
+        Ok(n) => n > 0,
+        Err(FillError::NotPresent) => false,
+        Err(_) => true,
+    }
 }
 
 // Says on standard error what is wrong with the arguments, and how the program is used.
-fn tell_unfit(state: bool, order: bool) {
+fn tell_unfit(rt: &(impl Env + Eprint), state: bool, order: bool) -> io::Result<()> {
     if !state {
-        io::write_all(
-            STDERR_FILENO,
-            b"rail_explain: STATE cannot be read, and counts as empty\n",
-        );
+        eprintln!(rt; "rail_explain: STATE cannot be read, and counts as empty")?;
     }
     if !order {
-        io::write_all(
-            STDERR_FILENO,
-            b"rail_explain: ORDER cannot be read, and counts as empty\n",
-        );
+        eprintln!(rt; "rail_explain: ORDER cannot be read, and counts as empty")?;
     }
-    if !state | !order | is_more() {
-        io::write_all(
-            STDERR_FILENO,
-            b"usage: rail_explain STATE ORDER, the names of two files (docs/FORMATS.md)\n",
-        );
+    if !state | !order | is_more(rt) {
+        eprintln!(rt; "usage: rail_explain STATE ORDER, the names of two files (docs/FORMATS.md)")?;
     }
+    Ok(())
 }
 
-fn run(state: &mut [u8], order: &mut [u8]) {
-    let s = read(1, state);
-    let o = read(2, order);
+fn run(
+    rt: &(impl Env + Eprint + Files + Print),
+    state: &mut [u8],
+    order: &mut [u8],
+) -> io::Result<()> {
+    let s = read(rt, 1, state);
+    let o = read(rt, 2, order);
     let n = s.len;
     let k = o.len;
-    tell(explain_call::in_one(&state[0..n], &order[0..k]));
-    tell_unfit(s.fit, o.fit);
+    let mut out = [0u8; TEXT];
+    let end = lay(&mut out, explain_call::in_one(&state[0..n], &order[0..k]));
+    print::end_line(rt, &mut out, end)?;
+    tell_unfit(rt, s.fit, o.fit)
 }
 
-fn main() {
+fn main(rt: HostRuntime) -> io::Result<()> {
     let mut state = [0u8; STATE];
     let mut order = [0u8; ORDER];
-    run(&mut state, &mut order);
+    run(&rt, &mut state, &mut order)
 }

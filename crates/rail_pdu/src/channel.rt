@@ -3,12 +3,13 @@
 ghost use Rattle.std.specs.Prelude.{◌≤◌};
 
 use crate::item;
+use crate::item::Outcome;
 use chunk::Joined;
 
-// Whether the run goes on, and how many bytes the next call on the chunk memory lacks.
+// What an item came to, and how many bytes the next call on the chunk memory lacks.
 #[derive(Drop)]
 pub(crate) struct Turn {
-    pub on: bool,
+    pub outcome: Outcome,
     pub lack: usize,
 }
 
@@ -20,16 +21,13 @@ fn number_of(answer: Joined) -> u32 {
     }
 }
 
-// Prints what the whole message, the first len bytes of the memory, reads as.
-fn whole_line(memory: &[u8], len: usize, out: &mut [u8]) -> bool {
-    if len > memory.len() {
-        return false;
-    }
-    item::read_line(b'K', &memory[0..len], out)
+// What the whole message, the first len bytes of the memory, reads as.
+fn whole_line(memory: &[u8], len: usize, out: &mut [u8]) -> usize {
+    item::read_line(b'K', &memory[0..print::least(len, memory.len())], out)
 }
 
-// K: joins the chunk s and prints what the whole message reads as, the refusal, or that more is awaited.
-fn chunk_call(memory: &mut [u8], s: &[u8], out: &mut [u8]) -> bool {
+// K: joins the chunk s: what the whole message reads as, the refusal, or that more is awaited.
+fn chunk_line(memory: &mut [u8], s: &[u8], out: &mut [u8]) -> usize {
     let answer = chunk_join::join(memory, s);
     let Joined::Whole(len) = answer else {
         return item::number_line(b'K', number_of(answer), out);
@@ -38,18 +36,18 @@ fn chunk_call(memory: &mut [u8], s: &[u8], out: &mut [u8]) -> bool {
 }
 
 // E: empties the chunk memory.
-fn reset_call(memory: &mut [u8], s: &[u8], out: &mut [u8]) -> bool {
+fn reset_call(memory: &mut [u8], s: &[u8], out: &mut [u8]) -> Outcome {
     if s.len() != 0 {
-        return item::bad_item();
+        return Outcome::BadItem;
     }
     let number = chunk_join::reset(memory);
-    item::number_line(b'E', number as u32, out)
+    Outcome::Line(item::number_line(b'E', number as u32, out))
 }
 
 // K, E: the calls on the chunk memory as it is lent.
-fn memory_call(memory: &mut [u8], kind: u8, s: &[u8], out: &mut [u8]) -> bool {
+fn memory_call(memory: &mut [u8], kind: u8, s: &[u8], out: &mut [u8]) -> Outcome {
     if kind == b'K' {
-        return chunk_call(memory, s, out);
+        return Outcome::Line(chunk_line(memory, s, out));
     }
     reset_call(memory, s, out)
 }
@@ -68,34 +66,39 @@ fn lent(len: usize, lack: usize) -> usize
 fn shorten(s: &[u8]) -> Turn {
     let lack = wire::read_u16(s, 0) as usize;
     if (s.len() != 2) | (lack == 0) {
-        let on = item::bad_item();
-        return Turn { on, lack };
+        return Turn {
+            outcome: Outcome::BadItem,
+            lack,
+        };
     }
-    Turn { on: true, lack }
+    Turn {
+        outcome: Outcome::Silent,
+        lack,
+    }
 }
 
 // X: a byte of the memory changes.
-fn fault(memory: &mut [u8], s: &[u8]) -> bool {
+fn fault(memory: &mut [u8], s: &[u8]) -> Outcome {
     if s.len() != 5 {
-        return item::bad_item();
+        return Outcome::BadItem;
     }
     let at = wire::read_u32(s, 0) as usize;
     if at >= memory.len() {
-        return item::bad_item();
+        return Outcome::BadItem;
     }
     memory[at] = memory[at] ^ wire::read_u8(s, 4);
-    true
+    Outcome::Silent
 }
 
 // A call on the chunk memory, lent what it does not lack; the next one is lent the whole again.
 fn lent_call(memory: &mut [u8], lack: usize, kind: u8, s: &[u8], out: &mut [u8]) -> Turn {
     let n = lent(memory.len(), lack);
-    let on = memory_call(&mut memory[0..n], kind, s, out);
-    Turn { on, lack: 0 }
+    let outcome = memory_call(&mut memory[0..n], kind, s, out);
+    Turn { outcome, lack: 0 }
 }
 
 // An item that is no call on the chunk memory: the next one lacks what it lacked.
-fn other(memory: &mut [u8], kind: u8, s: &[u8], out: &mut [u8]) -> bool {
+fn other(memory: &mut [u8], kind: u8, s: &[u8], out: &mut [u8]) -> Outcome {
     if kind == b'X' {
         return fault(memory, s);
     }
@@ -108,8 +111,8 @@ pub(crate) fn run_item(memory: &mut [u8], lack: usize, kind: u8, s: &[u8], out: 
         b'K' | b'E' => lent_call(memory, lack, kind, s, out),
         b'T' => shorten(s),
         _ => {
-            let on = other(memory, kind, s, out);
-            Turn { on, lack }
+            let outcome = other(memory, kind, s, out);
+            Turn { outcome, lack }
         }
     }
 }

@@ -1,11 +1,11 @@
-// The items of a script: each is a kind (1 byte), a length (2) and a payload. A function that ends
-// an item answers whether the run goes on.
-ghost use Rattle.std.specs.Prelude.{◌≤◌, length};
+// The items of a script: each is a kind (1 byte), a length (2) and a payload. A function whose name ends in
+// line lays a line without its end, and answers where it ends.
+ghost use Rattle.std.specs.Prelude.{◌≤◌, length, IfOk};
 
-use crate::channel::Turn;
 use crate::{channel, record, show};
-use libc::{STDERR_FILENO, STDIN_FILENO, STDOUT_FILENO};
-use pdu::{Read, Written};
+use pdu::Written;
+use std::io;
+use std::io::Read;
 
 // The most output memory that an item can ask for.
 const SIZE_MAX: usize = 17408;
@@ -18,46 +18,62 @@ struct Item {
     len: usize,
 }
 
-// The input is no script: the line that ends a run, and on standard error how the program is used.
-pub(crate) fn bad_item() -> bool {
-    io::write_all(STDOUT_FILENO, b"bad item\n");
-    io::write_all(
-        STDERR_FILENO,
-        b"usage: rail_pdu < SCRIPT, a call script of messages (docs/FORMATS.md); second pdu < SCRIPT tells which item is bad\n",
-    );
-    false
+// What an item comes to. Line: a line lies in the memory for it, up to there without its end.
+#[derive(Drop)]
+pub(crate) enum Outcome {
+    Line(usize),
+    Silent,
+    MemoryChanged,
+    BadItem,
 }
 
-fn memory_changed() -> bool {
-    io::write_all(STDOUT_FILENO, b"output memory changed\n");
-    false
+// The input is no script: the line that ends a run, and on standard error how the program is used.
+fn tell_bad(rt: &(impl Print + Eprint)) -> io::Result<()> {
+    println!(rt; "bad item")?;
+    eprintln!(rt;
+        "usage: rail_pdu < SCRIPT, a call script of messages (docs/FORMATS.md); second pdu < SCRIPT tells which item is bad"
+    )
+}
+
+// Prints what an item came to, and answers whether the run goes on.
+fn tell(rt: &(impl Print + Eprint), outcome: Outcome, out: &mut [u8]) -> io::Result<bool> {
+    match outcome {
+        Outcome::Line(n) => print::end_line(rt, out, n),
+        Outcome::Silent => Ok(true),
+        Outcome::MemoryChanged => {
+            println!(rt; "output memory changed")?;
+            Ok(false)
+        }
+        Outcome::BadItem => {
+            tell_bad(rt)?;
+            Ok(false)
+        }
+    }
 }
 
 // The line of a call that answers a number alone.
-pub(crate) fn number_line(kind: u8, number: u32, out: &mut [u8]) -> bool {
-    let n = print::field(out, 0, &[kind, b' '], number as u64);
-    print::end_line(out, n)
+pub(crate) fn number_line(kind: u8, number: u32, out: &mut [u8]) -> usize {
+    print::field(out, 0, &[kind, b' '], number as u64)
 }
 
 // The line of a granted read: the record that words stand for, its strings in s.
-fn record_line(kind: u8, words: &[u32; 12], s: &[u8], out: &mut [u8]) -> bool {
+fn record_line(kind: u8, words: &[u32; 12], s: &[u8], out: &mut [u8]) -> usize {
     let n = print::byte(out, 0, kind);
     let n = print::text(out, n, b" 0 type=");
-    let n = show::record(out, n, s, words);
-    print::end_line(out, n)
+    show::record(out, n, s, words)
 }
 
-fn number_of(answer: Read) -> u32 {
+fn number_of(answer: pdu::Read) -> u32 {
     match answer {
-        Read::Message(_) => 0,
-        Read::Refused(number) => number as u32,
+        pdu::Read::Message(_) => 0,
+        pdu::Read::Refused(number) => number as u32,
     }
 }
 
 // Reads the message s by the plain rules: the number, and the words of its record where that is 0.
 fn read_plain(s: &[u8], words: &mut [u32; 12]) -> u32 {
     let answer = pdu_read_record::read_pdu(s);
-    let Read::Message(p) = answer else {
+    let pdu::Read::Message(p) = answer else {
         return number_of(answer);
     };
     pdu_words_of::words_of(words, p);
@@ -72,8 +88,8 @@ fn read_words(kind: u8, s: &[u8], words: &mut [u32; 12]) -> u32 {
     read_plain(s, words)
 }
 
-// Reads the message s and prints its record, or the refusal, after the kind of its item.
-pub(crate) fn read_line(kind: u8, s: &[u8], out: &mut [u8]) -> bool {
+// Reads the message s: the line of its record, or of the refusal, after the kind of its item.
+pub(crate) fn read_line(kind: u8, s: &[u8], out: &mut [u8]) -> usize {
     let mut words = [0u32; 12];
     let number = read_words(kind, s, &mut words);
     if number != 0 {
@@ -94,24 +110,23 @@ fn is_kept(memory: &[u8], at: usize) -> bool {
     true
 }
 
-fn bytes_line(kind: u8, bytes: &[u8], out: &mut [u8]) -> bool {
+fn bytes_line(kind: u8, bytes: &[u8], out: &mut [u8]) -> usize {
     let n = print::text(out, 0, &[kind, b' ', b'0', b' ']);
-    let n = print::hex(out, n, bytes);
-    print::end_line(out, n)
+    print::hex(out, n, bytes)
 }
 
-// The line of a write of n bytes, none where it is refused: past them it has to leave the memory as it was.
-fn written(kind: u8, memory: &[u8], n: usize, number: u8, out: &mut [u8]) -> bool {
+// What a write of n bytes comes to, none where it is refused: past them it has to leave the memory as it was.
+fn written(kind: u8, memory: &[u8], n: usize, number: u8, out: &mut [u8]) -> Outcome {
     if n > memory.len() {
-        return memory_changed();
+        return Outcome::MemoryChanged;
     }
     if !is_kept(memory, n) {
-        return memory_changed();
+        return Outcome::MemoryChanged;
     }
     if number != 0 {
-        return number_line(kind, number as u32, out);
+        return Outcome::Line(number_line(kind, number as u32, out));
     }
-    bytes_line(kind, &memory[0..n], out)
+    Outcome::Line(bytes_line(kind, &memory[0..n], out))
 }
 
 // Writes the record that words stand for, its strings in s, by the plain rules.
@@ -130,7 +145,7 @@ fn write(kind: u8, words: &[u32; 12], s: &[u8], memory: &mut [u8]) -> Written {
     write_plain(words, s, memory)
 }
 
-fn write_line(kind: u8, words: &[u32; 12], s: &[u8], memory: &mut [u8], out: &mut [u8]) -> bool {
+fn write_to(kind: u8, words: &[u32; 12], s: &[u8], memory: &mut [u8], out: &mut [u8]) -> Outcome {
     match write(kind, words, s, memory) {
         Written::Bytes(n) => written(kind, memory, n, 0, out),
         Written::Refused(number) => written(kind, memory, 0, number, out),
@@ -138,28 +153,28 @@ fn write_line(kind: u8, words: &[u32; 12], s: &[u8], memory: &mut [u8], out: &mu
 }
 
 // Writes to a memory of size bytes.
-fn sized_write(kind: u8, words: &[u32; 12], s: &[u8], size: usize, out: &mut [u8]) -> bool {
+fn sized_write(kind: u8, words: &[u32; 12], s: &[u8], size: usize, out: &mut [u8]) -> Outcome {
     if size > SIZE_MAX {
-        return bad_item();
+        return Outcome::BadItem;
     }
     let mut memory = [0xEEu8; SIZE_MAX];
-    write_line(kind, words, s, &mut memory[0..size], out)
+    write_to(kind, words, s, &mut memory[0..size], out)
 }
 
 // P, p: writes the record of the payload s.
-fn write_call(kind: u8, s: &[u8], out: &mut [u8]) -> bool {
+fn write_call(kind: u8, s: &[u8], out: &mut [u8]) -> Outcome {
     let mut words = [0u32; 12];
     if !record::read(s, &mut words) {
-        return bad_item();
+        return Outcome::BadItem;
     }
     sized_write(kind, &words, s, wire::read_u16(s, 0) as usize, out)
 }
 
-pub(crate) fn call(kind: u8, s: &[u8], out: &mut [u8]) -> bool {
+pub(crate) fn call(kind: u8, s: &[u8], out: &mut [u8]) -> Outcome {
     match kind {
-        b'R' | b'r' => read_line(kind, s, out),
+        b'R' | b'r' => Outcome::Line(read_line(kind, s, out)),
         b'P' | b'p' => write_call(kind, s, out),
-        _ => bad_item(),
+        _ => Outcome::BadItem,
     }
 }
 
@@ -173,45 +188,58 @@ fn no_item() -> Item
     }
 }
 
-fn cut_item() -> Item
-    ensures { result.len ≤ 0 }
+fn cut_item(rt: &(impl Print + Eprint)) -> io::Result<Item>
+    ensures { IfOk result (λ item. item.len ≤ 0) }
 {
-    bad_item();
-    no_item()
+    tell_bad(rt)?;
+    Ok(no_item())
 }
 
 // Reads an item, and its payload into the payload's memory.
-fn read(payload: &mut [u8]) -> Item
-    ensures { result.len ≤ length payload.new }
+fn read(rt: &(impl Print + Eprint), input: &mut impl Read, payload: &mut [u8]) -> io::Result<Item>
+    ensures { IfOk result (λ item. item.len ≤ length payload.new) }
 {
     let mut head = [0u8; 3];
-    let got = io::read_full(STDIN_FILENO, &mut head);
+    let got = input::fill(input, &mut head)?;
     if got == 0 {
-        return no_item();
+        return Ok(no_item());
     }
     let len = wire::read_u16(&head, 1) as usize;
     if got < 3 {
-        return cut_item();
+        return cut_item(rt);
     }
     if len > payload.len() {
-        return cut_item();
+        return cut_item(rt);
     }
-    if io::read_full(STDIN_FILENO, &mut payload[0..len]) < len {
-        return cut_item();
+    if input::fill(input, &mut payload[0..len])? < len {
+        return cut_item(rt);
     }
-    Item {
+    Ok(Item {
         whole: true,
         kind: wire::read_u8(&head, 0),
         len,
-    }
+    })
 }
 
-// Reads an item and runs it, with out as the memory of its line.
-pub(crate) fn next(memory: &mut [u8], payload: &mut [u8], out: &mut [u8], lack: usize) -> Turn {
-    let i = read(payload);
+// Reads an item, runs it with out as the memory of its line, and prints that. Answers how many bytes the next call on the chunk
+// memory lacks, or that the run ends.
+pub(crate) fn next(
+    rt: &(impl Print + Eprint),
+    input: &mut impl Read,
+    memory: &mut [u8],
+    payload: &mut [u8],
+    out: &mut [u8],
+    lack: usize,
+) -> io::Result<Option<usize>> {
+    let i = read(rt, input, payload)?;
     if !i.whole {
-        return Turn { on: false, lack };
+        return Ok(None);
     }
     let len = i.len;
-    channel::run_item(memory, lack, i.kind, &payload[0..len], out)
+    let t = channel::run_item(memory, lack, i.kind, &payload[0..len], out);
+    let lack = t.lack;
+    if tell(rt, t.outcome, out)? {
+        return Ok(Some(lack));
+    }
+    Ok(None)
 }

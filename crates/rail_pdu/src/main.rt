@@ -1,30 +1,39 @@
 // Runs a call script of control messages and their chunks through the library and prints what each
 // call answers.
+#![tactic(auto)]
+
 mod channel;
 mod fields;
 mod item;
 mod record;
 mod show;
 
-// A proved loop has to end, and nothing says that the input does: the items are counted down from
-// a number that no run uses up.
-fn run(memory: &mut [u8], payload: &mut [u8], out: &mut [u8]) {
+use std::io;
+use std::io::Read;
+
+// A proved loop has to end, and nothing says that the input does: the items are counted up to a
+// number that no run reaches.
+fn run(
+    rt: &(impl Print + Eprint),
+    input: &mut impl Read,
+    memory: &mut [u8],
+    payload: &mut [u8],
+    out: &mut [u8],
+) -> io::Result<()> {
     chunk_join::reset(memory);
     let mut lack = 0;
-    let mut turns = u64::MAX;
-    while turns > 0 {
-        let t = item::next(memory, payload, out, lack);
-        if !t.on {
-            return;
-        }
-        lack = t.lack;
-        turns -= 1;
+    for _ in 0..u64::MAX {
+        let Some(next) = item::next(rt, input, memory, payload, out, lack)? else {
+            break;
+        };
+        lack = next;
     }
+    Ok(())
 }
 
-fn main() {
+fn main(rt: HostRuntime) -> io::Result<()> {
     let mut memory = [0xEEu8; chunk::MEMORY];
     let mut payload = [0u8; 65535];
     let mut out = [0u8; 36864];
-    run(&mut memory, &mut payload, &mut out);
+    run(&rt, &mut rt.reader(), &mut memory, &mut payload, &mut out)
 }

@@ -7,7 +7,7 @@ use std::num::wrapping_add_u32;
 const FIELDS: u32 = 4;
 
 // What is next: the number of a word, the index of a field, the place of a string.
-#[derive(Drop)]
+#[derive(Clone, Copy)]
 struct Cursor {
     word: usize,
     field: u32,

@@ -1,15 +1,22 @@
 // Delivers the orders on standard input and prints, at each mark, how many windows are shown and how many of their pixels are visible.
+#![tactic(auto)]
+
 mod item;
 mod marks;
 mod turn;
+
+use std::io;
+use std::io::Read;
 
 // The parts of the store: room for 64 places in all.
 pub(crate) const MANY: usize = 15 * store::PLACE;
 
 pub(crate) const FEW: usize = 4 * store::PLACE;
 
-// A proved loop has to end, and nothing says that the input does: the items are counted down from a number that no run uses up.
+// A proved loop has to end, and nothing says that the input does: the items are counted up to a number that no run reaches.
 fn run(
+    rt: &(impl Print + Eprint),
+    input: &mut impl Read,
     index: &mut [u8; session::INDEX],
     bodies: &mut [u8; session::BODIES],
     a: &mut [u8; MANY],
@@ -19,23 +26,22 @@ fn run(
     e: &mut [u8; FEW],
     journal: &mut [u8; session::JOURNAL],
     payload: &mut [u8; item::PAYLOAD],
-) {
-    if !turn::begin(index, bodies, a, b, c, d, e, journal) {
-        return;
-    }
+) -> io::Result<()> {
+    turn::begin(rt, index, bodies, a, b, c, d, e, journal)?;
     let mut marks = 0;
-    let mut turns = u64::MAX;
-    while turns > 0 {
-        let t = turn::next(index, bodies, a, b, c, d, e, journal, payload, marks);
+    for turns in 0..u64::MAX {
+        let t = turn::next(
+            rt, input, index, bodies, a, b, c, d, e, journal, payload, marks,
+        )?;
         if !t.on {
-            return;
+            break;
         }
         marks = t.marks;
-        turns -= 1;
     }
+    Ok(())
 }
 
-fn main() {
+fn main(rt: HostRuntime) -> io::Result<()> {
     let mut index = [0u8; session::INDEX];
     let mut bodies = [0u8; session::BODIES];
     let mut a = [0u8; MANY];
@@ -46,6 +52,8 @@ fn main() {
     let mut journal = [0u8; session::JOURNAL];
     let mut payload = [0u8; item::PAYLOAD];
     run(
+        &rt,
+        &mut rt.reader(),
         &mut index,
         &mut bodies,
         &mut a,
@@ -55,5 +63,5 @@ fn main() {
         &mut e,
         &mut journal,
         &mut payload,
-    );
+    )
 }

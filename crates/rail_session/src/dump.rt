@@ -65,11 +65,10 @@ fn state(out: &mut [u8], at: usize, memory: &[u8; MEMORY], l: Lending) -> usize 
     print::hex(out, n, lending::part(memory, lending::JOURNAL, l))
 }
 
-// The line. What the next call lacks is printed too.
-pub(crate) fn line(memory: &[u8; MEMORY], out: &mut [u8], l: Lending) -> bool {
+// Lays the line without its end, and answers where it ends. What the next call lacks is printed too.
+pub(crate) fn line(memory: &[u8; MEMORY], out: &mut [u8], l: Lending) -> usize {
     let whole = lending::whole(l);
     let n = print::text(out, 0, b"Z ");
     let n = state(out, n, memory, whole);
-    let n = places(out, n, memory, whole);
-    print::end_line(out, n)
+    places(out, n, memory, whole)
 }

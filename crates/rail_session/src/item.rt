@@ -1,8 +1,9 @@
 // The items of a script: each is a kind (1 byte), a length (2) and a payload.
-ghost use Rattle.std.specs.Prelude.{◌≤◌, length};
+ghost use Rattle.std.specs.Prelude.{◌≤◌, length, IfOk};
 
 use crate::{batch, holders};
-use libc::{STDERR_FILENO, STDIN_FILENO, STDOUT_FILENO};
+use std::io;
+use std::io::Read;
 
 // The most bytes of a payload.
 pub(crate) const PAYLOAD: usize = 65535;
@@ -16,12 +17,11 @@ pub(crate) struct Item {
 }
 
 // The input is no script: the line that ends a run, and on standard error how the program is used.
-pub(crate) fn tell_bad() {
-    io::write_all(STDOUT_FILENO, b"bad item\n");
-    io::write_all(
-        STDERR_FILENO,
-        b"usage: rail_session < SCRIPT, a call script of state calls (docs/FORMATS.md); second session < SCRIPT tells which item is bad\n",
-    );
+pub(crate) fn tell_bad(rt: &(impl Print + Eprint)) -> io::Result<()> {
+    println!(rt; "bad item")?;
+    eprintln!(rt;
+        "usage: rail_session < SCRIPT, a call script of state calls (docs/FORMATS.md); second session < SCRIPT tells which item is bad"
+    )
 }
 
 fn no_item() -> Item
@@ -34,11 +34,11 @@ fn no_item() -> Item
     }
 }
 
-fn cut_item() -> Item
-    ensures { result.len ≤ 0 }
+fn cut_item(rt: &(impl Print + Eprint)) -> io::Result<Item>
+    ensures { IfOk result (λ item. item.len ≤ 0) }
 {
-    tell_bad();
-    no_item()
+    tell_bad(rt)?;
+    Ok(no_item())
 }
 
 // Whether an item of a kind can have a payload of len bytes.
@@ -59,28 +59,32 @@ fn is_listed(kind: u8, len: usize) -> bool {
 }
 
 // Reads an item, and its payload into the payload's memory.
-pub(crate) fn read(payload: &mut [u8]) -> Item
-    ensures { result.len ≤ length payload.new }
+pub(crate) fn read(
+    rt: &(impl Print + Eprint),
+    input: &mut impl Read,
+    payload: &mut [u8],
+) -> io::Result<Item>
+    ensures { IfOk result (λ item. item.len ≤ length payload.new) }
 {
     let mut head = [0u8; 3];
-    let got = io::read_full(STDIN_FILENO, &mut head);
+    let got = input::fill(input, &mut head)?;
     if got == 0 {
-        return no_item();
+        return Ok(no_item());
     }
     let kind = wire::read_u8(&head, 0);
     let len = wire::read_u16(&head, 1) as usize;
     if (got < 3) | !is_listed(kind, len) {
-        return cut_item();
+        return cut_item(rt);
     }
     if len > payload.len() {
-        return cut_item();
+        return cut_item(rt);
     }
-    if io::read_full(STDIN_FILENO, &mut payload[0..len]) < len {
-        return cut_item();
+    if input::fill(input, &mut payload[0..len])? < len {
+        return cut_item(rt);
     }
-    Item {
+    Ok(Item {
         whole: true,
         kind,
         len,
-    }
+    })
 }

@@ -23,7 +23,7 @@ const MANY: usize = 15 * store::PLACE;
 const FEW: usize = 4 * store::PLACE;
 
 // The lengths of the parts, and how many bytes of a part the next call is not lent.
-#[derive(Drop)]
+#[derive(Clone, Copy)]
 pub(crate) struct Lending {
     pub lengths: [usize; 8],
     pub part: u8,

@@ -1,16 +1,10 @@
 // The items of the session record: O writes it, V reads one.
 use crate::lending;
 use crate::lending::{Lending, MEMORY};
-use libc::STDOUT_FILENO;
 use session::Reply;
 
 // The most bytes that an item lends.
 const LENT: usize = 65535;
-
-fn memory_changed() -> bool {
-    io::write_all(STDOUT_FILENO, b"output memory changed\n");
-    false
-}
 
 // Whether each byte from index at on is EE still.
 fn is_kept(memory: &[u8], at: usize) -> bool {
@@ -43,29 +37,32 @@ fn write(state: &[u8; MEMORY], memory: &mut [u8], l: Lending) -> Reply {
     )
 }
 
-// A write to memory with EE in each byte. Past the bytes written it has to be as it was.
-fn write_to(state: &[u8; MEMORY], memory: &mut [u8], out: &mut [u8], l: Lending) -> bool {
+// A write to memory with EE in each byte: where the line of it ends. None where the memory is not as it was past the bytes written.
+fn write_to(state: &[u8; MEMORY], memory: &mut [u8], out: &mut [u8], l: Lending) -> Option<usize> {
     let r = write(state, memory, l);
     let n = written(r);
     if n > memory.len() {
-        return memory_changed();
+        return None;
     }
     if !is_kept(memory, n) {
-        return memory_changed();
+        return None;
     }
-    let end = lines::records::written(out, r, &memory[0..n]);
-    print::end_line(out, end)
+    Some(lines::records::written(out, r, &memory[0..n]))
 }
 
 // O: a write to memory of the size that the payload names.
-pub(crate) fn write_call(state: &[u8; MEMORY], s: &[u8], out: &mut [u8], l: Lending) -> bool {
+pub(crate) fn write_call(
+    state: &[u8; MEMORY],
+    s: &[u8],
+    out: &mut [u8],
+    l: Lending,
+) -> Option<usize> {
     let size = wire::read_u16(s, 0) as usize;
     let mut memory = [0xEEu8; LENT];
     write_to(state, &mut memory[0..size], out, l)
 }
 
 // V: a record read.
-pub(crate) fn read_call(s: &[u8], out: &mut [u8]) -> bool {
-    let n = lines::records::read(out, s);
-    print::end_line(out, n)
+pub(crate) fn read_call(s: &[u8], out: &mut [u8]) -> usize {
+    lines::records::read(out, s)
 }

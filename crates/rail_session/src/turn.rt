@@ -1,17 +1,53 @@
 // A turn: an item read and run.
 use crate::lending::{Lending, MEMORY};
 use crate::{batch, calls, dump, faults, holders, item, lending, look, records};
+use std::io;
+use std::io::Read;
 
-// Whether the run goes on, and what the next call is lent.
+// What an item comes to. Line: a line lies in the memory for it, up to there without its end.
 #[derive(Drop)]
-pub(crate) struct Turn {
-    pub on: bool,
+enum Outcome {
+    Line(usize),
+    Silent,
+    MemoryChanged,
+    BadItem,
+}
+
+// What an item came to, and what the next call is lent.
+#[derive(Drop)]
+struct Turn {
+    pub outcome: Outcome,
     pub lending: Lending,
 }
 
 fn bad(lending: Lending) -> Turn {
-    item::tell_bad();
-    Turn { on: false, lending }
+    Turn {
+        outcome: Outcome::BadItem,
+        lending,
+    }
+}
+
+fn silent(lending: Lending) -> Turn {
+    Turn {
+        outcome: Outcome::Silent,
+        lending,
+    }
+}
+
+// Prints what an item came to, and answers whether the run goes on.
+fn tell(rt: &(impl Print + Eprint), outcome: Outcome, out: &mut [u8]) -> io::Result<bool> {
+    match outcome {
+        Outcome::Line(n) => print::end_line(rt, out, n),
+        Outcome::Silent => Ok(true),
+        Outcome::MemoryChanged => {
+            println!(rt; "output memory changed")?;
+            Ok(false)
+        }
+        Outcome::BadItem => {
+            item::tell_bad(rt)?;
+            Ok(false)
+        }
+    }
 }
 
 // Makes a call on the state memory as it is lent, and lays its line, whose length it answers.
@@ -29,16 +65,21 @@ fn call(memory: &mut [u8; MEMORY], kind: u8, s: &[u8], out: &mut [u8], l: Lendin
     }
 }
 
-// Makes the call of an item, and prints its line.
-fn line(memory: &mut [u8; MEMORY], kind: u8, s: &[u8], out: &mut [u8], l: Lending) -> bool {
+// O: a line, unless more of the output memory changed than was written.
+fn write_record(memory: &[u8; MEMORY], s: &[u8], out: &mut [u8], l: Lending) -> Outcome {
+    match records::write_call(memory, s, out, l) {
+        Some(n) => Outcome::Line(n),
+        None => Outcome::MemoryChanged,
+    }
+}
+
+// Makes the call of an item, and lays its line.
+fn line(memory: &mut [u8; MEMORY], kind: u8, s: &[u8], out: &mut [u8], l: Lending) -> Outcome {
     match kind {
-        b'V' => records::read_call(s, out),
-        b'Z' => dump::line(memory, out, l),
-        b'O' => records::write_call(memory, s, out, l),
-        _ => {
-            let n = call(memory, kind, s, out, l);
-            print::end_line(out, n)
-        }
+        b'V' => Outcome::Line(records::read_call(s, out)),
+        b'Z' => Outcome::Line(dump::line(memory, out, l)),
+        b'O' => write_record(memory, s, out, l),
+        _ => Outcome::Line(call(memory, kind, s, out, l)),
     }
 }
 
@@ -57,13 +98,13 @@ fn shorten(s: &[u8], l: Lending) -> Turn {
     if lending.missing == 0 {
         return bad(lending);
     }
-    Turn { on: true, lending }
+    silent(lending)
 }
 
 // X: a byte of the state memory or of the store changes.
 fn fault(memory: &mut [u8; MEMORY], s: &[u8], lending: Lending) -> Turn {
     if faults::change(memory, s) {
-        return Turn { on: true, lending };
+        return silent(lending);
     }
     bad(lending)
 }
@@ -73,8 +114,7 @@ fn lend(s: &[u8], l: Lending) -> Turn {
     if !lending::are_listed(s) {
         return bad(l);
     }
-    let lending = lending::lengths(s, l);
-    Turn { on: true, lending }
+    silent(lending::lengths(s, l))
 }
 
 // Runs an item.
@@ -87,24 +127,32 @@ fn run_item(memory: &mut [u8; MEMORY], kind: u8, s: &[u8], out: &mut [u8], l: Le
         b'X' => fault(memory, s, l),
         b'L' => lend(s, l),
         _ => {
-            let on = line(memory, kind, s, out, l);
+            let outcome = line(memory, kind, s, out, l);
             let lending = lent_after(kind, l);
-            Turn { on, lending }
+            Turn { outcome, lending }
         }
     }
 }
 
-// Reads an item and runs it, with out as the memory of its line.
+// Reads an item, runs it with out as the memory of its line, and prints that. Answers what the next call is lent, or that the
+// run ends.
 pub(crate) fn next(
+    rt: &(impl Print + Eprint),
+    input: &mut impl Read,
     memory: &mut [u8; MEMORY],
     payload: &mut [u8],
     out: &mut [u8],
     lending: Lending,
-) -> Turn {
-    let i = item::read(payload);
+) -> io::Result<Option<Lending>> {
+    let i = item::read(rt, input, payload)?;
     if !i.whole {
-        return Turn { on: false, lending };
+        return Ok(None);
     }
     let len = i.len;
-    run_item(memory, i.kind, &payload[0..len], out, lending)
+    let t = run_item(memory, i.kind, &payload[0..len], out, lending);
+    let lending = t.lending;
+    if tell(rt, t.outcome, out)? {
+        return Ok(Some(lending));
+    }
+    Ok(None)
 }

@@ -1,5 +1,7 @@
 // The session record: the orders that stand after the mark, written with a table of contents and read again. The work is done on
 // slices and numbers. `Reader` holds a lent record and the next index; its functions are thin.
+#![tactic(auto)]
+
 ghost use Rattle.std.specs.Prelude.{◌≡◌, true, [], ◌<◌, ◌≤◌, length, get_or};
 ghost use Rattle.wire.specs.Parts.{splice};
 ghost use Rattle.journal.specs.State.{bytes_in};

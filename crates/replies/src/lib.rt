@@ -1,4 +1,6 @@
 // Replies, also as one number, and holders of pictures by numbers.
+#![tactic(auto)]
+
 ghost use Rattle.std.specs.Prelude.{◌≡◌, ◌-◌, ◌≤◌};
 ghost use Rattle.journal.specs.Limits.{log_start, most_orders, journal_length};
 ghost use Rattle.session.specs.Calls.{refuse};

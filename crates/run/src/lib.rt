@@ -1,4 +1,6 @@
 // Runs a list of calls on lent state memory: demand 3 as the contract of running code.
+#![tactic(auto)]
+
 ghost use Rattle.std.specs.Prelude.{◌≡◌, ◌++◌, ◌≤◌, length, drop};
 ghost use Rattle.wire.specs.Parts.{splice};
 ghost use Rattle.wire.specs.Numbers.{num_at, bytes_of};

@@ -1,5 +1,7 @@
 // The picture that a holder shows, handed out in the fixed layout: from the store at the mark, or from the order of the journal
 // that brought it.
+#![tactic(auto)]
+
 ghost use Rattle.std.specs.Prelude.{◌≡◌, ◌+◌, ◌<◌, ◌≤◌, length};
 ghost use Rattle.wire.specs.Parts.{splice};
 ghost use Rattle.places.specs.Sizes.{holder_count};

@@ -1,1 +1,2 @@
 // Request No. 13, two editors side by side: definitions and proofs only.
+#![tactic(auto)]

@@ -1,4 +1,6 @@
 // Signed numbers in two's complement: read from a slice of bytes, as the numbers of 2 and 4 bytes that stand for them, and back.
+#![tactic(auto)]
+
 ghost use Rattle.std.specs.Prelude.{◌≡◌, true};
 ghost use Rattle.signs.specs.TwosComplement.{signed, unsigned, holds, signed_at};
 

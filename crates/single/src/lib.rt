@@ -1,6 +1,8 @@
 // Orders that say one thing are judged at a glance, with no walk over fields: a window's delete, its icon or cached icon,
 // the desktop's stacking list with the active window. Where their fields end is told by the one table of rows. Any other order,
 // and a bad one of these, is left to `order_judge::judge`.
+#![tactic(auto)]
+
 ghost use Rattle.std.specs.Prelude.{◌≡◌, true, ◌≤◌, length};
 ghost use Rattle.wire.specs.Tests.{either};
 ghost use Rattle.single.specs.Single.{delete_flags, cached_flags, cached_big_flags, icon_flags, icon_big_flags, list_flags, framed_to, good_with};

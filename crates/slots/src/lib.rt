@@ -1,5 +1,7 @@
 // The memory of an index, 589 bytes: those of `places`, then 48 slots, 9 bytes each (used 1, window id 4, notify-icon id 4): 32
 // of windows, then 16 of notification icons.
+#![tactic(auto)]
+
 ghost use Rattle.std.specs.Prelude.{◌≡◌, ◌+◌, ◌<◌, ◌≤◌, length};
 ghost use Rattle.wire.specs.Tests.{both};
 ghost use Rattle.places.specs.Sizes.{slot_count};

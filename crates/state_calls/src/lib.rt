@@ -1,5 +1,7 @@
 // The state calls that change a state: emptying, delivery, checkpoint (document 01's mark) and undo (its step back); and the session
 // record of what stands.
+#![tactic(auto)]
+
 ghost use Rattle.std.specs.Prelude.{◌≡◌, ◌+◌, ◌≤◌, length};
 ghost use Rattle.wire.specs.Numbers.{bytes_of};
 ghost use Rattle.wire.specs.Parts.{splice};

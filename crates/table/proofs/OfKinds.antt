@@ -128,6 +128,7 @@ planning x s ok bytes = go (kind s bytes)
     of : (o : RecordOrder) → OfRecord s o → (p : Plan) → Outcome x s o p → Planning x s p
     of o k (Refuse m) (refused n ne e) = changes_none n (λ t h. k.changed t ∙ (rw (k.numbered t, h, e, ne_eqb n 0 ne)))
     of o k (ChangeRecord c) (changes i place e p) = changes_record o i place k p (λ t h. k.changed t ∙ (rw (k.numbered t, h, e)))
+    of o k (ChangeDesktop _) x3 = elim x3 [ ]
 
     go : Kind s → Planning x s (plan_of x s)
     go (of_record o k) = rw (k.plans x) (of o k (plan_record x s o) (outcome x s o (sound_has x ok) k.ordered))

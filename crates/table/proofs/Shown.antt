@@ -289,6 +289,7 @@ module _ (x s : List ℕ) (sound : Sound x) (pictures : ℕ → List ℕ) (t : T
           → (pick (eqb (index.record_number (index_of x) s o) 0) (change_record t s o) t).shown g ≡ shown_in (applied_of x w) (pictures_by s w pictures) g
       go (Refuse m) (refused n ne e) = rw (e, ne_eqb n 0 ne) (shows g)
       go (ChangeRecord k) (changes i place e p) = rw e (changed_shown x s o i place sound h p pictures t shows g)
+      go (ChangeDesktop _) x3 = elim x3 [ ]
 
   cells_number : (g : Holder) → pick (is_cell (number_of no_slot g)) (shown x pictures (number_of no_slot g)) none ≡ pick (not (is_cell_holder g)) none (shown_in x pictures g)
   unfolding number_of

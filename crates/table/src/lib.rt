@@ -1,6 +1,7 @@
 // A table of windows, notification icons, icon cache and desktop state in lent memory: its index, the bodies of its records with
 // the heads of their pictures behind them, and the store of pictures in five parts. Definitions and laws; the functions are in
 // `table_sound` and `table_change`.
+#![tactic(auto)]
 
 // Where the heads of the pictures begin, and the bytes of the bodies with them.
 pub const HEADS: usize = 60116;

@@ -1,5 +1,7 @@
 // An order delivered to a table, a table emptied, and what an order changes in the bodies and in the store. An order is judged whole
 // before any byte changes.
+#![tactic(auto)]
+
 ghost use Rattle.std.specs.Prelude.{◌≡◌, true, false, ◌+◌, ◌≤◌, length};
 ghost use Rattle.rows.specs.Rows.{rows_from};
 ghost use Rattle.places.specs.Sizes.{fewest_places};

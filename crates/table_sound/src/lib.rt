@@ -1,4 +1,6 @@
 // Whether memories describe a table.
+#![tactic(auto)]
+
 ghost use Rattle.std.specs.Prelude.{◌≡◌, ◌+◌, ◌<◌, ◌≤◌, length, true};
 ghost use Rattle.rows.specs.Rows.{rows_from};
 ghost use Rattle.places.specs.Sizes.{slot_count, holder_count, most_places};

@@ -1,4 +1,6 @@
 // A whole update: its orders are cut from its bytes and delivered one by one on memory that is validated once.
+#![tactic(auto)]
+
 ghost use Rattle.std.specs.Prelude.{◌≡◌, ◌+◌, ◌-◌, ◌≤◌, length, drop};
 ghost use Rattle.journal.specs.Limits.{log_start, most_orders, journal_length};
 ghost use Rattle.journal.specs.View.{memory, InEachStore};

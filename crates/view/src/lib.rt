@@ -1,5 +1,7 @@
 // The bytes that a lookup hands out, in the fixed layout of their kind, as a typed record: numbers, ids, strings, rectangles, and
 // whether a picture is there. A byte past the end counts 0.
+#![tactic(auto)]
+
 ghost use Rattle.std.specs.Prelude.{◌≡◌, drop};
 ghost use Rattle.body.specs.Bodies.{notification_fields, desktop_fields, body_of};
 ghost use Rattle.layout.specs.Layouts.{newer_start, newer_fields};
@@ -10,35 +12,35 @@ use protocol::WindowId;
 mod parts;
 
 // A place on the screen or an offset, which may be to the left of or above the origin.
-#[derive(Drop)]
+#[derive(Clone, Copy)]
 pub struct Point {
     pub x: i32,
     pub y: i32,
 }
 
 // Width and height.
-#[derive(Drop)]
+#[derive(Clone, Copy)]
 pub struct Pair {
     pub x: u32,
     pub y: u32,
 }
 
 // A string: how many bytes it has, its bytes, and zeros to the end.
-#[derive(Drop)]
+#[derive(Clone, Copy)]
 pub struct Text {
     pub count: u16,
     pub bytes: [u8; 520],
 }
 
 // Rectangles: left, top, right and bottom of each, and zeros to the end.
-#[derive(Drop)]
+#[derive(Clone, Copy)]
 pub struct Rectangles {
     pub count: u16,
     pub sides: [u16; 64],
 }
 
 // What newer servers say of a window besides. Its overlay says whether it shows a picture, which follows.
-#[derive(Drop)]
+#[derive(Clone, Copy)]
 pub struct NewerRecord {
     pub left_resize_margin: u32,
     pub right_resize_margin: u32,
@@ -53,7 +55,7 @@ pub struct NewerRecord {
 }
 
 // Its small and big say whether it shows a picture, which follows the record.
-#[derive(Drop)]
+#[derive(Clone, Copy)]
 pub struct WindowRecord {
     pub owner: WindowId,
     pub style: u32,
@@ -76,7 +78,7 @@ pub struct WindowRecord {
 }
 
 // Its icon says whether it shows a picture.
-#[derive(Drop)]
+#[derive(Clone, Copy)]
 pub struct NotificationRecord {
     pub version: u32,
     pub tip: Text,
@@ -104,7 +106,7 @@ pub struct DesktopRecord {
 }
 
 // A picture: mask, color table and color one after the other, and zeros to the end.
-#[derive(Drop)]
+#[derive(Clone, Copy)]
 pub struct PictureRecord {
     pub bits: u8,
     pub width: u16,

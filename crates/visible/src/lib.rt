@@ -1,4 +1,6 @@
 // How much was visible at the mark: the figure of the table at the last checkpoint, as a state call.
+#![tactic(auto)]
+
 ghost use Rattle.std.specs.Prelude.{◌≡◌};
 ghost use Rattle.journal.specs.View.{memory, InEachStore};
 ghost use Rattle.visible.specs.Outcome.{FigureOutcome};

@@ -1,4 +1,6 @@
 // A window as text: its fields, its icons and its pixels.
+#![tactic(auto)]
+
 ghost use Rattle.print.specs.Laid.{Laid};
 ghost use Rattle.window_text.specs.Windows.{looks_text, client_text, margins_text, root_text, places_text, visible_text, bars_text, titled_text, inner_text, outer_text, areas_text, newest_text, fields_text, icons_text, pixels_text, window_text};
 

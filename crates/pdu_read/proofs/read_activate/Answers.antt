@@ -1,0 +1,22 @@
+-- 7 where the length is another, 8 where the rule fails, else the words of the record that the numbers make.
+use Rattle.std.proofs.Common.{◌∙◌, refl, sym}
+use Rattle.pdu.specs.Records.{record_of, size_of}
+use Rattle.pdu.specs.Rules.{allowed}
+use Rattle.pdu.specs.Reading.{record_as}
+use Rattle.pdu_words.specs.Words.{words_of}
+use Rattle.pdu_read.proofs.Ways.{activate_is, unfilled, outside, fine, told_refused, told_message}
+use Rattle.pdu_read.proofs.read_activate.Goals as goal
+
+pub returns-then-s-ne9 : goal.returns-then-s-ne9
+unfolding record_as record_of size_of allowed words_of
+returns-then-s-ne9 c = told_refused (unfilled 0x02 refl c.args.s.now (λ q. c.if-s-ne9.true (sym q)))
+
+pub returns-then-not-activate_allowed : goal.returns-then-not-activate_allowed
+unfolding record_as record_of size_of allowed words_of
+returns-then-not-activate_allowed c =
+    told_refused (outside 0x02 refl c.args.s.now _ (activate_is c.args.s.now c.read_u32.ensures c.read_u8.ensures) (sym c.if-s-ne9.false) (sym c.activate_allowed.ensures ∙ c.if-not-activate_allowed.true))
+
+pub returns : goal.returns
+unfolding record_as record_of size_of allowed words_of
+returns c =
+    told_message (fine 0x02 refl c.args.s.now _ (activate_is c.args.s.now c.read_u32.ensures c.read_u8.ensures) (sym c.if-s-ne9.false) (sym c.activate_allowed.ensures ∙ c.if-not-activate_allowed.false)) c.activate_words.ensures

@@ -1,0 +1,10 @@
+-- The rule, and one string.
+use Rattle.std.proofs.Common.{refl}
+use Rattle.pdu.specs.Records.{size_of, spans_of}
+use Rattle.pdu.specs.Rules.{allowed}
+use Rattle.pdu_put.proofs.Ways.{one}
+use Rattle.pdu_write.proofs.judge_application_id_response.Goals as goal
+
+pub returns : goal.returns
+unfolding allowed spans_of size_of
+returns c = record { passes = one c.application_id_response_allowed.ensures c.lies_in.ensures; measures = refl }

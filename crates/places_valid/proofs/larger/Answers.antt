@@ -1,0 +1,9 @@
+-- The test chooses.
+use Rattle.std.proofs.Common.{le-ltb, lt-ltb}
+use Rattle.places_valid.proofs.larger.Goals as goal
+
+pub returns-then-a-b : goal.returns-then-a-b
+returns-then-a-b c = rw (lt-ltb c.args.a c.args.b c.if-a-b.true)
+
+pub returns-else-a-b : goal.returns-else-a-b
+returns-else-a-b c = rw (le-ltb c.args.a c.args.b c.if-a-b.false)
