@@ -33,7 +33,7 @@ title : carried_at window_fields flags order 11 3 ≡ 0x04 ∷ 0x00 ∷ 0x41 ∷
 unfolding carried_at begins_at len_of first_of num_at slice
 title = refl
 
--- the set fields by the law of each: to compute `setFlagged` takes both arms of a choice at each row
+-- the set fields by the law of each: to compute `set_flagged` takes both arms of a choice at each row
 set : get_or (set_flagged window_fields flags order 11 (empty_fields window_fields)) 0 [] ≡ 0x00 ∷ 0x01 ∷ 0x02 ∷ 0x00 ∷ []
 unfolding carried_at begins_at len_of first_of num_at slice
 set = set_at window_fields flags order 11 (empty_fields window_fields) 0 (omega arith)

@@ -32,7 +32,7 @@ use Rattle.cases.specs.Cases.{places, new_a, desktop_none_order, window_a, nothi
 
 -- ---- the fields of case 4's window
 
--- `setFlagged` with one call of itself: it calls itself in both arms of a choice, and both are computed at every row
+-- `set_flagged` with one call of itself: it calls itself in both arms of a choice, and both are computed at every row
 set_once_lem : List Row → ℕ → List ℕ → ℕ → List (List ℕ) → List (List ℕ)
 set_once_lem [] flags s at old = []
 set_once_lem (r ∷ rs) flags s at old =

@@ -1,4 +1,4 @@
--- Window orders without icon and cell beside each other on a table. The only facts of `number` and `changeRecord` that are used
+-- Window orders without icon and cell beside each other on a table. The only facts of `number` and `change_record` that are used
 -- stand here. Assumes nothing.
 use Prim.Native.Nat.{ℕ, ◌+◌, ◌≤◌}
 use mathlib.Core.Path.{◌≡◌, refl, sym, ap, ◌∙◌}

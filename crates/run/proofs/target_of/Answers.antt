@@ -1,4 +1,4 @@
--- Each kind's numbers are read where targetOf reads them.
+-- Each kind's numbers are read where target_of reads them.
 use Rattle.run.proofs.Calls.{is_window_lem, is_notification_lem, is_cell_lem, is_windows, is_notifications, is_shares, is_desktop_lem}
 use Rattle.run.proofs.target_of.Goals as goal
 
