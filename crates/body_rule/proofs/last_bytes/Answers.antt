@@ -1,3 +1,4 @@
+-- Each byte of the number that is read is a field, and its row says which numbers it takes.
 use Rattle.std.proofs.Common.{arith}
 use Rattle.body_rule.proofs.Ways.{last_bytes}
 use Rattle.wire.proofs.Numbers.{Bytes}

@@ -1,3 +1,4 @@
+-- Each byte of the number that is read is a mark.
 use Rattle.std.proofs.Common.{arith}
 use Rattle.body_rule.proofs.Ways.{marks_told}
 use Rattle.wire.proofs.Numbers.{Bytes}

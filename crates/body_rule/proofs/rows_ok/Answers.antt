@@ -1,3 +1,4 @@
+-- What the table tells of a row is the row.
 use Rattle.std.proofs.Common.{◌-◌, ◌<◌, ◌∙◌, ◌≡◌, ap, arith, get_or, refl, rules, sym}
 use Rattle.body_rule.proofs.Ways.{ok_next, ok_stop, ok_done}
 use Rattle.rows.specs.declared.Row.{Row}

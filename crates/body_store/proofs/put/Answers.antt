@@ -1,3 +1,4 @@
+-- The row is the one that the table tells of.
 use Rattle.std.proofs.Common.{ℕ, ◌∙◌, ◌≡◌, ap, arith, get_or, subst, sym}
 use Rattle.body.proofs.Ways.{put_absent, put_fits, put_carried}
 use Rattle.wire.specs.Tests.{has_all}

@@ -1,3 +1,4 @@
+-- Row by row: the function's start, and what is put after each row.
 use Rattle.std.proofs.Common.{arith, refl}
 use Rattle.body.proofs.Ways.{placed_none, placed_next}
 use Rattle.body.specs.Stores.{Placed}

@@ -1,3 +1,4 @@
+-- The loop's place in the rows, the function's start, and the turn of a row that ends well.
 use Rattle.std.proofs.Common.{ℕ, ◌+◌, ◌-◌, ◌<◌, ◌∙◌, ◌≡◌, ap, arith, get_or, refl, rules, sym}
 use Rattle.body.proofs.Ways.{Turn, turn, taken_told, goes_on, store_next, store_done}
 use Rattle.wire.specs.Parts.{slice, splice}

@@ -1,3 +1,4 @@
+-- Group by group: the function's start, and the slot keeps its length.
 use Rattle.std.proofs.Common.{◌∙◌, ◌≡◌, arith, length, sym}
 use Rattle.body.proofs.Ways.{store_done}
 use Rattle.body_store.proofs.store_window.Goals as goal

@@ -1,3 +1,4 @@
+-- 1 where the rule is not met; else the order judged on what the validation established.
 use Rattle.std.proofs.Common.{ℕ, ◌∙◌, ◌≡◌, List, arith, refl}
 use Rattle.wire.proofs.Numbers.{Bytes}
 use Rattle.store.specs.Store.{places_in}

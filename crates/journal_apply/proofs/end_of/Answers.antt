@@ -1,3 +1,4 @@
+-- What is left of the orders ends where all of them end.
 use Rattle.std.proofs.Common.{◌-◌, arith}
 use Rattle.journal.proofs.LoopInvariants.{end_start, end_room, end_next, end_end}
 use Rattle.journal_apply.proofs.end_of.Goals as goal

@@ -1,3 +1,4 @@
+-- Each test of the definition in its turn.
 use Rattle.journal.proofs.Validations.{replayable_short, replayable_unsound, kept_asks, replayable_counted}
 use Rattle.journal_replay.proofs.can_replay.Goals as goal
 

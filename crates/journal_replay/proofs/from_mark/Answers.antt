@@ -1,3 +1,4 @@
+-- The callees' equations, joined: a copy of a sound index is sound, and the memory of what is looked up keeps its length.
 use Rattle.std.proofs.Common.{arith}
 use Rattle.slots.proofs.Ways.{sound_long}
 use Rattle.journal.proofs.Validations.{copy_sound, from_copies}

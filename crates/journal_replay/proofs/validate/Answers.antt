@@ -1,3 +1,4 @@
+-- What cannot be replayed does not meet the rule; else the replay from the mark ends at 0 just where it is not met.
 use Rattle.std.proofs.Common.{◌∙◌, ◌≡◌, arith, sym, true}
 use Rattle.wire.proofs.Numbers.{Bytes}
 use Rattle.table.proofs.Rule.{table_has}

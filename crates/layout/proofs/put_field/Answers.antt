@@ -1,3 +1,4 @@
+-- What the table tells of a row is the row.
 use Rattle.std.proofs.Common.{◌∙◌, ◌≡◌, ◌≤◌, ap, arith, get_or, subst, sym}
 use Rattle.layout.proofs.LayoutsWritten.{short, field_put}
 use Rattle.rows.specs.declared.Row.{Row}

@@ -1,3 +1,4 @@
+-- The loop's place in the rows, the function's start, and the room of a row.
 use Rattle.std.proofs.Common.{◌+◌, ◌-◌, ◌<◌, ◌∙◌, ◌≡◌, ap, arith, get_or, refl, rules, sym, true}
 use Rattle.layout.proofs.LayoutsWritten.{room_next, ok_here, ok_then, fields_next, fields_done, marks_put}
 use Rattle.body.specs.Stores.{room_all}

@@ -1,3 +1,4 @@
+-- The picture that it shows.
 use Rattle.std.proofs.Common.{arith}
 use Rattle.wire.specs.Parts.{slice}
 use Rattle.store.specs.Store.{five}

@@ -1,3 +1,4 @@
+-- By the kind of the target.
 use Rattle.store.specs.Store.{five}
 use Rattle.session.specs.Handing.{HandsOut}
 use Rattle.session.proofs.Handed.{hands_as, handed_as, window_with, notification_with, cell_with, desktop_asks, desktop_handed, windows_handed, notifications_handed, shares_handed}

@@ -1,3 +1,4 @@
+-- The number of its slot and of the icon, or that of no holder.
 use Rattle.std.proofs.Common.{◌<◌, arith}
 use Rattle.session.proofs.Targets.{icon_found, icon_below}
 use Rattle.lookups.proofs.icon_number.Goals as goal

@@ -1,3 +1,4 @@
+-- 1 where the rule is not met, 9 or 14 where the index and the output say so; else what m holds.
 use Rattle.std.proofs.Common.{ℕ, ◌∙◌, ◌≡◌, List, ap, arith, refl, replicate, sym}
 use Rattle.wire.specs.Numbers.{Bytes}
 use Rattle.slots.specs.Families.{index_length}

@@ -1,3 +1,4 @@
+-- The record at the start, its picture behind it, then its second mark.
 use Rattle.std.proofs.Common.{arith}
 use Rattle.wire.specs.Parts.{slice}
 use Rattle.store.specs.Store.{five}

@@ -1,3 +1,4 @@
+-- The older fields at the start, two pictures behind them, the newer fields, a picture behind these.
 use Rattle.std.proofs.Common.{arith}
 use Rattle.wire.specs.Parts.{slice}
 use Rattle.store.specs.Store.{five}

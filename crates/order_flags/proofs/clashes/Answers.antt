@@ -1,3 +1,4 @@
+-- The tests are those of the order's kind; where the branches meet no icon clashes, and those of a desktop are left.
 use Rattle.std.proofs.Common.{◌≡◌, false}
 use Rattle.order.proofs.FlagsClash.{icons_clash_lem, two_icons, beside_icon, big_overlay, without_icon, none_clash, deleted_clash, icons_clash, other_clash, desktop_clash}
 use Rattle.order_flags.proofs.clashes.Goals as goal

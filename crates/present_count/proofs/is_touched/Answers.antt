@@ -1,3 +1,4 @@
+-- Whether one of the orders left is for the window is whether one of all is.
 use Rattle.std.proofs.Common.{◌-◌, arith}
 use Rattle.present.proofs.TouchedStays.{touch_start, touch_cut, touch_found, touch_next, touch_end}
 use Rattle.present_count.proofs.is_touched.Goals as goal

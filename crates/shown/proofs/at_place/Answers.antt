@@ -1,3 +1,4 @@
+-- The store's picture where none has come since the mark, else that of the order which brought it.
 use Rattle.store.specs.Store.{five}
 use Rattle.shown.proofs.ShownHanded.{store_asks, from_store, order_within, from_journal}
 use Rattle.shown.proofs.at_place.Goals as goal

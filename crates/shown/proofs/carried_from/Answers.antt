@@ -1,3 +1,4 @@
+-- By the kind of the order: an accepted icon reaches to the order's end and fits the layout.
 use Rattle.std.proofs.Common.{arith}
 use Rattle.wire.proofs.Numbers.{Bytes}
 use Rattle.shown.proofs.StepsCarried.{carries_window, carries_notification, carries_desktop, carries_refused}

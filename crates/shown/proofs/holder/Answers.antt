@@ -1,3 +1,4 @@
+-- Zeros where the pointer is 0, else the picture at its place.
 use Rattle.std.proofs.Common.{◌+◌, arith, rules}
 use Rattle.store.specs.Store.{five}
 use Rattle.shown.proofs.ShownHanded.{pointer_within, place_ready, none_shown, some_shown}

@@ -1,3 +1,4 @@
+-- The orders applied to the table at the mark, its figures stored, and no order left.
 use Rattle.std.proofs.Common.{◌∙◌, arith}
 use Rattle.store.specs.Store.{five}
 use Rattle.journal.specs.Journal.{log_of}

@@ -1,3 +1,4 @@
+-- 1 where the rule is not met.
 use Rattle.std.proofs.Common.{refl}
 use Rattle.store.specs.Store.{five}
 use Rattle.journal.specs.View.{Memory, memory}

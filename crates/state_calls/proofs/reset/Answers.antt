@@ -1,3 +1,4 @@
+-- 1 for memory that is too short; else an emptied table with its figures, and no orders.
 use Rattle.std.proofs.Common.{ℕ, ◌∙◌, ◌≡◌, Bool, List, ap, arith, false, sym}
 use Rattle.store.specs.Store.{places_in}
 use Rattle.journal.specs.View.{Memory, memory, short_of, too_short}

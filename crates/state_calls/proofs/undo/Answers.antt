@@ -1,3 +1,4 @@
+-- 1 where the rule is not met, 13 where fewer orders stand; else the count of the orders left.
 use Rattle.std.proofs.Common.{ℕ, ◌-◌, ◌≡◌, List, arith, refl}
 use Rattle.store.specs.Store.{places_in}
 use Rattle.journal.specs.View.{Memory, memory}

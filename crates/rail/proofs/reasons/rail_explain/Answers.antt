@@ -1,3 +1,4 @@
+-- The explanation on the places lent, packed.
 use Rattle.std.proofs.Common.{arith, sym}
 use Rattle.wire.specs.Numbers.{Bytes}
 use Rattle.rail.proofs.Explanations.{explain_export}

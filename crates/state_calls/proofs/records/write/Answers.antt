@@ -1,3 +1,4 @@
+-- 1 where the rule is not met, 14 where the output is too small; else the record of the orders that the journal holds.
 use Rattle.std.proofs.Common.{ℕ, ◌≡◌, List, refl}
 use Rattle.store.specs.Store.{places_in}
 use Rattle.journal.specs.View.{Memory, memory}

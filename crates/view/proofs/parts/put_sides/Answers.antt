@@ -1,3 +1,4 @@
+-- After i turns the first i numbers stand before zeros.
 use Rattle.std.proofs.Common.{ℕ, ◌-◌, ◌∙◌, ◌≡◌, ap, arith, length, length-set, rules}
 use Rattle.wire.specs.Parts.{padded}
 use Rattle.view.specs.Views.{each_of}

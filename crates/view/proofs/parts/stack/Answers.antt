@@ -1,3 +1,4 @@
+-- After i turns the first i ids stand before ids of 0.
 use Rattle.std.proofs.Common.{ℕ, ◌+◌, ◌-◌, ◌∙◌, ◌≡◌, ap, arith, rules}
 use Rattle.wire.specs.Parts.{padded}
 use Rattle.view.specs.Views.{window_id, each_of}
