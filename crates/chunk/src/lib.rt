@@ -10,7 +10,7 @@ pub const MEMORY: usize = 17060;
 
 // What joining a chunk gives: more is awaited after so many bytes; a whole message of so many bytes,
 // which stand at the start of the lent memory until the next call; or the number of a refusal.
-#[derive(Drop)]
+#[derive(Clone, Copy)]
 pub enum Joined {
     More(u32),
     Whole(u32),
@@ -19,7 +19,7 @@ pub enum Joined {
 
 // What a chunk answers: the same, a whole message with what reading it gives. Its strings are places
 // in the lent memory.
-#[derive(Drop)]
+#[derive(Clone, Copy)]
 pub enum Taken {
     More(u32),
     Whole(u32, Read),

@@ -2,7 +2,7 @@
 // and an order. Types, definitions and laws; `explain_call` tells it.
 #![tactic(auto)]
 
-#[derive(Drop)]
+#[derive(Clone, Copy)]
 pub struct Explanation {
     pub number: u8,
     pub at: u32,

@@ -12,7 +12,7 @@ ghost use Rattle.figure.specs.Figure.{is_shown, pixels_of, shown_at, pixels_at, 
 ghost use Rattle.figure.specs.Kept.{kept_length, kept_figure, figures_ok, kept_of};
 
 // The windows that are shown, and their pixels in all.
-#[derive(Drop)]
+#[derive(Clone, Copy)]
 pub struct Figure {
     pub windows: u32,
     pub pixels: u64,

@@ -18,7 +18,7 @@ pub struct RecordOrder {
 }
 
 // The slot of the record that an order changes, or the number of its refusal.
-#[derive(Drop)]
+#[derive(Clone, Copy)]
 pub enum Place {
     Slot(usize),
     Not(u8),
@@ -52,7 +52,7 @@ pub enum Plan {
 
 // The number of an order; the slot of its record, past the last where it changes none; and how many places, from the first on, are
 // then pointed at, as far as the order tells: an icon takes the first that is free.
-#[derive(Drop)]
+#[derive(Clone, Copy)]
 pub struct Stepped {
     pub number: u8,
     pub slot: usize,

@@ -34,13 +34,13 @@ pub struct SystemCommand {
 }
 
 // TS_RAIL_ORDER_HANDSHAKE, type 0005
-#[derive(Drop)]
+#[derive(Clone, Copy)]
 pub struct Handshake {
     pub build_number: u32,
 }
 
 // TS_RAIL_ORDER_NOTIFY_EVENT, type 0006
-#[derive(Drop)]
+#[derive(Clone, Copy)]
 pub struct NotifyEvent {
     pub window_id: WindowId,
     pub notify_icon_id: NotifyIconId,
@@ -48,7 +48,7 @@ pub struct NotifyEvent {
 }
 
 // TS_RAIL_ORDER_WINDOWMOVE, type 0008
-#[derive(Drop)]
+#[derive(Clone, Copy)]
 pub struct WindowMove {
     pub window_id: WindowId,
     pub left: i16,
@@ -58,7 +58,7 @@ pub struct WindowMove {
 }
 
 // TS_RAIL_ORDER_LOCALMOVESIZE, type 0009
-#[derive(Drop)]
+#[derive(Clone, Copy)]
 pub struct MoveSize {
     pub window_id: WindowId,
     pub is_start: bool,
@@ -68,7 +68,7 @@ pub struct MoveSize {
 }
 
 // TS_RAIL_ORDER_MINMAXINFO, type 000A
-#[derive(Drop)]
+#[derive(Clone, Copy)]
 pub struct MinMaxInfo {
     pub window_id: WindowId,
     pub max_width: u16,
@@ -82,13 +82,13 @@ pub struct MinMaxInfo {
 }
 
 // TS_RAIL_ORDER_CLIENTSTATUS, type 000B
-#[derive(Drop)]
+#[derive(Clone, Copy)]
 pub struct ClientInformation {
     pub flags: u32,
 }
 
 // TS_RAIL_ORDER_SYSMENU, type 000C
-#[derive(Drop)]
+#[derive(Clone, Copy)]
 pub struct SystemMenu {
     pub window_id: WindowId,
     pub left: i16,
@@ -96,7 +96,7 @@ pub struct SystemMenu {
 }
 
 // TS_RAIL_ORDER_GET_APPID_REQ, type 000E
-#[derive(Drop)]
+#[derive(Clone, Copy)]
 pub struct GetApplicationId {
     pub window_id: WindowId,
 }
@@ -118,7 +118,7 @@ pub struct ExecuteResult {
 }
 
 // TS_RECTANGLE_16
-#[derive(Drop)]
+#[derive(Clone, Copy)]
 pub struct Rectangle {
     pub left: u16,
     pub top: u16,
@@ -134,7 +134,7 @@ pub struct HighContrast {
 }
 
 // SystemParam with its body. The client sends the first eight, the server the last two.
-#[derive(Drop)]
+#[derive(Clone, Copy)]
 pub enum Setting {
     // SPI_SETDRAGFULLWINDOWS, 00000025
     DragFullWindows(u8),
@@ -159,19 +159,19 @@ pub enum Setting {
 }
 
 // TS_RAIL_ORDER_SYSPARAM, type 0003
-#[derive(Drop)]
+#[derive(Clone, Copy)]
 pub struct SystemParameters {
     pub setting: Setting,
 }
 
 // TS_RAIL_ORDER_HANDSHAKE_EX, type 0013
-#[derive(Drop)]
+#[derive(Clone, Copy)]
 pub struct HandshakeEx {
     pub build_number: u32,
     pub flags: u32,
 }
 
-#[derive(Drop)]
+#[derive(Clone, Copy)]
 pub enum Pdu {
     Execute(Execute),
     Activate(Activate),
@@ -191,14 +191,14 @@ pub enum Pdu {
 }
 
 // What reading answers: the record, or the number of the refusal.
-#[derive(Drop)]
+#[derive(Clone, Copy)]
 pub enum Read {
     Message(Pdu),
     Refused(u8),
 }
 
 // What writing answers: how many bytes were written, or the number of the refusal.
-#[derive(Drop)]
+#[derive(Clone, Copy)]
 pub enum Written {
     Bytes(usize),
     Refused(u8),

@@ -14,7 +14,7 @@ ghost use Rattle.pdu_put.specs.Judging.{Ready, Encoded, ExecuteReady, TextReady}
 use pdu::{ApplicationIdResponse, Execute, ExecuteResult, HighContrast, NotifyEvent, Span};
 
 // Whether number 8 lets a record pass, and the bytes that it takes.
-#[derive(Drop)]
+#[derive(Clone, Copy)]
 pub struct Judged {
     pub ok: bool,
     pub size: usize,

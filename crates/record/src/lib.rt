@@ -84,7 +84,7 @@ fn part(record: &[u8], i: usize) -> &[u8]
 }
 
 // A record's number and, where that is 0, how many bodies it hands out and their bytes in all.
-#[derive(Drop)]
+#[derive(Clone, Copy)]
 pub struct Inspected {
     pub number: u8,
     pub count: usize,
@@ -111,7 +111,7 @@ pub fn inspect(record: &[u8]) -> Inspected
 }
 
 // An entry of the table of contents: where a body lies.
-#[derive(Drop)]
+#[derive(Clone, Copy)]
 pub struct Entry {
     pub offset: usize,
     pub size: usize,
@@ -143,21 +143,21 @@ pub fn body(record: &[u8], i: usize) -> &[u8]
 
 // ---- a reader that keeps its place in the lent record
 
-#[derive(Drop)]
+#[derive(Clone, Copy)]
 pub struct Reader<'a> {
     record: &'a [u8],
     next: usize,
 }
 
 // A record's number, and a reader of its bodies.
-#[derive(Drop)]
+#[derive(Clone, Copy)]
 pub struct Opened<'a> {
     pub number: u8,
     pub reader: Reader<'a>,
 }
 
 // The next body, with the reader of those after it. Where found is false none was left, and the body is empty.
-#[derive(Drop)]
+#[derive(Clone, Copy)]
 pub struct Handed<'a> {
     pub found: bool,
     pub body: &'a [u8],

@@ -30,7 +30,7 @@ pub const SLOT: usize = 9;
 pub const LENGTH: usize = 589;
 
 // What a search for a record found, and how many slots it looked at.
-#[derive(Drop)]
+#[derive(Clone, Copy)]
 pub struct Searched {
     pub found: Found,
     pub looked: usize,

@@ -12,7 +12,7 @@ pub const BODIES: usize = 61012;
 pub const DESKTOP: usize = 59200;
 
 // The picture that an order brings: whether there is one, its place, and where in the order its icon begins.
-#[derive(Drop)]
+#[derive(Clone, Copy)]
 pub struct Brought {
     pub there: bool,
     pub place: usize,

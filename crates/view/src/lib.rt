@@ -91,13 +91,13 @@ pub struct NotificationRecord {
 }
 
 // The stacking list: its ids, and 0 to the end.
-#[derive(Drop)]
+#[derive(Clone, Copy)]
 pub struct Stack {
     pub count: u8,
     pub ids: [WindowId; 64],
 }
 
-#[derive(Drop)]
+#[derive(Clone, Copy)]
 pub struct DesktopRecord {
     pub active: WindowId,
     pub hooked: bool,
