@@ -2,11 +2,14 @@
 // the end of the memory is left out, so that texts laid one after the other are one text.
 #![tactic(auto)]
 
-ghost use Rattle.std.specs.Prelude.{◌≡◌, [], ◌∷◌, ◌++◌, ◌+◌, ◌/◌, ◌%◌, ◌<◌, ◌≤◌, min, length, nat_abs, eqb};
+ghost use Rattle.std.specs.Prelude.{◌≡◌, [], ◌∷◌, ◌++◌, ◌+◌, ◌/◌, ◌%◌, ◌<◌, ◌≤◌, min, length, nat_abs, eqb, IfOk, OnErr, IsTrue, ◌↔◌, Ok, true, false, take};
+ghost use Rattle.std.specs.Io.KnownBytes.{Appends};
 ghost use Rattle.wire.specs.Parts.{slice};
 ghost use Rattle.wire.specs.Tests.{pick};
-ghost use Rattle.print.specs.Laid.{Laid, laid};
+ghost use Rattle.print.specs.Laid.{Laid, laid, after};
 ghost use Rattle.print.specs.Texts.{hex_digit, hex_text, decimal_text, signed_text, numbers_text, rectangles_text};
+
+use std::io::Write;
 
 pub mod fill;
 
@@ -196,14 +199,18 @@ pub fn rectangles(out: &mut [u8], at: usize, ns: &[u16]) -> usize
     n
 }
 
-// Ends the line before index at and writes it. False where index at is past the end of the memory: nothing is written then.
-pub fn end_line(rt: &impl Print, out: &mut [u8], at: usize) -> std::io::Result<bool>
-    ensures { out.new ≡ laid out.old at (10 ∷ []) }
+// Ends the line before index at and writes it to a writer. False where index at is past the end of the memory: nothing is written then.
+pub fn end_line<W: Write>(to: &mut W, out: &mut [u8], at: usize) -> std::io::Result<bool>
+    ensures memory { out.new ≡ laid out.old at (10 ∷ []) }
+    ensures answer { IfOk result (λ within. IsTrue within ↔ (at ≤ length out.old)) }
+    ensures failed { OnErr result (at ≤ length out.old) }
+    ensures written { result ≡ Ok true → Appends (W.contents to.old) (W.contents to.new) (take (after out.old at (10 ∷ [])) out.new) }
+    ensures kept { result ≡ Ok false → to.new ≡ to.old }
 {
     let n = byte(out, at, b'\n');
     if n > out.len() {
         return Ok(false);
     }
-    rt.write_all(&out[0..n])?;
+    to.write_all(&out[0..n])?;
     Ok(true)
 }

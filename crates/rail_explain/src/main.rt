@@ -5,7 +5,6 @@
 ghost use Rattle.std.specs.Prelude.{◌≤◌, length};
 
 use explain::Explanation;
-use std::env::FillError;
 use std::fs::File;
 use std::io;
 use std::rt::{Env, Files};
@@ -17,6 +16,9 @@ const STATE: usize = explain_call::PLACES_AT + (places::MOST as usize) * store::
 
 // What is read of the order: a byte more than OrderSize can say.
 const ORDER: usize = 65536;
+
+// The longest argument that is read.
+const ARGUMENT: usize = 4096;
 
 // The longest text: the longest words, two numbers of up to 20 digits, and the ends of three lines.
 const TEXT: usize = 160;
@@ -34,11 +36,11 @@ fn unfit() -> Content
     Content { fit: false, len: 0 }
 }
 
-// Reads the file that argument i names, as much of it as out has room for. Nothing where it cannot be read.
+// Reads the file that argument i names, as much of it as out has room for. Nothing where it cannot be read, or its name is not UTF-8.
 fn read(rt: &(impl Env + Files), i: usize, out: &mut [u8]) -> Content
     ensures { result.len ≤ length out.new }
 {
-    let mut path = [0u8; 4096];
+    let mut path = [0u8; ARGUMENT];
     let Ok(n) = rt.arg(i, &mut path) else {
         return unfit();
     };
@@ -48,9 +50,10 @@ fn read(rt: &(impl Env + Files), i: usize, out: &mut [u8]) -> Content
     let Ok(mut file) = File::open(rt, name) else {
         return unfit();
     };
-    match input::fill(&mut file, out) {
-        Ok(len) => Content { fit: true, len },
-        Err(_) => unfit(),
+    let (len, ended) = input::fill(&mut file, out);
+    Content {
+        fit: (len > 0) | ended.is_ok(),
+        len,
     }
 }
 
@@ -66,14 +69,10 @@ fn lay(out: &mut [u8], e: Explanation) -> usize {
     n
 }
 
-// Whether there is an argument after the two.
+// Whether there is an argument after the two. An empty one counts as none, and so does one too long to be read.
 fn is_more(rt: &impl Env) -> bool {
-    let mut word = [0u8; 1];
-    match rt.arg(3, &mut word) {
-        Ok(n) => n > 0,
-        Err(FillError::NotPresent) => false,
-        Err(_) => true,
-    }
+    let mut word = [0u8; ARGUMENT];
+    matches!(rt.arg(3, &mut word), Ok(n) if n > 0)
 }
 
 // Says on standard error what is wrong with the arguments, and how the program is used.
@@ -101,7 +100,7 @@ fn run(
     let k = o.len;
     let mut out = [0u8; TEXT];
     let end = lay(&mut out, explain_call::in_one(&state[0..n], &order[0..k]));
-    print::end_line(rt, &mut out, end)?;
+    print::end_line(&mut io::writer(rt), &mut out, end)?;
     tell_unfit(rt, s.fit, o.fit)
 }
 

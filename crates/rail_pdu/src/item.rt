@@ -1,5 +1,5 @@
 // The items of a script: each is a kind (1 byte), a length (2) and a payload. A function whose name ends in
-// line lays a line without its end, and answers where it ends.
+// _line lays a line without its end, and answers where it ends.
 ghost use Rattle.std.specs.Prelude.{◌≤◌, length, IfOk};
 
 use crate::{channel, record, show};
@@ -18,7 +18,7 @@ struct Item {
     len: usize,
 }
 
-// What an item comes to. Line: a line lies in the memory for it, up to there without its end.
+// What an item comes to. Line: a line lies in the memory for it, so many bytes without its end.
 #[derive(Drop)]
 pub(crate) enum Outcome {
     Line(usize),
@@ -38,7 +38,7 @@ fn tell_bad(rt: &(impl Print + Eprint)) -> io::Result<()> {
 // Prints what an item came to, and answers whether the run goes on.
 fn tell(rt: &(impl Print + Eprint), outcome: Outcome, out: &mut [u8]) -> io::Result<bool> {
     match outcome {
-        Outcome::Line(n) => print::end_line(rt, out, n),
+        Outcome::Line(n) => print::end_line(&mut io::writer(rt), out, n),
         Outcome::Silent => Ok(true),
         Outcome::MemoryChanged => {
             println!(rt; "output memory changed")?;
@@ -200,7 +200,8 @@ fn read(rt: &(impl Print + Eprint), input: &mut impl Read, payload: &mut [u8]) -
     ensures { IfOk result (λ item. item.len ≤ length payload.new) }
 {
     let mut head = [0u8; 3];
-    let got = input::fill(input, &mut head)?;
+    let (got, ended) = input::fill(input, &mut head);
+    ended?;
     if got == 0 {
         return Ok(no_item());
     }
@@ -211,7 +212,9 @@ fn read(rt: &(impl Print + Eprint), input: &mut impl Read, payload: &mut [u8]) -
     if len > payload.len() {
         return cut_item(rt);
     }
-    if input::fill(input, &mut payload[0..len])? < len {
+    let (got, ended) = input::fill(input, &mut payload[0..len]);
+    ended?;
+    if got < len {
         return cut_item(rt);
     }
     Ok(Item {

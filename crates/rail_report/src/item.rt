@@ -39,7 +39,8 @@ pub(crate) fn read(rt: &impl Eprint, input: &mut impl Read, payload: &mut [u8]) 
     ensures { IfOk result (λ item. item.len ≤ length payload.new) }
 {
     let mut head = [0u8; 2];
-    let got = input::fill(input, &mut head)?;
+    let (got, ended) = input::fill(input, &mut head);
+    ended?;
     if got == 0 {
         return Ok(no_item());
     }
@@ -50,7 +51,9 @@ pub(crate) fn read(rt: &impl Eprint, input: &mut impl Read, payload: &mut [u8]) 
     if payload.len() < len {
         return Ok(no_item());
     }
-    if input::fill(input, &mut payload[0..len])? < len {
+    let (got, ended) = input::fill(input, &mut payload[0..len]);
+    ended?;
+    if got < len {
         return cut_item(rt);
     }
     Ok(Item { whole: true, len })

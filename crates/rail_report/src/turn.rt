@@ -105,7 +105,7 @@ pub(crate) fn next(
         let number = marks + 1;
         let mut out = [0u8; marks::LINE];
         let n = mark(index, bodies, a, b, c, d, e, journal, number, &mut out);
-        let on = print::end_line(rt, &mut out, n)?;
+        let on = print::end_line(&mut io::writer(rt), &mut out, n)?;
         return Ok(Turn { on, marks: number });
     }
     deliver(index, bodies, a, b, c, d, e, journal, &payload[0..len]);

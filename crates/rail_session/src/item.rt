@@ -67,7 +67,8 @@ pub(crate) fn read(
     ensures { IfOk result (λ item. item.len ≤ length payload.new) }
 {
     let mut head = [0u8; 3];
-    let got = input::fill(input, &mut head)?;
+    let (got, ended) = input::fill(input, &mut head);
+    ended?;
     if got == 0 {
         return Ok(no_item());
     }
@@ -79,7 +80,9 @@ pub(crate) fn read(
     if len > payload.len() {
         return cut_item(rt);
     }
-    if input::fill(input, &mut payload[0..len])? < len {
+    let (got, ended) = input::fill(input, &mut payload[0..len]);
+    ended?;
+    if got < len {
         return cut_item(rt);
     }
     Ok(Item {

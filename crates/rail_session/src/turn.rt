@@ -4,7 +4,7 @@ use crate::{batch, calls, dump, faults, holders, item, lending, look, records};
 use std::io;
 use std::io::Read;
 
-// What an item comes to. Line: a line lies in the memory for it, up to there without its end.
+// What an item comes to. Line: a line lies in the memory for it, so many bytes without its end.
 #[derive(Drop)]
 enum Outcome {
     Line(usize),
@@ -16,8 +16,8 @@ enum Outcome {
 // What an item came to, and what the next call is lent.
 #[derive(Drop)]
 struct Turn {
-    pub outcome: Outcome,
-    pub lending: Lending,
+    outcome: Outcome,
+    lending: Lending,
 }
 
 fn bad(lending: Lending) -> Turn {
@@ -37,7 +37,7 @@ fn silent(lending: Lending) -> Turn {
 // Prints what an item came to, and answers whether the run goes on.
 fn tell(rt: &(impl Print + Eprint), outcome: Outcome, out: &mut [u8]) -> io::Result<bool> {
     match outcome {
-        Outcome::Line(n) => print::end_line(rt, out, n),
+        Outcome::Line(n) => print::end_line(&mut io::writer(rt), out, n),
         Outcome::Silent => Ok(true),
         Outcome::MemoryChanged => {
             println!(rt; "output memory changed")?;
