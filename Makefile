@@ -26,7 +26,7 @@ target/staticlib/librail.a: $(sources)
 	    echo "make: the Rattle kit is missing: there is no rt in the PATH." >&2; \
 	    echo "make: it proves the library and compiles it. To try or install a librail.a that was built elsewhere: make install LIB_DIR=FOLDER" >&2; \
 	    exit 1; }
-	@echo "make: proves the library first; from nothing this took 13 to 20 minutes on two cores with the kit before this one"
+	@echo "make: proves the library first; from nothing this took 16 minutes on four cores"
 	cd crates/rail && rt lib
 	@mkdir -p target/staticlib
 	cp crates/rail/out/librail.a $@
