@@ -1,6 +1,7 @@
 pub mod Layout
 pub mod Settings
 pub mod Records
+pub mod Kinds
 pub mod Rules
 pub mod Answers
 pub mod Reading

@@ -11,7 +11,7 @@ use Rattle.pdu.specs.declared.Read.TheVariants as R
 use Rattle.pdu.specs.declared.Written.{Written}
 use Rattle.pdu.specs.declared.Written.TheVariants as W
 use Rattle.pdu.specs.Settings.{number_of, data_of, setting_with, moved}
-use Rattle.pdu.specs.Records.{span, is_yes, yes_number, kind_of, nums_of, positions_of, widths_of, size_of}
+use Rattle.pdu.specs.Records.{span, is_yes, yes_number, nums_of, positions_of, widths_of, size_of}
 use Rattle.pdu.specs.Answers.{answers, read_says, written_says}
 use Rattle.pdu.specs.Reading.{type_at, record_as, read_of, read_number}
 use Rattle.pdu.specs.Writing.{strings_of, encode, grants, written_of, written_number, out_after_of}

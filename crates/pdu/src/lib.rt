@@ -1,17 +1,20 @@
-// The control messages (PDUs) as records. Types, definitions and laws; document 01's rules for their numbers are decided in `pdu_rule`.
+// The control messages (PDUs) as records. Types, definitions and laws; the rules for their numbers are decided in `pdu_rule`.
 #![tactic(auto)]
 
+mod kinds;
+
+pub use kinds::Message;
 use protocol::{NotifyIconId, WindowId};
 
 // The part of the lent bytes where a string stands.
-#[derive(Clone, Copy)]
+#[derive(Clone, Copy, Debug, PartialEq, Eq)]
 pub struct Span {
     pub at: u32,
     pub len: u32,
 }
 
 // TS_RAIL_ORDER_EXEC, type 0001
-#[derive(Clone, Copy)]
+#[derive(Clone, Copy, Debug, PartialEq, Eq)]
 pub struct Execute {
     pub flags: u16,
     pub exe_or_file: Span,
@@ -20,27 +23,27 @@ pub struct Execute {
 }
 
 // TS_RAIL_ORDER_ACTIVATE, type 0002
-#[derive(Clone, Copy)]
+#[derive(Clone, Copy, Debug, PartialEq, Eq)]
 pub struct Activate {
     pub window_id: WindowId,
     pub enabled: u8,
 }
 
 // TS_RAIL_ORDER_SYSCOMMAND, type 0004
-#[derive(Clone, Copy)]
+#[derive(Clone, Copy, Debug, PartialEq, Eq)]
 pub struct SystemCommand {
     pub window_id: WindowId,
     pub command: u16,
 }
 
 // TS_RAIL_ORDER_HANDSHAKE, type 0005
-#[derive(Clone, Copy)]
+#[derive(Clone, Copy, Debug, PartialEq, Eq)]
 pub struct Handshake {
     pub build_number: u32,
 }
 
 // TS_RAIL_ORDER_NOTIFY_EVENT, type 0006
-#[derive(Clone, Copy)]
+#[derive(Clone, Copy, Debug, PartialEq, Eq)]
 pub struct NotifyEvent {
     pub window_id: WindowId,
     pub notify_icon_id: NotifyIconId,
@@ -48,7 +51,7 @@ pub struct NotifyEvent {
 }
 
 // TS_RAIL_ORDER_WINDOWMOVE, type 0008
-#[derive(Clone, Copy)]
+#[derive(Clone, Copy, Debug, PartialEq, Eq)]
 pub struct WindowMove {
     pub window_id: WindowId,
     pub left: i16,
@@ -58,7 +61,7 @@ pub struct WindowMove {
 }
 
 // TS_RAIL_ORDER_LOCALMOVESIZE, type 0009
-#[derive(Clone, Copy)]
+#[derive(Clone, Copy, Debug, PartialEq, Eq)]
 pub struct MoveSize {
     pub window_id: WindowId,
     pub is_start: bool,
@@ -68,7 +71,7 @@ pub struct MoveSize {
 }
 
 // TS_RAIL_ORDER_MINMAXINFO, type 000A
-#[derive(Clone, Copy)]
+#[derive(Clone, Copy, Debug, PartialEq, Eq)]
 pub struct MinMaxInfo {
     pub window_id: WindowId,
     pub max_width: u16,
@@ -82,13 +85,13 @@ pub struct MinMaxInfo {
 }
 
 // TS_RAIL_ORDER_CLIENTSTATUS, type 000B
-#[derive(Clone, Copy)]
+#[derive(Clone, Copy, Debug, PartialEq, Eq)]
 pub struct ClientInformation {
     pub flags: u32,
 }
 
 // TS_RAIL_ORDER_SYSMENU, type 000C
-#[derive(Clone, Copy)]
+#[derive(Clone, Copy, Debug, PartialEq, Eq)]
 pub struct SystemMenu {
     pub window_id: WindowId,
     pub left: i16,
@@ -96,20 +99,20 @@ pub struct SystemMenu {
 }
 
 // TS_RAIL_ORDER_GET_APPID_REQ, type 000E
-#[derive(Clone, Copy)]
+#[derive(Clone, Copy, Debug, PartialEq, Eq)]
 pub struct GetApplicationId {
     pub window_id: WindowId,
 }
 
 // TS_RAIL_ORDER_GET_APPID_RESP, type 000F
-#[derive(Clone, Copy)]
+#[derive(Clone, Copy, Debug, PartialEq, Eq)]
 pub struct ApplicationIdResponse {
     pub window_id: WindowId,
     pub application_id: Span,
 }
 
 // TS_RAIL_ORDER_EXEC_RESULT, type 0080
-#[derive(Clone, Copy)]
+#[derive(Clone, Copy, Debug, PartialEq, Eq)]
 pub struct ExecuteResult {
     pub flags: u16,
     pub exec_result: u16,
@@ -118,7 +121,7 @@ pub struct ExecuteResult {
 }
 
 // TS_RECTANGLE_16
-#[derive(Clone, Copy)]
+#[derive(Clone, Copy, Debug, PartialEq, Eq)]
 pub struct Rectangle {
     pub left: u16,
     pub top: u16,
@@ -127,14 +130,14 @@ pub struct Rectangle {
 }
 
 // TS_HIGHCONTRAST
-#[derive(Clone, Copy)]
+#[derive(Clone, Copy, Debug, PartialEq, Eq)]
 pub struct HighContrast {
     pub flags: u32,
     pub color_scheme: Span,
 }
 
 // SystemParam with its body. The client sends the first eight, the server the last two.
-#[derive(Clone, Copy)]
+#[derive(Clone, Copy, Debug, PartialEq, Eq)]
 pub enum Setting {
     // SPI_SETDRAGFULLWINDOWS, 00000025
     DragFullWindows(u8),
@@ -159,19 +162,19 @@ pub enum Setting {
 }
 
 // TS_RAIL_ORDER_SYSPARAM, type 0003
-#[derive(Clone, Copy)]
+#[derive(Clone, Copy, Debug, PartialEq, Eq)]
 pub struct SystemParameters {
     pub setting: Setting,
 }
 
 // TS_RAIL_ORDER_HANDSHAKE_EX, type 0013
-#[derive(Clone, Copy)]
+#[derive(Clone, Copy, Debug, PartialEq, Eq)]
 pub struct HandshakeEx {
     pub build_number: u32,
     pub flags: u32,
 }
 
-#[derive(Clone, Copy)]
+#[derive(Clone, Copy, Debug, PartialEq, Eq)]
 pub enum Pdu {
     Execute(Execute),
     Activate(Activate),
@@ -191,14 +194,14 @@ pub enum Pdu {
 }
 
 // What reading answers: the record, or the number of the refusal.
-#[derive(Clone, Copy)]
+#[derive(Clone, Copy, Debug, PartialEq, Eq)]
 pub enum Read {
     Message(Pdu),
     Refused(u8),
 }
 
 // What writing answers: how many bytes were written, or the number of the refusal.
-#[derive(Clone, Copy)]
+#[derive(Clone, Copy, Debug, PartialEq, Eq)]
 pub enum Written {
     Bytes(usize),
     Refused(u8),
