@@ -1,86 +1,48 @@
 // Whether words stand for a record.
 #![tactic(auto)]
 
+mod kinds;
+mod limits;
+
 ghost use Rattle.std.specs.Prelude.{◌≡◌, get_or};
-ghost use Rattle.pdu_words.specs.FromWords.{setting_most, within, stand};
+ghost use Rattle.pdu_words.specs.FromWords.{stand};
 
-// The greatest numbers of 8, 16 and 32 bits.
-const U8: u32 = 0xFF;
+use pdu::{
+    Activate, ApplicationIdResponse, ClientInformation, Execute, ExecuteResult, GetApplicationId,
+    Handshake, HandshakeEx, Message, MinMaxInfo, MoveSize, NotifyEvent, SystemCommand, SystemMenu,
+    SystemParameters, WindowMove,
+};
 
-const U16: u32 = 0xFFFF;
-
-const U32: u32 = 0xFFFF_FFFF;
-
-// Each word is at most its number of m.
-fn is_within(w: &[u32; 12], m: [u32; 12]) -> bool
-    ensures { result ≡ within w.now m }
-{
-    let mut ok = true;
-    let mut i = 0;
-    while i < 12 {
-        ok = ok & (w[i] <= m[i]);
-        i += 1;
-    }
-    ok
+// A kind of message with the rule for its words.
+pub trait Words: Message {
+    // Words of this type stand for a record: each is at most the greatest number of its field, 1 for start and 0 after the last
+    // field, and a position is a sign-extended number of 16 bits.
+    fn stand(w: &[u32; 12]) -> bool
+        requires { get_or w.now 0 0 ≡ Self.TYPE }
+        ensures { result ≡ stand w.now };
 }
 
-// The same of words of type 0003, by the setting in the second word.
-fn is_setting(w: &[u32; 12]) -> bool
-    requires { get_or w.now 0 0 ≡ 0x03 }
-    ensures { result ≡ within w.now (setting_most (get_or w.now 1 0)) }
-{
-    let n = w[1];
-    if pdu_rule::is_byte_setting(n) {
-        return is_within(w, [0x03, n, U8, 0, 0, 0, 0, 0, 0, 0, 0, 0]);
-    }
-    if pdu_rule::is_area_setting(n) {
-        return is_within(w, [0x03, n, U16, U16, U16, U16, 0, 0, 0, 0, 0, 0]);
-    }
-    if n == 0x43 {
-        return is_within(w, [0x03, n, U32, U32, U32, 0, 0, 0, 0, 0, 0, 0]);
-    }
-    false
-}
-
-// The words stand for a record: the type is known, each word is at most the greatest number of its field, 1 for start and 0 after
-// the last field, and a position is a sign-extended number of 16 bits.
+// Words stand for a record: the type is known, and they are those of a record of that type.
+#[tactic(auto, unfolding(pdu_words::specs::FromWords::stand, pdu::specs::Layout::known))]
 pub fn is_record(w: &[u32; 12]) -> bool
     ensures { result ≡ stand w.now }
 {
-    match w[0] {
-        0x01 => is_within(w, [0x01, U16, U32, U32, U32, U32, U32, U32, 0, 0, 0, 0]),
-        0x02 => is_within(w, [0x02, U32, U8, 0, 0, 0, 0, 0, 0, 0, 0, 0]),
-        0x04 => is_within(w, [0x04, U32, U16, 0, 0, 0, 0, 0, 0, 0, 0, 0]),
-        0x05 => is_within(w, [0x05, U32, 0, 0, 0, 0, 0, 0, 0, 0, 0, 0]),
-        0x06 => is_within(w, [0x06, U32, U32, U32, 0, 0, 0, 0, 0, 0, 0, 0]),
-        0x08 => {
-            is_within(w, [0x08, U32, U32, U32, U32, U32, 0, 0, 0, 0, 0, 0])
-                & signs::is_short(w[2])
-                & signs::is_short(w[3])
-                & signs::is_short(w[4])
-                & signs::is_short(w[5])
-        }
-        0x09 => {
-            is_within(w, [0x09, U32, 1, U16, U32, U32, 0, 0, 0, 0, 0, 0])
-                & signs::is_short(w[4])
-                & signs::is_short(w[5])
-        }
-        0x0A => {
-            is_within(w, [0x0A, U32, U16, U16, U32, U32, U16, U16, U16, U16, 0, 0])
-                & signs::is_short(w[4])
-                & signs::is_short(w[5])
-        }
-        0x0B => is_within(w, [0x0B, U32, 0, 0, 0, 0, 0, 0, 0, 0, 0, 0]),
-        0x0C => {
-            is_within(w, [0x0C, U32, U32, U32, 0, 0, 0, 0, 0, 0, 0, 0])
-                & signs::is_short(w[2])
-                & signs::is_short(w[3])
-        }
-        0x0E => is_within(w, [0x0E, U32, 0, 0, 0, 0, 0, 0, 0, 0, 0, 0]),
-        0x0F => is_within(w, [0x0F, U32, U32, U32, 0, 0, 0, 0, 0, 0, 0, 0]),
-        0x03 => is_setting(w),
-        0x13 => is_within(w, [0x13, U32, U32, 0, 0, 0, 0, 0, 0, 0, 0, 0]),
-        0x80 => is_within(w, [0x80, U16, U16, U32, U32, U32, 0, 0, 0, 0, 0, 0]),
+    match u16::try_from(w[0]) {
+        Ok(Execute::TYPE) => Execute::stand(w),
+        Ok(Activate::TYPE) => Activate::stand(w),
+        Ok(SystemCommand::TYPE) => SystemCommand::stand(w),
+        Ok(Handshake::TYPE) => Handshake::stand(w),
+        Ok(NotifyEvent::TYPE) => NotifyEvent::stand(w),
+        Ok(WindowMove::TYPE) => WindowMove::stand(w),
+        Ok(MoveSize::TYPE) => MoveSize::stand(w),
+        Ok(MinMaxInfo::TYPE) => MinMaxInfo::stand(w),
+        Ok(ClientInformation::TYPE) => ClientInformation::stand(w),
+        Ok(SystemMenu::TYPE) => SystemMenu::stand(w),
+        Ok(GetApplicationId::TYPE) => GetApplicationId::stand(w),
+        Ok(ApplicationIdResponse::TYPE) => ApplicationIdResponse::stand(w),
+        Ok(SystemParameters::TYPE) => SystemParameters::stand(w),
+        Ok(HandshakeEx::TYPE) => HandshakeEx::stand(w),
+        Ok(ExecuteResult::TYPE) => ExecuteResult::stand(w),
         _ => false,
     }
 }
