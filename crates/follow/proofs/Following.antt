@@ -20,7 +20,7 @@ use Rattle.index.specs.declared.Plan.TheVariants.{ChangeRecord, ChangeDesktop, R
 use Rattle.index.specs.Memory.{index_of}
 use Rattle.index.specs.Plans.{change_of, plan_of}
 use Rattle.index.specs.Changes.{applied_of}
-use Rattle.body.specs.Bodies.{desktop_fields, slot_of, body_of, body_ok}
+use Rattle.body.specs.Bodies.{desktop_fields, body_of, body_ok}
 use Rattle.picture.specs.Pictures.{picture_at, head_ok}
 use Rattle.table.specs.Table.{Table, change_record, after}
 use Rattle.table.specs.Memory.{heads_of, decode, sound_table}
@@ -30,7 +30,8 @@ use Rattle.table.proofs.Able.{record_able, plan_follows}
 use Rattle.table.proofs.Bodied.{desktop_length}
 use Rattle.table.proofs.Rule.{table_has}
 use Rattle.follow.specs.declared.Want.{Want}
-use Rattle.follow.specs.declared.Want.TheVariants.{Nothing, Window, Notification, Pictures, Desktop}
+use Rattle.std.specs.Prelude.{Option, Some, None}
+use Rattle.follow.specs.declared.Want.TheVariants.{Window, Notification, Pictures, Desktop}
 use Rattle.follow.specs.Follow.{slot_room, record_room, room_for, held_origins, origin_at, carried_by, begin_of, slot_followed, origins_followed, record_followed, pictures_followed, desktop_followed, followed_of, PicturesHeld, RecordHeld, Holds}
 use Rattle.follow.proofs.Origins.{no_origins_lem, origin_cleared, puts_at, length_followed, followed_before, origin_followed}
 use Rattle.follow.proofs.Pictured.{pictures_then}
@@ -41,37 +42,37 @@ use Rattle.table.proofs.Pointed.{picked}
 
 -- ---- the beginning
 
-pub begin_origins : (want : Want) (x b m : List ℕ) → length m ≡ room_for want → (k : ℕ) → origin_at (held_origins want (begin_of want x b m)) k ≡ 0
+pub begin_origins : (want : Option Want) (x b m : List ℕ) → length m ≡ room_for want → (k : ℕ) → origin_at (held_origins want (begin_of want x b m)) k ≡ 0
 unfolding begin_of
-begin_origins Nothing x b m long k = no_origins_lem k
-begin_origins (Window w) x b m long k = record_origins Windows b m long (slots.slot_of x Windows w.id 0) k
-begin_origins (Notification w n) x b m long k = record_origins Notifications b m long (slots.slot_of x Notifications w.id n.id) k
-begin_origins Pictures x b m long k = origin_cleared m 0 (omega arith) k
-begin_origins Desktop x b m long k = no_origins_lem k
+begin_origins None x b m long k = no_origins_lem k
+begin_origins (Some (Window w)) x b m long k = record_origins Windows b m long (slots.slot_of x Windows w.id 0) k
+begin_origins (Some (Notification w n)) x b m long k = record_origins Notifications b m long (slots.slot_of x Notifications w.id n.id) k
+begin_origins (Some Pictures) x b m long k = origin_cleared m 0 (omega arith) k
+begin_origins (Some Desktop) x b m long k = no_origins_lem k
 
-pub begin_length : (want : Want) (x b : List ℕ) (lent : ℕ) (m : List ℕ) → sound_table x b lent ≡ true → length m ≡ room_for want → length (begin_of want x b m) ≡ room_for want
+pub begin_length : (want : Option Want) (x b : List ℕ) (lent : ℕ) (m : List ℕ) → sound_table x b lent ≡ true → length m ≡ room_for want → length (begin_of want x b m) ≡ room_for want
 unfolding begin_of
-begin_length Nothing x b lent m sound long = long
-begin_length (Window w) x b lent m sound long = record_length Windows b m long (slots.slot_of x Windows w.id 0)
-begin_length (Notification w n) x b lent m sound long = record_length Notifications b m long (slots.slot_of x Notifications w.id n.id)
-begin_length Pictures x b lent m sound long = let e = length_zeros 128 in length_splice m 0 (replicate 128 0) (omega arith) ∙ long
-begin_length Desktop x b lent m sound long = begun.desktop_length b m (table_has x b lent sound).big long
+begin_length None x b lent m sound long = long
+begin_length (Some (Window w)) x b lent m sound long = record_length Windows b m long (slots.slot_of x Windows w.id 0)
+begin_length (Some (Notification w n)) x b lent m sound long = record_length Notifications b m long (slots.slot_of x Notifications w.id n.id)
+begin_length (Some Pictures) x b lent m sound long = let e = length_zeros 128 in length_splice m 0 (replicate 128 0) (omega arith) ∙ long
+begin_length (Some Desktop) x b lent m sound long = begun.desktop_length b m (table_has x b lent sound).big long
 
-pub begin_holds : (want : Want) (x b : List ℕ) (p : List (List ℕ)) (lent : ℕ) (m : List ℕ) (since : ℕ → List ℕ) → sound_table x b lent ≡ true → length m ≡ room_for want
+pub begin_holds : (want : Option Want) (x b : List ℕ) (p : List (List ℕ)) (lent : ℕ) (m : List ℕ) (since : ℕ → List ℕ) → sound_table x b lent ≡ true → length m ≡ room_for want
     → Holds want (decode x b p) x (begin_of want x b m) (picture_at (heads_of b) p) since (head_ok (heads_of b))
 unfolding Holds begin_of decode
 begin_holds want x b p lent m since sound long = go want long
   where
-    pictured : (want : Want) → length m ≡ room_for want
+    pictured : (want : Option Want) → length m ≡ room_for want
         → PicturesHeld (decode x b p) x (held_origins want (begin_of want x b m)) (picture_at (heads_of b) p) since (head_ok (heads_of b))
     pictured want long = pictures_begun x b p lent (held_origins want (begin_of want x b m)) since (table_has x b lent sound) (begin_origins want x b m long)
 
-    go : (want : Want) → length m ≡ room_for want → Holds want (decode x b p) x (begin_of want x b m) (picture_at (heads_of b) p) since (head_ok (heads_of b))
-    go Nothing long = tt
-    go (Window w) long = (record_begun x b p lent m (table_has x b lent sound) Windows long w.id 0, pictured (Window w) long)
-    go (Notification w n) long = (record_begun x b p lent m (table_has x b lent sound) Notifications long w.id n.id, pictured (Notification w n) long)
-    go Pictures long = pictured Pictures long
-    go Desktop long =
+    go : (want : Option Want) → length m ≡ room_for want → Holds want (decode x b p) x (begin_of want x b m) (picture_at (heads_of b) p) since (head_ok (heads_of b))
+    go None long = tt
+    go (Some (Window w)) long = (record_begun x b p lent m (table_has x b lent sound) Windows long w.id 0, pictured (Some (Window w)) long)
+    go (Some (Notification w n)) long = (record_begun x b p lent m (table_has x b lent sound) Notifications long w.id n.id, pictured (Some (Notification w n)) long)
+    go (Some Pictures) long = pictured (Some Pictures) long
+    go (Some Desktop) long =
         let g = table_has x b lent sound in
         let e = desktop_copied b m g.big long in
         (ap (body_of desktop_fields) e, ap (body_ok desktop_fields 1 1) e ∙ g.desktop)
@@ -131,21 +132,21 @@ module _ (s : List ℕ) (q : ℕ) (p : Plan) (a : Follows s p) where
       go (ChangeDesktop flags) a = desktop_length flags s m long a.0 a.1
       go (Refuse n) a = long
 
-pub follow_length : (want : Want) (d s m : List ℕ) (q : ℕ) → Bytes s → sound_index d ≡ true → length m ≡ room_for want → length (followed_of want q s (plan_of d s) m) ≡ room_for want
+pub follow_length : (want : Option Want) (d s m : List ℕ) (q : ℕ) → Bytes s → sound_index d ≡ true → length m ≡ room_for want → length (followed_of want q s (plan_of d s) m) ≡ room_for want
 unfolding followed_of
 follow_length want d s m q bytes sound long = go want long
   where
     a : Follows s (plan_of d s)
     a = plan_follows d s bytes sound
 
-    go : (want : Want) → length m ≡ room_for want → length (followed_of want q s (plan_of d s) m) ≡ room_for want
-    go Nothing long = long
-    go (Window w) long = record-long s q (plan_of d s) a Windows w.id 0 m long
-    go (Notification w n) long = record-long s q (plan_of d s) a Notifications w.id n.id m long
-    go Pictures long = pictures_long s q (plan_of d s) a m long
-    go Desktop long = desktop_long s q (plan_of d s) a m long
+    go : (want : Option Want) → length m ≡ room_for want → length (followed_of want q s (plan_of d s) m) ≡ room_for want
+    go None long = long
+    go (Some (Window w)) long = record-long s q (plan_of d s) a Windows w.id 0 m long
+    go (Some (Notification w n)) long = record-long s q (plan_of d s) a Notifications w.id n.id m long
+    go (Some Pictures) long = pictures_long s q (plan_of d s) a m long
+    go (Some Desktop) long = desktop_long s q (plan_of d s) a m long
 
-pub follow_origins : (want : Want) (d s m : List ℕ) (q : ℕ) → Bytes s → sound_index d ≡ true → length m ≡ room_for want → q < 65536 → (P : ℕ → Type 0)
+pub follow_origins : (want : Option Want) (d s m : List ℕ) (q : ℕ) → Bytes s → sound_index d ≡ true → length m ≡ room_for want → q < 65536 → (P : ℕ → Type 0)
     → ((k : ℕ) → P (origin_at (held_origins want m) k)) → P q → (k : ℕ) → P (origin_at (held_origins want (followed_of want q s (plan_of d s) m)) k)
 unfolding followed_of
 follow_origins want d s m q bytes sound long small P were new k = go want long were
@@ -156,14 +157,14 @@ follow_origins want d s m q bytes sound long small P were new k = go want long w
     by : (now old : List ℕ) → origin_at now k ≡ pick (puts_at (plan_of d s) k) q (origin_at old k) → P (origin_at old k) → P (origin_at now k)
     by now old e h = subst P (sym e) (picked P (puts_at (plan_of d s) k) q (origin_at old k) new h)
 
-    go : (want : Want) → length m ≡ room_for want → ((k : ℕ) → P (origin_at (held_origins want m) k)) → P (origin_at (held_origins want (followed_of want q s (plan_of d s) m)) k)
-    go Nothing long were = were k
-    go (Window w) long were =
+    go : (want : Option Want) → length m ≡ room_for want → ((k : ℕ) → P (origin_at (held_origins want m) k)) → P (origin_at (held_origins want (followed_of want q s (plan_of d s) m)) k)
+    go None long were = were k
+    go (Some (Window w)) long were =
         by (slice (record_followed Windows w.id 0 q s (plan_of d s) m) (slot_room Windows) 128) (slice m (slot_room Windows) 128) (record-puts s q (plan_of d s) a Windows w.id 0 m long small k) (were k)
-    go (Notification w n) long were =
+    go (Some (Notification w n)) long were =
         by (slice (record_followed Notifications w.id n.id q s (plan_of d s) m) (slot_room Notifications) 128) (slice m (slot_room Notifications) 128) (record-puts s q (plan_of d s) a Notifications w.id n.id m long small k) (were k)
-    go Pictures long were = by (slice (pictures_followed q (plan_of d s) m) 0 128) (slice m 0 128) (pictures-puts s q (plan_of d s) a m long small k) (were k)
-    go Desktop long were = were k
+    go (Some Pictures) long were = by (slice (pictures_followed q (plan_of d s) m) 0 128) (slice m 0 128) (pictures-puts s q (plan_of d s) a m long small k) (were k)
+    go (Some Desktop) long were = were k
 
 -- ---- what it then holds
 
@@ -200,7 +201,7 @@ module _ (t : Table) (d s : List ℕ) (q : ℕ) (bytes : Bytes s) (sound : sound
           (r.0 ∙ sym (ap (λ (u : Table). u.desktop) (k.changed t)), r.1)
       go (Refuse n) (changes_none k e) = (is ∙ sym (ap (λ (u : Table). u.desktop) (e t same)), fine)
 
-pub follow_holds : (want : Want) (t : Table) (d s m : List ℕ) (q : ℕ) (marked since : ℕ → List ℕ) (ok : ℕ → Bool) → Bytes s → sound_index d ≡ true → t.index ≡ index_of d
+pub follow_holds : (want : Option Want) (t : Table) (d s m : List ℕ) (q : ℕ) (marked since : ℕ → List ℕ) (ok : ℕ → Bool) → Bytes s → sound_index d ≡ true → t.index ≡ index_of d
     → length m ≡ room_for want → (q ≡ 0 → ⊥) → q < 65536 → since q ≡ carried_by s → Holds want t d m marked since ok
     → Holds want (after t s) (applied_of d (plan_of d s)) (followed_of want q s (plan_of d s) m) marked since ok
 unfolding Holds followed_of
@@ -215,13 +216,13 @@ follow_holds want t d s m q marked since ok bytes sound same long ne small carri
         pictures_then t d s q marked since ok bytes sound same ne carried (slice m (slot_room f) 128) (slice (record_followed f x y q s (plan_of d s) m) (slot_room f) 128)
         (record-puts s q (plan_of d s) a f x y m long small) h
 
-    go : (want : Want) → length m ≡ room_for want → Holds want t d m marked since ok
+    go : (want : Option Want) → length m ≡ room_for want → Holds want t d m marked since ok
         → Holds want (after t s) (applied_of d (plan_of d s)) (followed_of want q s (plan_of d s) m) marked since ok
-    go Nothing long h = tt
-    go (Window w) long h = (record_holds t d s q bytes sound same Windows w.id 0 m long h.0, of_record Windows w.id 0 long h.1)
-    go (Notification w n) long h =
+    go None long h = tt
+    go (Some (Window w)) long h = (record_holds t d s q bytes sound same Windows w.id 0 m long h.0, of_record Windows w.id 0 long h.1)
+    go (Some (Notification w n)) long h =
         (record_holds t d s q bytes sound same Notifications w.id n.id m long h.0, of_record Notifications w.id n.id long h.1)
-    go Pictures long h =
+    go (Some Pictures) long h =
         pictures_then t d s q marked since ok bytes sound same ne carried (slice m 0 128) (slice (pictures_followed q (plan_of d s) m) 0 128)
         (pictures-puts s q (plan_of d s) a m long small) h
-    go Desktop long h = desktop_holds t d s q bytes sound same m long h.0 h.1
+    go (Some Desktop) long h = desktop_holds t d s q bytes sound same m long h.0 h.1

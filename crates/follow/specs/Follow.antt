@@ -1,6 +1,6 @@
 -- A record, the pictures or the desktop state followed through the orders of a journal, in a memory of its own: what it begins
 -- with, what a judged order makes of it, and that it holds what a table has. Assumes nothing.
-use Rattle.std.specs.Prelude.{ℕ, ◌+◌, ◌*◌, ◌-◌, ◌≡◌, Bool, true, not, List, [], eqb, replicate}
+use Rattle.std.specs.Prelude.{Option, Some, None, ℕ, ◌+◌, ◌*◌, ◌-◌, ◌≡◌, Bool, true, not, List, [], eqb, replicate}
 use Rattle.wire.specs.Tests.{pick, both}
 use Rattle.wire.specs.Numbers.{num_at, bytes_of}
 use Rattle.wire.specs.Parts.{slice, splice}
@@ -20,7 +20,7 @@ use Rattle.index.specs.Orders.{on_judged, brings_icon}
 use Rattle.body.specs.Bodies.{desktop_fields, slot_start, slot_of, fields_of, body_of, body_ok}
 use Rattle.cache.specs.Cells.{carried_picture}
 use Rattle.follow.specs.declared.Want.{Want}
-use Rattle.follow.specs.declared.Want.TheVariants.{Nothing, Window, Notification, Pictures, Desktop}
+use Rattle.follow.specs.declared.Want.TheVariants.{Window, Notification, Pictures, Desktop}
 use Rattle.table.specs.Table.{Table, field_rows}
 use Rattle.table.specs.Memory.{shown_in}
 use Rattle.table.specs.Changes.{puts_picture, slot_after, desktop_slot}
@@ -37,23 +37,23 @@ slot_room Notifications = 916
 abbrev pub record_room : Family → ℕ
 record_room f = slot_room f + origins_length
 
-abbrev pub room_for : Want → ℕ
-room_for Nothing = 0
-room_for (Window w) = record_room Windows
-room_for (Notification w n) = record_room Notifications
-room_for Pictures = origins_length
-room_for Desktop = 916
+abbrev pub room_for : Option Want → ℕ
+room_for None = 0
+room_for (Some (Window w)) = record_room Windows
+room_for (Some (Notification w n)) = record_room Notifications
+room_for (Some Pictures) = origins_length
+room_for (Some Desktop) = 916
 
 abbrev pub held_slot : Family → List ℕ → List ℕ
 held_slot f m = slice m 0 (slot_room f)
 
 -- the origins: none where no picture is followed
-abbrev pub held_origins : Want → List ℕ → List ℕ
-held_origins Nothing m = []
-held_origins (Window w) m = slice m (slot_room Windows) origins_length
-held_origins (Notification w n) m = slice m (slot_room Notifications) origins_length
-held_origins Pictures m = slice m 0 origins_length
-held_origins Desktop m = []
+abbrev pub held_origins : Option Want → List ℕ → List ℕ
+held_origins None m = []
+held_origins (Some (Window w)) m = slice m (slot_room Windows) origins_length
+held_origins (Some (Notification w n)) m = slice m (slot_room Notifications) origins_length
+held_origins (Some Pictures) m = slice m 0 origins_length
+held_origins (Some Desktop) m = []
 
 -- 0 for a picture of the store at the mark, else the index in the journal of the order that brought it
 unfoldable pub origin_at : List ℕ → ℕ → ℕ
@@ -78,12 +78,12 @@ begin_slot f w bodies m = on_found w m (λ i. splice m 0 (slice bodies (slot_sta
 abbrev pub begin_record : Family → Found → List ℕ → List ℕ → List ℕ
 begin_record f w bodies m = splice (begin_slot f w bodies m) (slot_room f) no_origins
 
-unfoldable pub begin_of : Want → List ℕ → List ℕ → List ℕ → List ℕ
-begin_of Nothing index bodies m = m
-begin_of (Window w) index bodies m = begin_record Windows (slots.slot_of index Windows w.id 0) bodies m
-begin_of (Notification w n) index bodies m = begin_record Notifications (slots.slot_of index Notifications w.id n.id) bodies m
-begin_of Pictures index bodies m = splice m 0 no_origins
-begin_of Desktop index bodies m = splice m 0 (slot_of bodies 48)
+unfoldable pub begin_of : Option Want → List ℕ → List ℕ → List ℕ → List ℕ
+begin_of None index bodies m = m
+begin_of (Some (Window w)) index bodies m = begin_record Windows (slots.slot_of index Windows w.id 0) bodies m
+begin_of (Some (Notification w n)) index bodies m = begin_record Notifications (slots.slot_of index Notifications w.id n.id) bodies m
+begin_of (Some Pictures) index bodies m = splice m 0 no_origins
+begin_of (Some Desktop) index bodies m = splice m 0 (slot_of bodies 48)
 
 -- ---- one order, which begins at index q of the journal: a deleted record is left as it is, since only a new one can come after it
 
@@ -112,12 +112,12 @@ desktop_followed s (ChangeRecord c) m = m
 desktop_followed s (ChangeDesktop flags) m = desktop_slot flags s m
 desktop_followed s (Refuse n) m = m
 
-unfoldable pub followed_of : Want → ℕ → List ℕ → Plan → List ℕ → List ℕ
-followed_of Nothing q s p m = m
-followed_of (Window w) q s p m = record_followed Windows w.id 0 q s p m
-followed_of (Notification w n) q s p m = record_followed Notifications w.id n.id q s p m
-followed_of Pictures q s p m = pictures_followed q p m
-followed_of Desktop q s p m = desktop_followed s p m
+unfoldable pub followed_of : Option Want → ℕ → List ℕ → Plan → List ℕ → List ℕ
+followed_of None q s p m = m
+followed_of (Some (Window w)) q s p m = record_followed Windows w.id 0 q s p m
+followed_of (Some (Notification w n)) q s p m = record_followed Notifications w.id n.id q s p m
+followed_of (Some Pictures) q s p m = pictures_followed q p m
+followed_of (Some Desktop) q s p m = desktop_followed s p m
 
 -- ---- what the memory then holds, beside an index d of the table
 
@@ -131,10 +131,10 @@ pub record RecordHeld (t : Table) (f : Family) (a b : ℕ) (m : List ℕ) : Type
   pub fields : t.index.listed f a b ≡ true → fields_of (field_rows f) 2 (held_slot f m) ≡ t.fields f a b
   pub ok : t.index.listed f a b ≡ true → body_ok (field_rows f) 0 0 (held_slot f m) ≡ true
 
-unfoldable pub Holds : Want → Table → List ℕ → List ℕ → (ℕ → List ℕ) → (ℕ → List ℕ) → (ℕ → Bool) → Type 0
-Holds Nothing t d m marked since ok = Unit {0}
-Holds (Window w) t d m marked since ok = RecordHeld t Windows w.id 0 m × PicturesHeld t d (held_origins (Window w) m) marked since ok
-Holds (Notification w n) t d m marked since ok =
-    RecordHeld t Notifications w.id n.id m × PicturesHeld t d (held_origins (Notification w n) m) marked since ok
-Holds Pictures t d m marked since ok = PicturesHeld t d (held_origins Pictures m) marked since ok
-Holds Desktop t d m marked since ok = (body_of desktop_fields m ≡ t.desktop) × (body_ok desktop_fields 1 1 m ≡ true)
+unfoldable pub Holds : Option Want → Table → List ℕ → List ℕ → (ℕ → List ℕ) → (ℕ → List ℕ) → (ℕ → Bool) → Type 0
+Holds None t d m marked since ok = Unit {0}
+Holds (Some (Window w)) t d m marked since ok = RecordHeld t Windows w.id 0 m × PicturesHeld t d (held_origins (Some (Window w)) m) marked since ok
+Holds (Some (Notification w n)) t d m marked since ok =
+    RecordHeld t Notifications w.id n.id m × PicturesHeld t d (held_origins (Some (Notification w n)) m) marked since ok
+Holds (Some Pictures) t d m marked since ok = PicturesHeld t d (held_origins (Some Pictures) m) marked since ok
+Holds (Some Desktop) t d m marked since ok = (body_of desktop_fields m ≡ t.desktop) × (body_ok desktop_fields 1 1 m ≡ true)

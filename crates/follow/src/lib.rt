@@ -4,11 +4,10 @@
 
 use protocol::{NotifyIconId, WindowId};
 
-// What is followed: nothing, a window by its id, a notification icon by its two ids (each with all pictures), the pictures
-// alone, or the desktop state.
-#[derive(Clone, Copy)]
+// What is followed: a window by its id, a notification icon by its two ids (each with all pictures), the pictures alone, or the
+// desktop state.
+#[derive(Clone, Copy, Debug, PartialEq, Eq)]
 pub enum Want {
-    Nothing,
     Window(WindowId),
     Notification(WindowId, NotifyIconId),
     Pictures,

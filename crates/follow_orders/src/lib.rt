@@ -1,7 +1,7 @@
 // What is looked up taken from the table at the mark and followed through the orders of a journal, in a memory of its own.
 #![tactic(auto)]
 
-ghost use Rattle.std.specs.Prelude.{◌≡◌, ◌+◌, ◌<◌, ◌≤◌, length};
+ghost use Rattle.std.specs.Prelude.{Some, ◌≡◌, ◌+◌, ◌<◌, ◌≤◌, length};
 ghost use Rattle.slots.specs.Families.{index_length};
 ghost use Rattle.table.specs.Memory.{bodies_length};
 ghost use Rattle.slots.specs.Slots as slots;
@@ -24,6 +24,7 @@ fn slot_room(family: Family) -> usize
 }
 
 // Copies the slot in which the record of the ids is listed, where it is.
+#[tactic(auto, using(follow::proofs::Ways::slot_below, follow::proofs::Ways::slot_found, follow::proofs::Ways::begun_nothing))]
 fn begin_slot(
     m: &mut [u8],
     index: &[u8],
@@ -61,10 +62,14 @@ fn begin_record(
 }
 
 // Takes what is wanted from the table at the mark.
-pub fn begin(m: &mut [u8], index: &[u8], bodies: &[u8], want: Want)
+#[tactic(auto, unfolding(follow::specs::Follow::begin_of, body::specs::Bodies::slot_of, body::specs::Bodies::slot_start, body::specs::Bodies::slot_length))]
+pub fn begin(m: &mut [u8], index: &[u8], bodies: &[u8], want: Option<Want>)
     requires { (length m.old ≡ room_for want) × (index_length ≤ length index.now) × (bodies_length ≤ length bodies.now) }
     ensures { m.new ≡ begin_of want index.now bodies.now m.old }
 {
+    let Some(want) = want else {
+        return;
+    };
     match want {
         Want::Window(w) => {
             begin_record(m, index, bodies, Family::Windows, w, NotifyIconId { id: 0 })
@@ -72,7 +77,6 @@ pub fn begin(m: &mut [u8], index: &[u8], bodies: &[u8], want: Want)
         Want::Notification(w, n) => begin_record(m, index, bodies, Family::Notifications, w, n),
         Want::Pictures => wire::clear(m, 0, follow::ORIGINS),
         Want::Desktop => wire::copy_part(m, 0, bodies, table::DESKTOP, body::OTHER),
-        Want::Nothing => {}
     }
 }
 
@@ -95,6 +99,7 @@ fn is_for(c: Change, family: Family, window: WindowId, notify: NotifyIconId) -> 
 }
 
 // Notes at index start on where the picture of a change comes: from the order at index q of the journal.
+#[tactic(auto, unfolding(follow::specs::Follow::origins_followed))]
 fn note(m: &mut [u8], start: usize, q: u16, c: Change)
     requires { (start + origins_length ≤ length m.old) × (c.place < 64) }
     ensures { m.new ≡ origins_followed start q c m.old }
@@ -108,6 +113,7 @@ fn note(m: &mut [u8], start: usize, q: u16, c: Change)
     wire::write_u16(m, start + 2 * c.place, q);
 }
 
+#[tactic(auto, unfolding(follow::specs::Follow::slot_followed))]
 fn follow_slot(
     m: &mut [u8],
     s: &[u8],
@@ -129,6 +135,7 @@ fn follow_slot(
     table_change::change_slot(&mut m[0..room], s, c);
 }
 
+#[tactic(auto, unfolding(follow::specs::Follow::record_followed, table::specs::Changes::Follows))]
 fn follow_record(
     m: &mut [u8],
     s: &[u8],
@@ -149,6 +156,7 @@ fn follow_record(
     note(m, room, q, c);
 }
 
+#[tactic(auto, unfolding(follow::specs::Follow::pictures_followed, table::specs::Changes::Follows))]
 fn follow_pictures(m: &mut [u8], s: &[u8], p: Plan, q: u16)
     requires { (length m.old ≡ origins_length) × Follows s.now p }
     ensures { m.new ≡ pictures_followed q p m.old }
@@ -159,6 +167,7 @@ fn follow_pictures(m: &mut [u8], s: &[u8], p: Plan, q: u16)
     note(m, 0, q, c);
 }
 
+#[tactic(auto, unfolding(follow::specs::Follow::desktop_followed, table::specs::Changes::Follows))]
 fn follow_desktop(m: &mut [u8], s: &[u8], p: Plan)
     requires { (length m.old ≡ 916) × Follows s.now p }
     ensures { m.new ≡ desktop_followed s.now p m.old }
@@ -170,15 +179,15 @@ fn follow_desktop(m: &mut [u8], s: &[u8], p: Plan)
 }
 
 // What an order that has been judged, at index q of the journal, makes of what is wanted.
+#[tactic(auto, unfolding(follow::specs::Follow::followed_of))]
 pub fn follow(m: &mut [u8], s: &[u8], p: Plan, q: u16, want: Want)
-    requires { (length m.old ≡ room_for want) × Follows s.now p }
-    ensures { m.new ≡ followed_of want q s.now p m.old }
+    requires { (length m.old ≡ room_for (Some want)) × Follows s.now p }
+    ensures { m.new ≡ followed_of (Some want) q s.now p m.old }
 {
     match want {
         Want::Window(w) => { follow_record(m, s, p, q, Family::Windows, w, NotifyIconId { id: 0 }) }
         Want::Notification(w, n) => follow_record(m, s, p, q, Family::Notifications, w, n),
         Want::Pictures => follow_pictures(m, s, p, q),
         Want::Desktop => follow_desktop(m, s, p),
-        Want::Nothing => {}
     }
 }

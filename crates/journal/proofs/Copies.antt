@@ -35,7 +35,8 @@ use Rattle.table.specs.Memory.{heads_of, shown_in, decode, sound_table}
 use Rattle.table.proofs.Rule.{table_has, table_is}
 use Rattle.table.proofs.Joined.{same_table}
 use Rattle.follow.specs.declared.Want.{Want}
-use Rattle.follow.specs.declared.Want.TheVariants.{Nothing, Window, Notification, Pictures, Desktop}
+use Rattle.std.specs.Prelude.{Option, Some, None}
+use Rattle.follow.specs.declared.Want.TheVariants.{Window, Notification, Pictures, Desktop}
 use Rattle.follow.specs.Follow.{held_origins, origin_at, present_pictures, PicturesHeld, Holds}
 
 module _ (x y : List ℕ) (agree : take 589 x ≡ take 589 y) where
@@ -138,13 +139,13 @@ module _ (x y : List ℕ) (agree : take 589 x ≡ take 589 y) where
       go : (h : ℕ) → pointer_at y h ≡ pointer_at x h → (pointer_at y h ≡ 0 → ⊥) → origin_at origins (pointer_at y h - 1) ≡ 0 → ok (pointer_at y h - 1) ≡ true
       go h e n z = rw e (p.heads h (λ q. n (e ∙ q)) (ap (λ (k : ℕ). origin_at origins (k - 1)) (sym e) ∙ z))
 
-  pub holds_same : (want : Want) (t : Table) (m : List ℕ) (marked since : ℕ → List ℕ) (ok : ℕ → Bool) → Holds want t x m marked since ok → Holds want t y m marked since ok
+  pub holds_same : (want : Option Want) (t : Table) (m : List ℕ) (marked since : ℕ → List ℕ) (ok : ℕ → Bool) → Holds want t x m marked since ok → Holds want t y m marked since ok
   unfolding Holds
-  holds_same Nothing t m marked since ok h = h
-  holds_same (Window w) t m marked since ok h = (h.0, held_same t (held_origins (Window w) m) marked since ok h.1)
-  holds_same (Notification w n) t m marked since ok h = (h.0, held_same t (held_origins (Notification w n) m) marked since ok h.1)
-  holds_same Pictures t m marked since ok h = held_same t (held_origins Pictures m) marked since ok h
-  holds_same Desktop t m marked since ok h = h
+  holds_same None t m marked since ok h = h
+  holds_same (Some (Window w)) t m marked since ok h = (h.0, held_same t (held_origins (Some (Window w)) m) marked since ok h.1)
+  holds_same (Some (Notification w n)) t m marked since ok h = (h.0, held_same t (held_origins (Some (Notification w n)) m) marked since ok h.1)
+  holds_same (Some Pictures) t m marked since ok h = held_same t (held_origins (Some Pictures) m) marked since ok h
+  holds_same (Some Desktop) t m marked since ok h = h
 
   -- ---- the table
 
@@ -195,6 +196,6 @@ module _ (d index : List ℕ) (room : length d ≡ 589) (long : 589 ≤ length i
   pub copied_sound : sound_index index ≡ true → sound_index copy ≡ true
   copied_sound h = sound_same index copy copy_agrees (omega (arith, copy_long)) h
 
-  pub copied_holds : (want : Want) (t : Table) (m : List ℕ) (marked since : ℕ → List ℕ) (ok : ℕ → Bool) → Holds want t index m marked since ok
+  pub copied_holds : (want : Option Want) (t : Table) (m : List ℕ) (marked since : ℕ → List ℕ) (ok : ℕ → Bool) → Holds want t index m marked since ok
       → Holds want t copy m marked since ok
   copied_holds = holds_same index copy copy_agrees

@@ -16,6 +16,7 @@ use Rattle.index.specs.Memory.{index_of}
 use Rattle.index.proofs.After.{plan_sound}
 use Rattle.table.specs.Table.{Table}
 use Rattle.table.proofs.Decoded.{places_kept}
+use Rattle.std.specs.Prelude.{Option}
 use Rattle.follow.specs.declared.Want.{Want}
 use Rattle.follow.specs.Follow.{held_origins, origin_at, Holds}
 use Rattle.journal.specs.declared.JournalExtent.{JournalExtent}
@@ -35,17 +36,17 @@ pub record Indexed (m : Memory) (w : JournalExtent) (d : List ℕ) (os : List (L
   pub places : places_of d ≡ places_of m.index
 
 -- f holds what the present table, whose index d is, has of the target
-pub record Followed (want : Want) (m : Memory) (d : List ℕ) (os : List (List ℕ)) (f : List ℕ) : Type 0 where
+pub record Followed (want : Option Want) (m : Memory) (d : List ℕ) (os : List (List ℕ)) (f : List ℕ) : Type 0 where
   pub holds : Holds want (run (marked_in m) os) d f (marked_pictures m) (since_pictures m) (head_is_ok m)
   pub origins : (k : ℕ) → (origin_at (held_origins want f) k ≡ 0 → ⊥)
       → origin_at (held_origins want f) k + size_at m.journal (origin_at (held_origins want f) k) ≤ journal_length
 
 -- with the target as the code made it
-pub validated_as : {want want' : Want} {m : Memory} {d f : List ℕ} {w : JournalExtent} {d' f' : List ℕ} → want ≡ want' → Validation want m d f w d' f'
+pub validated_as : {want want' : Option Want} {m : Memory} {d f : List ℕ} {w : JournalExtent} {d' f' : List ℕ} → want ≡ want' → Validation want m d f w d' f'
     → Validation want' m d f w d' f'
-validated_as {m = m} {d = d} {f = f} {w = w} {d' = d'} {f' = f'} e v = subst (λ (want : Want). Validation want m d f w d' f') e v
+validated_as {m = m} {d = d} {f = f} {w = w} {d' = d'} {f' = f'} e v = subst (λ (want : Option Want). Validation want m d f w d' f') e v
 
-module _ {want : Want} {m : Memory} {d f : List ℕ} {w : JournalExtent} {d' f' : List ℕ} (v : Validation want m d f w d' f') where
+module _ {want : Option Want} {m : Memory} {d f : List ℕ} {w : JournalExtent} {d' f' : List ℕ} (v : Validation want m d f w d' f') where
   -- 1
   pub unmet : w.end ≡ 0 → meets_rule m ≡ false
   unfolding extent_of

@@ -24,6 +24,7 @@ use Rattle.table.specs.Changes.{Follows}
 use Rattle.table.specs.Outcome.{StoreKept, PastKept, Delivered}
 use Rattle.table.proofs.Able.{plan_follows}
 use Rattle.table.proofs.Past.{same_past, past_past, same_store, store_store}
+use Rattle.std.specs.Prelude.{Option}
 use Rattle.follow.specs.declared.Want.{Want}
 use Rattle.follow.specs.Follow.{room_for, followed_of}
 use Rattle.follow.proofs.Following.{follow_length}
@@ -51,7 +52,7 @@ part_is j p {size = size} is = let e : p + size - p ≡ size = omega arith in rw
 
 -- ---- one order replayed, at index q of the journal
 
-module _ (want : Want) (q : ℕ) (d m s : List ℕ) {p : Plan} (judged : p ≡ plan_of d s) where
+module _ (want : Option Want) (q : ℕ) (d m s : List ℕ) {p : Plan} (judged : p ≡ plan_of d s) where
   pub order_asks : Bytes s → sound_index d ≡ true → length m ≡ room_for want → (length m ≡ room_for want) × Follows s p
   order_asks bytes h l = (l, rw judged (plan_follows d s bytes h))
 
@@ -65,7 +66,7 @@ module _ (want : Want) (q : ℕ) (d m s : List ℕ) {p : Plan} (judged : p ≡ p
 
 -- ---- the replay
 
-pub record ReplayInv (want : Want) (d₀ m₀ j : List ℕ) (count : ℕ) (d m : List ℕ) (p i : ℕ) : Type 0 where
+pub record ReplayInv (want : Option Want) (d₀ m₀ j : List ℕ) (count : ℕ) (d m : List ℕ) (p i : ℕ) : Type 0 where
   pub turn : i ≤ count
   pub high : p ≤ journal_length
   pub sound : sound_index d ≡ true
@@ -74,11 +75,11 @@ pub record ReplayInv (want : Want) (d₀ m₀ j : List ℕ) (count : ℕ) (d m :
   pub same : length m ≡ length m₀
   pub leads : replay_from want count log_start j d₀ m₀ ≡ replay_from want (count - i) p j d m
 
-pub replay_start : (want : Want) (d m j : List ℕ) (count : ℕ) → sound_index d ≡ true → length m ≡ room_for want → ReplayInv want d m j count d m log_start 0
+pub replay_start : (want : Option Want) (d m j : List ℕ) (count : ℕ) → sound_index d ≡ true → length m ≡ room_for want → ReplayInv want d m j count d m log_start 0
 replay_start want d m j count h l =
     record { turn = omega arith; high = omega arith; sound = h; long = refl; room = l; same = refl; leads = rw (left_all count) }
 
-module _ (want : Want) (d₀ m₀ j : List ℕ) (bytes : Bytes j) {count : ℕ} {d m : List ℕ} {p i : ℕ} (g : ReplayInv want d₀ m₀ j count d m p i) where
+module _ (want : Option Want) (d₀ m₀ j : List ℕ) (bytes : Bytes j) {count : ℕ} {d m : List ℕ} {p i : ℕ} (g : ReplayInv want d₀ m₀ j count d m p i) where
   module _ (more : i < count) {size : ℕ} (is : size ≡ size_at j p) where
     -- an order runs past the room
     pub replay_cut : journal_length - p < size → Replayed (replay_from want count log_start j d₀ m₀) 0 d m

@@ -19,6 +19,7 @@ use Rattle.index.proofs.After.{plan_number_lem, plan_after, plan_sound}
 use Rattle.table.specs.Table.{Table, number, after}
 use Rattle.table.specs.Promises.{IndexAlone}
 use Rattle.table.proofs.Decoded.{index_alone, places_kept}
+use Rattle.std.specs.Prelude.{Option}
 use Rattle.follow.specs.declared.Want.{Want}
 use Rattle.follow.specs.Follow.{room_for, held_origins, origin_at, carried_by, Holds}
 use Rattle.follow.proofs.Following.{follow_holds, follow_length, follow_origins}
@@ -51,7 +52,7 @@ carried_in j q = carried_by (order_at j q)
 
 -- ---- two memories that describe a table and what it has of the target
 
-pub record Ready (want : Want) (j : List ℕ) (marked : ℕ → List ℕ) (ok : ℕ → Bool) (places : ℕ) (t : Table) (d m : List ℕ) : Type 0 where
+pub record Ready (want : Option Want) (j : List ℕ) (marked : ℕ → List ℕ) (ok : ℕ → Bool) (places : ℕ) (t : Table) (d m : List ℕ) : Type 0 where
   pub sound : sound_index d ≡ true
   pub index : index_of d ≡ t.index
   pub lent : places_of d ≡ places
@@ -60,7 +61,7 @@ pub record Ready (want : Want) (j : List ℕ) (marked : ℕ → List ℕ) (ok : 
   pub origins : (k : ℕ) → Within j (origin_at (held_origins want m) k)
 
 -- so do they after an order that lies within the journal
-ready_next : (want : Want) (j : List ℕ) → Bytes j → (marked : ℕ → List ℕ) (ok : ℕ → Bool) (places : ℕ) (t : Table) (d m : List ℕ) (p : ℕ) → 2 ≤ p
+ready_next : (want : Option Want) (j : List ℕ) → Bytes j → (marked : ℕ → List ℕ) (ok : ℕ → Bool) (places : ℕ) (t : Table) (d m : List ℕ) (p : ℕ) → 2 ≤ p
     → p + size_at j p ≤ journal_length → Ready want j marked ok places t d m
     → Ready want j marked ok places (after t (order_at j p)) (index_after d (order_at j p)) (followed_after want p d (order_at j p) m)
 ready_next want j bytes marked ok places t d m p low fits r =
@@ -78,13 +79,13 @@ ready_next want j bytes marked ok places t d m p low fits r =
 
 -- ---- all of them
 
-pub record Through (want : Want) (marked : ℕ → List ℕ) (ok : ℕ → Bool) (places n p : ℕ) (j : List ℕ) (t : Table) (r : Replay) : Type 0 where
+pub record Through (want : Option Want) (marked : ℕ → List ℕ) (ok : ℕ → Bool) (places n p : ℕ) (j : List ℕ) (t : Table) (r : Replay) : Type 0 where
   pub within : within_from n p j ≡ true
   pub accepted : all_accepted t (orders_from n p j) ≡ true
   pub end : r.end ≡ end_from n p j
   pub ready : Ready want j marked ok places (run t (orders_from n p j)) r.index r.followed
 
-pub data Ran (want : Want) (marked : ℕ → List ℕ) (ok : ℕ → Bool) (places n p : ℕ) (j : List ℕ) (t : Table) (r : Replay) : Type 0 where
+pub data Ran (want : Option Want) (marked : ℕ → List ℕ) (ok : ℕ → Bool) (places n p : ℕ) (j : List ℕ) (t : Table) (r : Replay) : Type 0 where
   stops : r.end ≡ 0 → both (within_from n p j) (all_accepted t (orders_from n p j)) ≡ false → Ran want marked ok places n p j t r
   through : Through want marked ok places n p j t r → Ran want marked ok places n p j t r
 
@@ -92,7 +93,7 @@ not_both : (a b : Bool) → b ≡ false → both a b ≡ false
 not_both true b e = e
 not_both false b e = refl
 
-module _ (want : Want) (marked : ℕ → List ℕ) (ok : ℕ → Bool) (places n p : ℕ) (j : List ℕ) (t : Table) (d m : List ℕ) where
+module _ (want : Option Want) (marked : ℕ → List ℕ) (ok : ℕ → Bool) (places n p : ℕ) (j : List ℕ) (t : Table) (d m : List ℕ) where
   abbrev o : List ℕ
   o = order_at j p
 
@@ -126,7 +127,7 @@ module _ (want : Want) (marked : ℕ → List ℕ) (ok : ℕ → Bool) (places n
           ready = rw (fits, x) g.ready;
         })
 
-pub replay_ran : (want : Want) (j : List ℕ) → Bytes j → (marked : ℕ → List ℕ) (ok : ℕ → Bool) (places n p : ℕ) → 2 ≤ p → p ≤ journal_length → (t : Table) (d m : List ℕ)
+pub replay_ran : (want : Option Want) (j : List ℕ) → Bytes j → (marked : ℕ → List ℕ) (ok : ℕ → Bool) (places n p : ℕ) → 2 ≤ p → p ≤ journal_length → (t : Table) (d m : List ℕ)
     → Ready want j marked ok places t d m → Ran want marked ok places n p j t (replay_from want n p j d m)
 unfolding replay_from within_from end_from orders_from all_accepted run
 replay_ran want j bytes marked ok places zero p low high t d m r = through (record { within = refl; accepted = refl; end = refl; ready = r })

@@ -12,7 +12,7 @@ use Rattle.index.specs.Plans.{plan_of, plan_number, plan_slot}
 use Rattle.index.specs.Changes.{applied_of}
 use Rattle.index.specs.Steps.{step_number, step_of, stepped_of}
 use Rattle.follow.specs.declared.Want.{Want}
-use Rattle.follow.specs.declared.Want.TheVariants.{Nothing}
+use Rattle.std.specs.Prelude.{Option, None}
 use Rattle.follow.specs.Follow.{followed_of}
 use Rattle.journal.specs.Replay.{index_after, followed_after}
 
@@ -28,11 +28,11 @@ index_with_room : (x : List ℕ) (p : Plan) → stepped_of false x p ≡ applied
 unfolding stepped_of
 index_with_room x p = refl
 
-nothing_followed : {want : Want} → want ≡ Nothing → (q : ℕ) (d m s : List ℕ) → m ≡ followed_after want q d s m
+nothing_followed : {want : Option Want} → want ≡ None → (q : ℕ) (d m s : List ℕ) → m ≡ followed_after want q d s m
 unfolding followed_of
 nothing_followed is q d m s = rw is
 
-pub step_replays : {want : Want} → want ≡ Nothing → (q : ℕ) (d m s : List ℕ) {r : Stepped} {d' : List ℕ} → r ≡ step_of false (plan_of d s) → d' ≡ stepped_of false d (plan_of d s)
+pub step_replays : {want : Option Want} → want ≡ None → (q : ℕ) (d m s : List ℕ) {r : Stepped} {d' : List ℕ} → r ≡ step_of false (plan_of d s) → d' ≡ stepped_of false d (plan_of d s)
     → ((r.number ≡ plan_number (plan_of d s)) × (r.slot ≡ plan_slot (plan_of d s))) × ((d' ≡ index_after d s) × (m ≡ followed_after want q d s m))
 step_replays is q d m s says makes =
     let p = plan_of d s in

@@ -21,7 +21,7 @@ use Rattle.store.specs.Store.{places_in}
 use Rattle.table.specs.Memory.{decode, sound_table}
 use Rattle.table.proofs.Rule.{table_has}
 use Rattle.follow.specs.declared.Want.{Want}
-use Rattle.follow.specs.declared.Want.TheVariants.{Nothing}
+use Rattle.std.specs.Prelude.{Option, None}
 use Rattle.follow.specs.Follow.{room_for, begin_of}
 use Rattle.follow.proofs.Following.{begin_holds, begin_length, begin_origins}
 use Rattle.journal.specs.declared.JournalExtent.{JournalExtent}
@@ -103,7 +103,7 @@ rule_replayable m h = go (replayable_in m) refl
 
 -- ---- the way out
 
-pub not_validated : (want : Want) (x b : List ℕ) (lent : ℕ) (j d f : List ℕ) → replayable x b lent j ≡ false
+pub not_validated : (want : Option Want) (x b : List ℕ) (lent : ℕ) (j d f : List ℕ) → replayable x b lent j ≡ false
     → InEachStore lent (λ store. Validation want (memory x b store j) d f no_extent d f)
 unfolding extent_of validation_of
 not_validated want x b lent j d f e store same =
@@ -122,7 +122,7 @@ pub copy_sound : (x d : List ℕ) → sound_index x ≡ true → length d ≡ in
     → sound_index d₀ ≡ true
 copy_sound x d sound room copied = ap sound_index copied ∙ copied_sound d x room (sound_long x sound) sound
 
-pub from_copies : (want : Want) (x b j : List ℕ) (n : ℕ) (d f : List ℕ) {d₀ f₀ : List ℕ} → d₀ ≡ splice d 0 (slice x 0 index_length) → f₀ ≡ begin_of want x b f
+pub from_copies : (want : Option Want) (x b j : List ℕ) (n : ℕ) (d f : List ℕ) {d₀ f₀ : List ℕ} → d₀ ≡ splice d 0 (slice x 0 index_length) → f₀ ≡ begin_of want x b f
     → {e : ℕ} {d' f' : List ℕ} → Replayed (replay_from want n log_start j d₀ f₀) e d' f' → Replayed (from_mark want x b j n d f) e d' f'
 unfolding from_mark
 from_copies want x b j n d f copied begins r = rw (← copied, ← begins) r
@@ -133,7 +133,7 @@ decode_index : (x b : List ℕ) (p : List (List ℕ)) → index_of x ≡ (decode
 unfolding decode
 decode_index x b p = refl
 
-module _ (want : Want) (m : Memory) (bytes : Bytes m.journal) (d f : List ℕ) (room : length d ≡ index_length) (place : length f ≡ room_for want)
+module _ (want : Option Want) (m : Memory) (bytes : Bytes m.journal) (d f : List ℕ) (room : length d ≡ index_length) (place : length f ≡ room_for want)
     (ready : replayable_in m ≡ true) where
   has : Replayable m.index m.bodies (places_in m.store) m.journal
   has = replayable_has m.index m.bodies (places_in m.store) m.journal ready
@@ -237,14 +237,14 @@ module _ (want : Want) (m : Memory) (bytes : Bytes m.journal) (d f : List ℕ) (
       go (stops x y) = never (sym (meets_is ∙ y) ∙ h)
       go (through g) = means-that (record { end = refl; index = refl; followed = refl }) g
 
-pub from_mark_means : (want : Want) (m : Memory) (d f : List ℕ) → Bytes m.journal → length d ≡ index_length → length f ≡ room_for want → meets_rule m ≡ true
+pub from_mark_means : (want : Option Want) (m : Memory) (d f : List ℕ) → Bytes m.journal → length d ≡ index_length → length f ≡ room_for want → meets_rule m ≡ true
     → Validated want m (from_mark want m.index m.bodies m.journal (count_of m.journal) d f).index
     (from_mark want m.index m.bodies m.journal (count_of m.journal) d f).followed
 from_mark_means want m d f bytes room place h = means_here want m bytes d f room place (rule_replayable m h) h
 
 -- ---- the same as the code makes it, in each store
 
-module _ (want : Want) (x b : List ℕ) (lent : ℕ) (j : List ℕ) (bytes : Bytes j) (d f : List ℕ) (room : length d ≡ index_length) (place : length f ≡ room_for want)
+module _ (want : Option Want) (x b : List ℕ) (lent : ℕ) (j : List ℕ) (bytes : Bytes j) (d f : List ℕ) (room : length d ≡ index_length) (place : length f ≡ room_for want)
     (ready : replayable x b lent j ≡ true) {k : ℕ} (is : k ≡ count_of j) {e : ℕ} {d' f' : List ℕ} (r : Replayed (from_mark want x b j k d f) e d' f') where
   replayed : Replayed (from_mark want x b j (count_of j) d f) e d' f'
   replayed = rw (← is) r
@@ -263,13 +263,13 @@ no_bytes [] e = refl
 no_bytes (x ∷ f) e = absurd (omega (arith, e))
 
 pub validated_nothing : {x b : List ℕ} {lent : ℕ} {j d : List ℕ} {w : JournalExtent} {d' f' : List ℕ} → length f' ≡ 0
-    → InEachStore lent (λ store. Validation Nothing (memory x b store j) d [] w d' f') → InEachStore lent (λ store. Validation Nothing (memory x b store j) d [] w d' [])
+    → InEachStore lent (λ store. Validation None (memory x b store j) d [] w d' f') → InEachStore lent (λ store. Validation None (memory x b store j) d [] w d' [])
 validated_nothing {x = x} {b = b} {lent = lent} {j = j} {d = d} {w = w} {d' = d'} {f' = f'} e v =
-    subst (λ (f : List ℕ). InEachStore lent (λ store. Validation Nothing (memory x b store j) d [] w d' f)) (no_bytes f' e) v
+    subst (λ (f : List ℕ). InEachStore lent (λ store. Validation None (memory x b store j) d [] w d' f)) (no_bytes f' e) v
 
 -- ---- the rule decided
 
-decides : {want : Want} {m : Memory} {d f : List ℕ} {w : JournalExtent} {d' f' : List ℕ} → Validation want m d f w d' f' → not (eqb w.end 0) ≡ meets_rule m
+decides : {want : Option Want} {m : Memory} {d f : List ℕ} {w : JournalExtent} {d' f' : List ℕ} → Validation want m d f w d' f' → not (eqb w.end 0) ≡ meets_rule m
 unfolding extent_of
 decides {m = m} v = ap (λ (w : JournalExtent). not (eqb w.end 0)) v.extent ∙ go (meets_rule m) refl
   where
@@ -279,6 +279,6 @@ decides {m = m} v = ap (λ (w : JournalExtent). not (eqb w.end 0)) v.extent ∙ 
         rw (ne_eqb (extent_of m).end 0 (λ z. omega (arith, low, z)), e)
     go false e = rw e
 
-pub rule_decided : {want : Want} {x b : List ℕ} {lent : ℕ} {j d f : List ℕ} {w : JournalExtent} {d' f' : List ℕ}
+pub rule_decided : {want : Option Want} {x b : List ℕ} {lent : ℕ} {j d f : List ℕ} {w : JournalExtent} {d' f' : List ℕ}
     → InEachStore lent (λ store. Validation want (memory x b store j) d f w d' f') → InEachStore lent (λ store. not (eqb w.end 0) ≡ meets_rule (memory x b store j))
 rule_decided v store same = decides (v store same)

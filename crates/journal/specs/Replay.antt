@@ -1,6 +1,6 @@
 -- What the functions over a journal leave: the replay of its orders on the memory of an index, with what is looked up followed
 -- beside it; the validation of any memory; its orders applied to a table. Assumes nothing.
-use Rattle.std.specs.Prelude.{ℕ, zero, suc, ◌+◌, ◌-◌, ◌≤◌, ◌≡◌, Bool, true, false, not, List, eqb, ltb}
+use Rattle.std.specs.Prelude.{Option, ℕ, zero, suc, ◌+◌, ◌-◌, ◌≤◌, ◌≡◌, Bool, true, false, not, List, eqb, ltb}
 use Rattle.wire.specs.Tests.{pick, both}
 use Rattle.wire.specs.Parts.{slice, splice}
 use Rattle.places.specs.Memory.{places_of}
@@ -28,7 +28,7 @@ abbrev pub index_after : List ℕ → List ℕ → List ℕ
 index_after d o = applied_of d (plan_of d o)
 
 -- the order stands at index q of the journal
-abbrev pub followed_after : Want → ℕ → List ℕ → List ℕ → List ℕ → List ℕ
+abbrev pub followed_after : Option Want → ℕ → List ℕ → List ℕ → List ℕ → List ℕ
 followed_after want q d o m = followed_of want q o (plan_of d o) m
 
 -- ---- n orders from index p on: where they end, or 0 where one is cut or refused, and the two memories then
@@ -41,7 +41,7 @@ pub record Replay : Type 0 where
 abbrev pub stopped : List ℕ → List ℕ → Replay
 stopped d m = record { end = 0; index = d; followed = m }
 
-unfoldable pub replay_from : Want → ℕ → ℕ → List ℕ → List ℕ → List ℕ → Replay
+unfoldable pub replay_from : Option Want → ℕ → ℕ → List ℕ → List ℕ → List ℕ → Replay
 replay_from want zero p journal d m = record { end = p; index = d; followed = m }
 replay_from want (suc n) p journal d m =
     pick (ltb (journal_length - p) (size_at journal p)) (stopped d m)
@@ -55,7 +55,7 @@ pub record Replayed (r : Replay) (e : ℕ) (d' m' : List ℕ) : Type 0 where
   pub followed : m' ≡ r.followed
 
 -- n orders from the mark on: on a copy of the index in d, and on what the table at the mark has of the target in f
-unfoldable pub from_mark : Want → List ℕ → List ℕ → List ℕ → ℕ → List ℕ → List ℕ → Replay
+unfoldable pub from_mark : Option Want → List ℕ → List ℕ → List ℕ → ℕ → List ℕ → List ℕ → Replay
 from_mark want index bodies journal n d f =
     replay_from want n log_start journal (splice d 0 (slice index 0 index_length)) (begin_of want index bodies f)
 
@@ -73,7 +73,7 @@ replayable index bodies lent journal =
     pick (short_of index bodies lent journal) false
     (pick (sound_table index bodies lent) (both (figures_ok index bodies) (not (ltb most_orders (count_of journal)))) false)
 
-unfoldable pub validation_of : Want → Memory → List ℕ → List ℕ → Replay
+unfoldable pub validation_of : Option Want → Memory → List ℕ → List ℕ → Replay
 validation_of want m d f =
     pick (replayable m.index m.bodies (places_in m.store) m.journal)
     (from_mark want m.index m.bodies m.journal (count_of m.journal) d f)
@@ -91,14 +91,14 @@ head_is_ok m = head_ok (heads_of m.bodies)
 
 -- what the two memories then mean where the rule is met: an index of the present table, and what it has of the target; where a
 -- picture came since the mark, its order lies within the journal
-pub record Validated (want : Want) (m : Memory) (d' f' : List ℕ) : Type 0 where
+pub record Validated (want : Option Want) (m : Memory) (d' f' : List ℕ) : Type 0 where
   pub sound : sound_index d' ≡ true
   pub index : index_of d' ≡ (present (state_of m)).index
   pub places : places_of d' ≡ places_of m.index
   pub holds : Holds want (present (state_of m)) d' f' (marked_pictures m) (since_pictures m) (head_is_ok m)
   pub origins : (p : ℕ) → (origin_at (held_origins want f') p ≡ 0 → ⊥) → origin_at (held_origins want f') p + size_at m.journal (origin_at (held_origins want f') p) ≤ journal_length
 
-pub record Validation (want : Want) (m : Memory) (d f : List ℕ) (w : JournalExtent) (d' f' : List ℕ) : Type 0 where
+pub record Validation (want : Option Want) (m : Memory) (d f : List ℕ) (w : JournalExtent) (d' f' : List ℕ) : Type 0 where
   pub extent : w ≡ extent_of m
   pub index : d' ≡ (validation_of want m d f).index
   pub followed : f' ≡ (validation_of want m d f).followed

@@ -1,11 +1,10 @@
 // The journal's orders replayed on an index, to validate the memory that is lent to a call; what is looked up is followed on the way.
 #![tactic(auto)]
 
-ghost use Rattle.std.specs.Prelude.{◌≡◌, true, [], ◌≤◌, length};
+ghost use Rattle.std.specs.Prelude.{◌≡◌, true, [], ◌≤◌, length, Some, None};
 ghost use Rattle.slots.specs.Families.{index_length};
 ghost use Rattle.slots.specs.Sound.{sound_index};
 ghost use Rattle.index.specs.Plans.{plan_of, plan_number, plan_slot};
-ghost use Rattle.follow.specs.declared.Want.TheVariants.{Nothing};
 ghost use Rattle.table.specs.Memory.{bodies_length};
 ghost use Rattle.follow.specs.Follow.{room_for};
 ghost use Rattle.journal.specs.Limits.{journal_length, log_start};
@@ -29,10 +28,10 @@ pub fn too_short(index: &[u8], bodies: &[u8], lent: usize, journal: &[u8]) -> bo
 // Judges an order, which stands at index q of the journal, on an index, follows what is looked up and applies the order's plan to
 // the index. Slot near is looked at for its record before a search: many an order is for the record of the one before it.
 fn follow_order(d: &mut [u8], m: &mut [u8], s: &[u8], q: u16, want: Want, near: usize) -> Stepped
-    requires { (sound_index d.old ≡ true) × (length m.old ≡ room_for want) }
-    ensures number_value { (result.number ≡ plan_number (plan_of d.old s.now)) × (result.slot ≡ plan_slot (plan_of d.old s.now)) }
-    ensures d_after { d.new ≡ index_after d.old s.now }
-    ensures m_after { m.new ≡ followed_after want q d.old s.now m.old }
+    requires { (sound_index d.old ≡ true) × (length m.old ≡ room_for (Some want)) }
+    ensures number_and_slot_are_the_plans { (result.number ≡ plan_number (plan_of d.old s.now)) × (result.slot ≡ plan_slot (plan_of d.old s.now)) }
+    ensures index_is_after_the_order { d.new ≡ index_after d.old s.now }
+    ensures followed_is_after_the_order { m.new ≡ followed_after (Some want) q d.old s.now m.old }
 {
     let p = index_plan::judge_near(d, s, near);
     follow_orders::follow(m, s, p, q, want);
@@ -47,20 +46,27 @@ fn follow_order(d: &mut [u8], m: &mut [u8], s: &[u8], q: u16, want: Want, near: 
 }
 
 // The same in one step where nothing is looked up.
-fn replay_order(d: &mut [u8], m: &mut [u8], s: &[u8], q: u16, want: Want, near: usize) -> Stepped
+fn replay_order(
+    d: &mut [u8],
+    m: &mut [u8],
+    s: &[u8],
+    q: u16,
+    want: Option<Want>,
+    near: usize,
+) -> Stepped
     requires { (sound_index d.old ≡ true) × (length m.old ≡ room_for want) }
-    ensures number_value { (result.number ≡ plan_number (plan_of d.old s.now)) × (result.slot ≡ plan_slot (plan_of d.old s.now)) }
-    ensures d_after { d.new ≡ index_after d.old s.now }
-    ensures m_after { m.new ≡ followed_after want q d.old s.now m.old }
+    ensures number_and_slot_are_the_plans { (result.number ≡ plan_number (plan_of d.old s.now)) × (result.slot ≡ plan_slot (plan_of d.old s.now)) }
+    ensures index_is_after_the_order { d.new ≡ index_after d.old s.now }
+    ensures followed_is_after_the_order { m.new ≡ followed_after want q d.old s.now m.old }
 {
-    let Want::Nothing = want else {
-        return follow_order(d, m, s, q, want, near);
-    };
-    index_step::step(d, s, near, 0, false)
+    match want {
+        Some(want) => follow_order(d, m, s, q, want, near),
+        None => index_step::step(d, s, near, 0, false),
+    }
 }
 
 // Replays count orders of the journal. Where they end, or 0 where one is cut or refused.
-fn replay(d: &mut [u8], m: &mut [u8], journal: &[u8], count: usize, want: Want) -> usize
+fn replay(d: &mut [u8], m: &mut [u8], journal: &[u8], count: usize, want: Option<Want>) -> usize
     requires { (sound_index d.old ≡ true) × (length m.old ≡ room_for want) × (journal_length ≤ length journal.now) }
     ensures { Replayed (replay_from want count log_start journal.now d.old m.old) result d.new m.new }
 {
@@ -90,7 +96,7 @@ pub fn from_mark(
     bodies: &[u8],
     journal: &[u8],
     count: usize,
-    want: Want,
+    want: Option<Want>,
     d: &mut [u8],
     m: &mut [u8],
 ) -> usize
@@ -125,7 +131,7 @@ pub fn validate(
     bodies: &[u8],
     lent: usize,
     journal: &[u8],
-    want: Want,
+    want: Option<Want>,
     d: &mut [u8],
     m: &mut [u8],
 ) -> JournalExtent
@@ -152,10 +158,10 @@ pub fn extent(
     d: &mut [u8],
 ) -> JournalExtent
     requires { length d.old ≡ index_length }
-    ensures { InEachStore lent (λ store. Validation Nothing (memory index.now bodies.now store journal.now) d.old [] result d.new []) }
+    ensures { InEachStore lent (λ store. Validation None (memory index.now bodies.now store journal.now) d.old [] result d.new []) }
 {
     let mut m = [0u8; 0];
-    validate(index, bodies, lent, journal, Want::Nothing, d, &mut m)
+    validate(index, bodies, lent, journal, None, d, &mut m)
 }
 
 pub fn well_formed(index: &[u8], bodies: &[u8], lent: usize, journal: &[u8]) -> bool

@@ -107,30 +107,30 @@ fn shares(d: &[u8], g: PictureHolder, k: PictureHolder) -> bool
 }
 
 // What is followed for a target.
-fn want_of(target: LookupTarget) -> Want
+fn want_of(target: LookupTarget) -> Option<Want>
     ensures { result ≡ want_of target }
 {
     match target {
-        LookupTarget::Window(w) => Want::Window(w),
-        LookupTarget::Notification(w, n) => Want::Notification(w, n),
-        LookupTarget::Cell(_, _) => Want::Pictures,
-        LookupTarget::Desktop => Want::Desktop,
-        LookupTarget::Windows => Want::Nothing,
-        LookupTarget::Notifications => Want::Nothing,
-        LookupTarget::Shares(_, _) => Want::Nothing,
+        LookupTarget::Window(w) => Some(Want::Window(w)),
+        LookupTarget::Notification(w, n) => Some(Want::Notification(w, n)),
+        LookupTarget::Cell(_, _) => Some(Want::Pictures),
+        LookupTarget::Desktop => Some(Want::Desktop),
+        LookupTarget::Windows => None,
+        LookupTarget::Notifications => None,
+        LookupTarget::Shares(_, _) => None,
     }
 }
 
 // The bytes of the memory in which it is followed.
-fn room_of(want: Want) -> usize
+fn room_of(want: Option<Want>) -> usize
     ensures { result ≡ room_for want }
 {
     match want {
-        Want::Nothing => 0,
-        Want::Window(_) => follow::WINDOW,
-        Want::Notification(_, _) => follow::NOTIFICATION,
-        Want::Pictures => follow::ORIGINS,
-        Want::Desktop => body::OTHER,
+        None => 0,
+        Some(Want::Window(_)) => follow::WINDOW,
+        Some(Want::Notification(_, _)) => follow::NOTIFICATION,
+        Some(Want::Pictures) => follow::ORIGINS,
+        Some(Want::Desktop) => body::OTHER,
     }
 }
 
@@ -415,7 +415,7 @@ fn look_in(
     d: &[u8],
     e: &[u8],
     journal: &[u8],
-    want: Want,
+    want: Option<Want>,
     target: LookupTarget,
     m: &mut [u8],
     out: &mut [u8],

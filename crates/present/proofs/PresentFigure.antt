@@ -32,6 +32,7 @@ use Rattle.figure.specs.Figure.{is_shown, pixels_of, id_end, of_window, figure_b
 use Rattle.figure.proofs.FigureSums.{counts}
 use Rattle.figure.proofs.FigureIds.{ids_slots}
 use Rattle.table.specs.Table.{Table}
+use Rattle.std.specs.Prelude.{Some}
 use Rattle.follow.specs.declared.Want.TheVariants as want
 use Rattle.follow.specs.Follow.{record_room, held_slot, Holds}
 use Rattle.journal.specs.State.{present}
@@ -64,7 +65,7 @@ module _ (m : Memory) (x : List ℕ) (journal : Bytes m.journal) (met : meets_ru
   held_fields : (id : ℕ) → table.index.listed family.Windows id 0 ≡ true → (held id).fields ≡ table.fields family.Windows id 0
   unfolding window_held body_of Holds
   held_fields id e =
-      (from_mark_means (want.Window (record { id = id })) m (replicate index_length 0) (replicate (record_room family.Windows) 0) journal (length_zeros index_length)
+      (from_mark_means (Some (want.Window (record { id = id }))) m (replicate index_length 0) (replicate (record_room family.Windows) 0) journal (length_zeros index_length)
       (length_zeros (record_room family.Windows)) met).holds.0.fields e
 
   listed_is : (id : ℕ) → table.index.listed family.Windows id 0 ≡ on_found (slot_of x family.Windows id 0) false (λ i. true)
@@ -116,7 +117,7 @@ slot_figure {shown = shown} same s p =
 
 -- a window, from its slot
 pub window_figure : (index bodies journal : List ℕ) (n : ℕ) (w : WindowId) {e : ℕ} {d m : List ℕ} {shown : Bool} {p : ℕ}
-    → Replayed (from_mark (want.Window w) index bodies journal n (replicate index_length 0) (replicate (record_room family.Windows) 0)) e d m
+    → Replayed (from_mark (Some (want.Window w)) index bodies journal n (replicate index_length 0) (replicate (record_room family.Windows) 0)) e d m
     → shown ≡ is_shown (body_of window_fields (held_slot family.Windows m)) → (p ≡ pixels_of (body_of window_fields (held_slot family.Windows m))) × (p ≤ most_points)
     → FigureIs (record { windows = bool_byte shown; pixels = p }) (shown_one (window_held index bodies journal n w)) (pixels_of (window_held index bodies journal n w))
 unfolding window_held

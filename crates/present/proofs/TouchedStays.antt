@@ -42,6 +42,7 @@ use Rattle.figure.specs.declared.Figure.{Figure}
 use Rattle.figure.specs.Figure.{pixels_of}
 use Rattle.table.specs.Changes.{Follows}
 use Rattle.table.proofs.Able.{plan_follows}
+use Rattle.std.specs.Prelude.{Some}
 use Rattle.follow.specs.declared.Want.TheVariants as want
 use Rattle.follow.specs.Follow.{slot_room, record_room, held_slot, is_for, slot_followed, origins_followed, record_followed, followed_of, begin_record, begin_of}
 use Rattle.follow.proofs.Origins.{followed_before}
@@ -110,7 +111,7 @@ module _ (id : ℕ) (d s : List ℕ) where
 
 -- the slot that is followed stays
 other_stays : (w : WindowId) (d s m : List ℕ) (q : ℕ) → Bytes s → sound_index d ≡ true → length m ≡ record_room family.Windows → is_order_for w.id s ≡ false
-    → held_slot family.Windows (followed_of (want.Window w) q s (plan_of d s) m) ≡ held_slot family.Windows m
+    → held_slot family.Windows (followed_of (Some (want.Window w)) q s (plan_of d s) m) ≡ held_slot family.Windows m
 unfolding followed_of record_followed slot_followed Follows Other
 other_stays w d s m q bytes sound long t = go (plan_of d s) (plan_follows d s bytes sound) (plan_other w.id d s t)
   where
@@ -132,10 +133,10 @@ module _ (w : WindowId) (n p : ℕ) (j d m : List ℕ) (bytes : Bytes j) (sound 
   own = bytes_slice j p (size_at j p) bytes
 
   abbrev then : List ℕ
-  then = followed_after (want.Window w) p d o m
+  then = followed_after (Some (want.Window w)) p d o m
 
   abbrev rest : Replay
-  rest = replay_from (want.Window w) n (p + size_at j p) j (index_after d o) then
+  rest = replay_from (Some (want.Window w)) n (p + size_at j p) j (index_after d o) then
 
   -- an order that is cut ends the replay, any other leaves the slot
   one_more_lem : (a b c : Bool) → is_order_for w.id o ≡ b → pick a true (pick b true (touched_from w.id n (p + size_at j p) j)) ≡ false
@@ -147,14 +148,14 @@ module _ (w : WindowId) (n p : ℕ) (j d m : List ℕ) (bytes : Bytes j) (sound 
   one_more_lem false false false e f ih = other_stays w d o m p own sound long e
 
 stays : (w : WindowId) (n p : ℕ) (j d m : List ℕ) → Bytes j → sound_index d ≡ true → length m ≡ record_room family.Windows → touched_from w.id n p j ≡ false
-    → held_slot family.Windows (replay_from (want.Window w) n p j d m).followed ≡ held_slot family.Windows m
+    → held_slot family.Windows (replay_from (Some (want.Window w)) n p j d m).followed ≡ held_slot family.Windows m
 unfolding replay_from touched_from
 stays w zero p j d m bytes sound long t = refl
 stays w (suc n) p j d m bytes sound long t =
     one_more_lem w n p j d m bytes sound long (ltb (journal_length - p) (size_at j p)) (is_order_for w.id (order_at j p)) (eqb (plan_number (plan_of d (order_at j p))) 0) refl t
     (λ z.
-    stays w n (p + size_at j p) j (index_after d (order_at j p)) (followed_after (want.Window w) p d (order_at j p) m) bytes
-    (plan_sound d (order_at j p) sound (own w n p j d m bytes sound long)) (follow_length (want.Window w) d (order_at j p) m p (own w n p j d m bytes sound long) sound long) z)
+    stays w n (p + size_at j p) j (index_after d (order_at j p)) (followed_after (Some (want.Window w)) p d (order_at j p) m) bytes
+    (plan_sound d (order_at j p) sound (own w n p j d m bytes sound long)) (follow_length (Some (want.Window w)) d (order_at j p) m p (own w n p j d m bytes sound long) sound long) z)
 
 -- ---- the loop
 
@@ -216,7 +217,7 @@ marked_figure index bodies journal n w i sound big bytes t at f =
     let copy = splice (replicate index_length 0) 0 (slice index 0 index_length) in
     let whole : sound_index copy ≡ true = copy_sound index (replicate index_length 0) sound (length_zeros index_length) refl in
     let e =
-    stays w n log_start journal copy (begin_of (want.Window w) index bodies zeros) bytes whole (record_length family.Windows bodies zeros long (slots.slot_of index family.Windows w.id 0)) t
+    stays w n log_start journal copy (begin_of (Some (want.Window w)) index bodies zeros) bytes whole (record_length family.Windows bodies zeros long (slots.slot_of index family.Windows w.id 0)) t
     ∙ ap (λ (x : Found). held_slot family.Windows (begin_record family.Windows x bodies zeros)) at
     ∙ slot_begun family.Windows bodies zeros long i (found_within family.Windows index w.id 0 i at) big in
     record {

@@ -1,6 +1,6 @@
 -- The figure of the present table, which no memory holds: each window that the table's index lists, followed from the mark. Assumes
 -- nothing.
-use Rattle.std.specs.Prelude.{ℕ, ◌≤◌, ◌≡◌, true, List, length, replicate}
+use Rattle.std.specs.Prelude.{Some, ℕ, ◌≤◌, ◌≡◌, true, List, length, replicate}
 use Rattle.wire.specs.Tests.{pick}
 use Rattle.wire.specs.Numbers.{Bytes}
 use Rattle.protocol.specs.declared.WindowId.{WindowId}
@@ -34,7 +34,7 @@ pub record Followable (index bodies journal : List ℕ) : Type 0 where
 unfoldable pub window_held : List ℕ → List ℕ → List ℕ → ℕ → WindowId → Body
 window_held index bodies journal n w =
     body_of window_fields
-    (held_slot family.Windows (from_mark (want.Window w) index bodies journal n (replicate index_length 0) (replicate (record_room family.Windows) 0)).followed)
+    (held_slot family.Windows (from_mark (Some (want.Window w)) index bodies journal n (replicate index_length 0) (replicate (record_room family.Windows) 0)).followed)
 
 -- a number of the window that slot i of the index x has, 0 for none
 abbrev pub held_at : (Body → ℕ) → List ℕ → List ℕ → List ℕ → List ℕ → ℕ → ℕ → ℕ

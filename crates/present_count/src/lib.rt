@@ -75,7 +75,7 @@ fn window_followed(index: &[u8], bodies: &[u8], journal: &[u8], count: usize, w:
         bodies,
         journal,
         count,
-        Want::Window(w),
+        Some(Want::Window(w)),
         &mut d,
         &mut m,
     );

@@ -28,6 +28,7 @@ use Rattle.body.specs.Bodies.{window_fields, notification_fields, desktop_fields
 use Rattle.table.specs.Table.{Table}
 use Rattle.table.specs.Memory.{shown_in}
 use Rattle.table.proofs.Rule.{table_has}
+use Rattle.std.specs.Prelude.{Option, Some}
 use Rattle.follow.specs.declared.Want.{Want}
 use Rattle.follow.specs.declared.Want.TheVariants as want
 use Rattle.follow.specs.Follow.{origins_length, room_for, held_slot, held_origins, origin_at, present_pictures, PicturesHeld, Holds}
@@ -95,7 +96,7 @@ module _ (t : Table) (x m : List ℕ) (f : Figure) (marked since : ℕ → List 
       let c = cell_number cache entry in
       ap a_picture
       (h.shows (cell c)
-      ∙ cell_none x c (ap (λ (i : Index). i.sharing.shares (cell c) (cell c)) same ∙ e) (present_pictures marked since (held_origins want.Pictures m)))
+      ∙ cell_none x c (ap (λ (i : Index). i.sharing.shares (cell c) (cell c)) same ∙ e) (present_pictures marked since (held_origins (Some want.Pictures) m)))
   absent Desktop e h = clash e
   absent Windows e h = clash e
   absent Notifications e h = clash e
@@ -149,7 +150,7 @@ own_goes t Notifications = tt
 own_goes t (Shares g k) = tt
 
 -- and so does the one that is counted
-module _ {want : Want} {m : Memory} {d g : List ℕ} {w : JournalExtent} {x held : List ℕ} (v : Validation want m d g w x held) (some : w.end ≡ 0 → ⊥) where
+module _ {want : Option Want} {m : Memory} {d g : List ℕ} {w : JournalExtent} {x held : List ℕ} (v : Validation want m d g w x held) (some : w.end ≡ 0 → ⊥) where
   met : meets_rule m ≡ true
   unfolding extent_of
   met = go (meets_rule m) refl
@@ -201,10 +202,10 @@ module _ {m : Memory} {w : JournalExtent} {x : List ℕ} {os : List (List ℕ)} 
   ready_for : (target : LookupTarget) {held : List ℕ} → length held ≡ room_for (want_of target) → Followed (want_of target) m x os held
       → ReadyFor target x m.bodies m.store m.journal held
   unfolding want_of ReadyFor Holds
-  ready_for (Window w) {held = held} n f = pictures_ready (held_origins (want.Window w) held) (length_slice held 1392 origins_length (omega (arith, n))) f.holds.1 f.origins
+  ready_for (Window w) {held = held} n f = pictures_ready (held_origins (Some (want.Window w)) held) (length_slice held 1392 origins_length (omega (arith, n))) f.holds.1 f.origins
   ready_for (Notification w k) {held = held} n f =
-      pictures_ready (held_origins (want.Notification w k) held) (length_slice held 916 origins_length (omega (arith, n))) f.holds.1 f.origins
-  ready_for (Cell cache entry) {held = held} n f = pictures_ready (held_origins want.Pictures held) (length_slice held 0 origins_length (omega (arith, n))) f.holds f.origins
+      pictures_ready (held_origins (Some (want.Notification w k)) held) (length_slice held 916 origins_length (omega (arith, n))) f.holds.1 f.origins
+  ready_for (Cell cache entry) {held = held} n f = pictures_ready (held_origins (Some want.Pictures) held) (length_slice held 0 origins_length (omega (arith, n))) f.holds f.origins
   ready_for Desktop n f = tt
   ready_for Windows n f = tt
   ready_for Notifications n f = tt

@@ -30,6 +30,7 @@ use Rattle.slots.proofs.Ways.{found_is}
 use Rattle.slots.proofs.Soundness.{found_within}
 use Rattle.index.specs.Memory.{index_of}
 use Rattle.figure.specs.declared.Figure.{Figure}
+use Rattle.std.specs.Prelude.{Option, Some, None}
 use Rattle.follow.specs.declared.Want.{Want}
 use Rattle.follow.specs.declared.Want.TheVariants as want
 use Rattle.follow.specs.Follow.{room_for}
@@ -54,7 +55,7 @@ cell_inside cache entry e = rw e
 
 -- ---- what is followed
 
-pub wanted_as : {target v : LookupTarget} {x : Want} → target ≡ v → x ≡ want_of v → x ≡ want_of target
+pub wanted_as : {target v : LookupTarget} {x : Option Want} → target ≡ v → x ≡ want_of v → x ≡ want_of target
 wanted_as e f = f ∙ ap want_of (sym e)
 
 -- ---- the figure that goes with it
@@ -221,9 +222,9 @@ module _ (d : List ℕ) (target : LookupTarget) (room : ℕ) {b : Bool} (says : 
 
 -- ---- the memory of what is followed
 
-pub room_most : (w : Want) → room_for w ≤ 1520
-room_most want.Nothing = omega arith
-room_most (want.Window w) = omega arith
-room_most (want.Notification w n) = omega arith
-room_most want.Pictures = omega arith
-room_most want.Desktop = omega arith
+pub room_most : (w : Option Want) → room_for w ≤ 1520
+room_most None = omega arith
+room_most (Some (want.Window w)) = omega arith
+room_most (Some (want.Notification w n)) = omega arith
+room_most (Some want.Pictures) = omega arith
+room_most (Some want.Desktop) = omega arith

@@ -1,5 +1,5 @@
 -- Handing out a lookup's target: the bytes that the memory that holds it gives, and what doing so asks. Assumes nothing.
-use Rattle.std.specs.Prelude.{ℕ, ◌≤◌, ◌≡◌, Bool, true, List, [], ◌∷◌, ltb, length}
+use Rattle.std.specs.Prelude.{Some, ℕ, ◌≤◌, ◌≡◌, Bool, true, List, [], ◌∷◌, ltb, length}
 use Rattle.std.proofs.Math.Option.{Option}
 use Rattle.wire.specs.Tests.{pick}
 use Rattle.wire.specs.Parts.{splice}
@@ -51,9 +51,9 @@ valid_held (Shares g k) m = true
 
 -- the pictures, of a target that has some, can be handed out
 unfoldable pub ReadyFor : LookupTarget → List ℕ → List ℕ → List (List ℕ) → List ℕ → List ℕ → Type 0
-ReadyFor (Window w) x bodies store journal m = Ready x bodies store journal (held_origins (want.Window w) m)
-ReadyFor (Notification w n) x bodies store journal m = Ready x bodies store journal (held_origins (want.Notification w n) m)
-ReadyFor (Cell cache entry) x bodies store journal m = Ready x bodies store journal (held_origins want.Pictures m)
+ReadyFor (Window w) x bodies store journal m = Ready x bodies store journal (held_origins (Some (want.Window w)) m)
+ReadyFor (Notification w n) x bodies store journal m = Ready x bodies store journal (held_origins (Some (want.Notification w n)) m)
+ReadyFor (Cell cache entry) x bodies store journal m = Ready x bodies store journal (held_origins (Some want.Pictures) m)
 ReadyFor Desktop x bodies store journal m = Unit {0}
 ReadyFor Windows x bodies store journal m = Unit {0}
 ReadyFor Notifications x bodies store journal m = Unit {0}

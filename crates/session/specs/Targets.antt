@@ -1,7 +1,7 @@
 -- A lookup's target: what is followed for it, whether an index lists it, the figure that goes with it, and what the memory that
 -- holds it hands out. Assumes nothing.
-use Rattle.std.specs.Prelude.{ℕ, Bool, true, List, [], ◌∷◌}
-use Rattle.std.proofs.Math.Option.{Option}
+use Rattle.std.specs.Prelude.{Option, Some, None, ℕ, Bool, true, List, [], ◌∷◌}
+use Rattle.std.proofs.Math.Option as math
 use Rattle.wire.specs.Tests.{both}
 use Rattle.places.specs.declared.Family.{Family}
 use Rattle.places.specs.declared.Family.TheVariants as family
@@ -21,14 +21,14 @@ use Rattle.session.specs.declared.LookupTarget.{LookupTarget}
 use Rattle.session.specs.declared.LookupTarget.TheVariants.{Window, Notification, Cell, Desktop, Windows, Notifications, Shares}
 use Rattle.session.specs.Calls.{Payload, listed, desktop, ids, shared, a_picture, cell_number, holder_of}
 
-unfoldable pub want_of : LookupTarget → Want
-want_of (Window w) = want.Window w
-want_of (Notification w n) = want.Notification w n
-want_of (Cell cache entry) = want.Pictures
-want_of Desktop = want.Desktop
-want_of Windows = want.Nothing
-want_of Notifications = want.Nothing
-want_of (Shares g k) = want.Nothing
+unfoldable pub want_of : LookupTarget → Option Want
+want_of (Window w) = Some (want.Window w)
+want_of (Notification w n) = Some (want.Notification w n)
+want_of (Cell cache entry) = Some want.Pictures
+want_of Desktop = Some want.Desktop
+want_of Windows = None
+want_of Notifications = None
+want_of (Shares g k) = None
 
 -- the desktop state and the lists are always there
 unfoldable pub listed_in : LookupTarget → Index → Bool
@@ -51,7 +51,7 @@ figure_for Notifications x index bodies journal n = no_figure
 figure_for (Shares g k) x index bodies journal n = no_figure
 
 -- the pictures of a record's icons
-abbrev pub icons_held : List ℕ → (ℕ → List ℕ) → Family → ℕ → ℕ → List (Option (List ℕ))
+abbrev pub icons_held : List ℕ → (ℕ → List ℕ) → Family → ℕ → ℕ → List (math.Option (List ℕ))
 icons_held d pictures family.Windows a b =
     shown_in d pictures (icon family.Windows a b 0) ∷ shown_in d pictures (icon family.Windows a b 1) ∷ shown_in d pictures (icon family.Windows a b 2) ∷ []
 icons_held d pictures family.Notifications a b = shown_in d pictures (icon family.Notifications a b 0) ∷ []

@@ -1,23 +1,10 @@
 -- The slot changes where the change is for the record and does not delete it.
 use Rattle.std.proofs.Common.{◌-◌, ◌≡◌, ap, arith, not}
-use Rattle.follow.proofs.Ways.{slot_other, slot_deleted, slot_fits, slot_changed}
+use Rattle.follow.proofs.Ways.{slot_fits, slot_changed}
 use Rattle.follow.specs.Follow.{slot_room}
 use Rattle.wire.specs.Parts.{slice}
 use Rattle.wire.proofs.Parts.{length_slice}
 use Rattle.follow_orders.proofs.follow_slot.Goals as goal
-
-pub returns-then-not-is_for : goal.returns-then-not-is_for
-returns-then-not-is_for c =
-    let a = c.args in
-    slot_other a.family a.window.id a.notify.id a.s.now a.c a.m.now c.is_for.ensures (ap not c.if-not-is_for.true)
-
-pub returns-then-c : goal.returns-then-c
-returns-then-c c =
-    let a = c.args in
-    slot_deleted a.family a.window.id a.notify.id a.s.now a.c a.m.now c.is_for.ensures c.if-c.true
-
-pub slice_bounds-change_slot-end : goal.slice_bounds-change_slot-end
-slice_bounds-change_slot-end c = omega (arith, c.slot_room-room.ensures, c.requires.0)
 
 pub change_slot-requires : goal.change_slot-requires
 unfolding slice
