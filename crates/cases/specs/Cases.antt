@@ -1,14 +1,13 @@
 -- Document 01's cases marked (T), "Edges, with bytes": one table and the claim over it. Assumes nothing.
-use Rattle.std.specs.Prelude.{ℕ, ◌≡◌, true, false, List, [], ◌∷◌, map}
+use Rattle.std.specs.Prelude.{ℕ, ◌≡◌, true, false, List, [], ◌∷◌, map, Ok}
 use Rattle.std.proofs.Math.Option.{none}
 use Rattle.wire.specs.Tests.{pick}
 use Rattle.pdu.specs.declared.Read.{Read}
 use Rattle.pdu.specs.declared.Read.TheVariants.{Message, Refused}
 use Rattle.pdu.specs.declared.Pdu.TheVariants.{Handshake}
 use Rattle.pdu.specs.Reading.{read_of}
-use Rattle.order.specs.declared.Judged.{Judged}
-use Rattle.order.specs.declared.Judged.TheVariants.{Window, Desktop}
-use Rattle.order.specs.Judge.{refuse, judge_of}
+use Rattle.order.specs.declared.Order.TheVariants.{Window, Desktop}
+use Rattle.order.specs.Judge.{Judged, refuse, judge_of}
 use Rattle.places.specs.declared.Family.TheVariants as family
 use Rattle.places.specs.Holder.{same_family}
 use Rattle.slots.specs.Families.{same_record}
@@ -20,6 +19,7 @@ use Rattle.session.specs.declared.LookupTarget.TheVariants as T
 use Rattle.session.specs.Calls.{Call, deliver, look, Payload, nothing, listed, desktop}
 use Rattle.session.specs.Calls as S
 use Rattle.model.specs.Book.{Book, new_book, table_of, book_after, book_answers}
+use Rattle.protocol.specs.declared.Refusal.TheVariants.{UnknownType, NotFilled}
 
 -- what is asked, and what the rules answer: of a message; of an order, what its bytes alone say; of calls on an emptied state with 64
 -- places, what the plain book says, and the standing orders and the table that they leave
@@ -147,23 +147,23 @@ cases =
     -- 4: a new window with the title "A"
     ∷ record {
       question = judge_order (0x2E ∷ 0x0F ∷ 0x00 ∷ 0x04 ∷ 0x00 ∷ 0x00 ∷ 0x11 ∷ 0x58 ∷ 0x00 ∷ 0x01 ∷ 0x00 ∷ 0x02 ∷ 0x00 ∷ 0x41 ∷ 0x00 ∷ []);
-      answer = judged_as (Window (record { window = record { id = 65624 }; flags = 0x11000004; icon = 15 }));
+      answer = judged_as (Ok (Window (record { window = record { id = 65624 }; flags = 0x11000004; icon = 15 })));
     }
     -- 5: the window deleted
     ∷ record {
       question = judge_order (0x2E ∷ 0x0B ∷ 0x00 ∷ 0x00 ∷ 0x00 ∷ 0x00 ∷ 0x21 ∷ 0x58 ∷ 0x00 ∷ 0x01 ∷ 0x00 ∷ []);
-      answer = judged_as (Window (record { window = record { id = 65624 }; flags = 0x21000000; icon = 11 }));
+      answer = judged_as (Ok (Window (record { window = record { id = 65624 }; flags = 0x21000000; icon = 11 })));
     }
     -- 6: desktop none, and the same with type byte 05
     ∷ record {
       question = judge_order (0x2E ∷ 0x07 ∷ 0x00 ∷ 0x01 ∷ 0x00 ∷ 0x00 ∷ 0x04 ∷ []);
-      answer = judged_as (Desktop (record { flags = 0x04000001 }));
+      answer = judged_as (Ok (Desktop (record { flags = 0x04000001 })));
     }
-    ∷ record { question = judge_order (0x2E ∷ 0x07 ∷ 0x00 ∷ 0x01 ∷ 0x00 ∷ 0x00 ∷ 0x05 ∷ []); answer = judged_as (refuse 4 3) }
+    ∷ record { question = judge_order (0x2E ∷ 0x07 ∷ 0x00 ∷ 0x01 ∷ 0x00 ∷ 0x00 ∷ 0x05 ∷ []); answer = judged_as (refuse UnknownType 3) }
     -- 7: case 4 with flags byte 84; 5 before request No. 12, since when this bit carries resize margins
     ∷ record {
       question = judge_order (0x2E ∷ 0x0F ∷ 0x00 ∷ 0x84 ∷ 0x00 ∷ 0x00 ∷ 0x11 ∷ 0x58 ∷ 0x00 ∷ 0x01 ∷ 0x00 ∷ 0x02 ∷ 0x00 ∷ 0x41 ∷ 0x00 ∷ []);
-      answer = judged_as (refuse 7 15);
+      answer = judged_as (refuse NotFilled 15);
     }
     -- 4 on an emptied state: one window, title "A"; delivered again: 9, nothing changed
     ∷ record { question = end_of (deliver new_a ∷ []); answer = left (standing (new_a ∷ [])) table_a }

@@ -8,6 +8,7 @@ use lib.Dec.{eqb, ltb, leb}
 use lib.Bits.{bit_and, and_step, and_zero_l, and_le_l}
 use lib.ListN.{length, replicate}
 use borrow.Author.Tests.{ne_eqb, eq-eqb, eqb-true, leb-true, not-false}
+use Rattle.std.specs.Prelude.{Ok, Err}
 use Rattle.wire.specs.Tests.{pick, both, either, any, has, has_all}
 use Rattle.wire.specs.Numbers.{num_at}
 use Rattle.wire.proofs.Tests.{both_left, both_right}
@@ -15,12 +16,11 @@ use Rattle.rows.specs.declared.Row.{Row}
 use Rattle.rows.specs.declared.Fit.{Fit}
 use Rattle.rows.specs.declared.Fit.TheVariants.{Ends, Short}
 use Rattle.rows.specs.Rows.{window_rows, len_of, step_of, on_fit, walk_of}
-use Rattle.order.specs.declared.Judged.{Judged}
-use Rattle.order.specs.declared.Judged.TheVariants.{Window, Notification, Desktop, Refused}
+use Rattle.order.specs.declared.Order.TheVariants.{Window, Notification, Desktop}
 use Rattle.order.specs.declared.WindowOrder.{WindowOrder}
 use Rattle.order.specs.declared.NotificationOrder.{NotificationOrder}
 use Rattle.order.specs.Flags.{is_window, is_notification, is_desktop, one_type, in_list, closed_in, closed}
-use Rattle.order.specs.Judge.{refuse, number_of, flags_of, fields_fit, judge_by, judge_of}
+use Rattle.order.specs.Judge.{Judged, refuse, number_of, flags_of, fields_fit, judge_by, judge_of}
 use Rattle.editions.specs.Editions.{earlier_flags, newer_flags, rows_in, earlier_fit, earlier_judge, fields_within, earlier_record_number, earlier_number_in, SameRecords, Unchanged, EditionsAgree}
 use Rattle.rows.proofs.Absent.{unlisted}
 use Rattle.order.proofs.Accepted.{a_window, a_notification}
@@ -31,6 +31,7 @@ use Rattle.index.proofs.Ordered.{window_order, notification_order}
 use Rattle.body.specs.Bodies.{window_fields, first, rest, set_flagged, empty_fields}
 use Rattle.wire.specs.Parts.{slice}
 use Rattle.protocol.specs.Flags.{desktop_flags, flag_window, flags_overlay, notification_flags, window_flags}
+use Rattle.protocol.specs.declared.Refusal.TheVariants.{TooShort, LengthDiffers, UnknownType, UnknownFlag}
 
 -- ---- a mask in two parts that have no bit in common
 
@@ -204,8 +205,8 @@ early_refused s w h =
     rw (newer_outside (flags_of s) w h) (go (ltb (length s) 7) (eqb (num_at 2 s 1) (length s)) (eqb (num_at 1 s 0) 0x2E) (one_type (flags_of s)) (judge_by (λ flags. true) earlier_fit s))
   where
     go : (a b c d : Bool) (rest : Judged)
-        → (2 ≤ number_of (pick a (refuse 2 0) (pick (not b) (refuse 3 1) (pick (not c) (refuse 4 0) (pick (not d) (refuse 4 3) (refuse 5 3))))))
-        × (number_of (pick a (refuse 2 0) (pick (not b) (refuse 3 1) (pick (not c) (refuse 4 0) (pick (not d) (refuse 4 3) (refuse 5 3))))) ≤ 5)
+        → (2 ≤ number_of (pick a (refuse TooShort 0) (pick (not b) (refuse LengthDiffers 1) (pick (not c) (refuse UnknownType 0) (pick (not d) (refuse UnknownType 3) (refuse UnknownFlag 3))))))
+        × (number_of (pick a (refuse TooShort 0) (pick (not b) (refuse LengthDiffers 1) (pick (not c) (refuse UnknownType 0) (pick (not d) (refuse UnknownType 3) (refuse UnknownFlag 3))))) ≤ 5)
     go true b c d rest = (omega arith, omega arith)
     go false false c d rest = (omega arith, omega arith)
     go false true false d rest = (omega arith, omega arith)
@@ -268,16 +269,16 @@ number_same d s h = rw (early_same s h) (go (judge_of s) refl)
   where
     go : (j : Judged) → judge_of s ≡ j
         → on_judged j (earlier_record_number d s) (λ flags. 0) (λ number. number) ≡ on_judged j (record_number d s) (λ flags. 0) (λ number. number)
-    go (Window o) e =
+    go (Ok (Window o)) e =
         let w = a_window s o e in
         let f : o.flags ≡ flags_of s = ap (λ (o : WindowOrder). o.flags) w.is in
         record_same d s (window_order o) (rw f (no_overlay (flags_of s) w.whole.listed h))
-    go (Notification o) e =
+    go (Ok (Notification o)) e =
         let w = a_notification s o e in
         let f : o.flags ≡ flags_of s = ap (λ (o : NotificationOrder). o.flags) w.is in
         record_same d s (notification_order o) (rw f (no_overlay (flags_of s) w.whole.listed h))
-    go (Desktop o) e = refl
-    go (Refused r) e = refl
+    go (Ok (Desktop o)) e = refl
+    go (Err r) e = refl
 
 -- on two indexes with the same records
 record_other : (d e : Index) (s : List ℕ) (o : RecordOrder) → SameRecords d e
@@ -305,10 +306,10 @@ number_other d e s h r x y = number_same e s h ∙ go (judge_of s) (λ z. x (num
     go : (j : Judged) → (on_judged j (record_number e s) (λ flags. 0) (λ number. number) ≡ 17 → ⊥)
         → (on_judged j (record_number d s) (λ flags. 0) (λ number. number) ≡ 17 → ⊥)
         → on_judged j (record_number e s) (λ flags. 0) (λ number. number) ≡ on_judged j (record_number d s) (λ flags. 0) (λ number. number)
-    go (Window o) x y = record_other d e s (window_order o) r x y
-    go (Notification o) x y = record_other d e s (notification_order o) r x y
-    go (Desktop o) x y = refl
-    go (Refused r) x y = refl
+    go (Ok (Window o)) x y = record_other d e s (window_order o) r x y
+    go (Ok (Notification o)) x y = record_other d e s (notification_order o) r x y
+    go (Ok (Desktop o)) x y = refl
+    go (Err r) x y = refl
 
 pub editions_agree : EditionsAgree
 editions_agree =

@@ -5,9 +5,8 @@ use Rattle.wire.specs.Tests.{pick, both, has}
 use Rattle.rows.specs.declared.Row.{Row}
 use Rattle.rows.specs.declared.Fit.{Fit}
 use Rattle.rows.specs.Rows.{window_rows, notification_rows, desktop_rows, walk_of}
-use Rattle.order.specs.declared.Judged.{Judged}
 use Rattle.order.specs.Flags.{is_window, is_notification, in_list, closed_in}
-use Rattle.order.specs.Judge.{number_of, flags_of, judge_by, judge_of}
+use Rattle.order.specs.Judge.{Judged, number_of, flags_of, judge_by, judge_of}
 use Rattle.protocol.specs.Flags.{flag_big_icon}
 use Rattle.places.specs.declared.Family.{Family}
 use Rattle.places.specs.Sharing.{full}

@@ -6,15 +6,14 @@ use Prim.Native.Nat.{ℕ}
 use native.Mathlib.Omega.{arith}
 use lib.Dec.{eqb}
 use borrow.Author.Tests.{eqb-true, ne_eqb}
+use Rattle.std.specs.Prelude.{Ok, Err}
 use Rattle.wire.specs.Tests.{pick}
 use Rattle.wire.specs.Numbers.{Bytes}
 use Rattle.order.specs.declared.WindowOrder.{WindowOrder}
 use Rattle.order.specs.declared.NotificationOrder.{NotificationOrder}
 use Rattle.order.specs.declared.DesktopOrder.{DesktopOrder}
-use Rattle.order.specs.declared.Refusal.{Refusal}
-use Rattle.order.specs.declared.Judged.{Judged}
-use Rattle.order.specs.declared.Judged.TheVariants.{Window, Notification, Desktop, Refused}
-use Rattle.order.specs.Judge.{number_of, judge_of}
+use Rattle.order.proofs.Verdicts.{has_number}
+use Rattle.order.specs.Judge.{Judged, number_of, judge_of}
 use Rattle.index.specs.Index.{Index, number_in}
 use Rattle.index.specs.Plans.{plan_of, plan_number}
 use Rattle.index.specs.Steps.{step_number}
@@ -53,24 +52,6 @@ module _ (d s : List ℕ) (w : JournalExtent) {p : Plan} (is : p ≡ plan_of d s
     pub table_done : is_full w s ≡ false → explanation 0 0 ≡ on_table d s w
     unfolding on_table number_on step_number
     table_done f = rw (number_is, zero, f)
-
-module _ (d s : List ℕ) (w : JournalExtent) {j : Judged} (is : j ≡ judge_of s) where
-  by_judged_lem : {k : Judged} → j ≡ k → by_judged k (on_table d s w) ≡ on_state d s w
-  unfolding on_state
-  by_judged_lem e = ap (λ (x : Judged). by_judged x (on_table d s w)) (sym e ∙ is)
-
-  module _ {r : Explanation} (e : r ≡ on_table d s w) where
-    pub state_window : {o : WindowOrder} → j ≡ Window o → r ≡ on_state d s w
-    state_window f = e ∙ by_judged_lem f
-
-    pub state_notification : {o : NotificationOrder} → j ≡ Notification o → r ≡ on_state d s w
-    state_notification f = e ∙ by_judged_lem f
-
-    pub state_desktop : {o : DesktopOrder} → j ≡ Desktop o → r ≡ on_state d s w
-    state_desktop f = e ∙ by_judged_lem f
-
-  pub state_refused : {r : Refusal} → j ≡ Refused r → explanation r.number r.at ≡ on_state d s w
-  state_refused f = by_judged_lem f
 
 -- ---- the explanation
 
@@ -122,19 +103,15 @@ module _ {m : Memory} {w : JournalExtent} {d : List ℕ} {os : List (List ℕ)} 
   -- of a refusal by its bytes it is the one that judging tells
   refused_number : (j : Judged) → judge_of s ≡ j → (number_of j ≡ 0 → ⊥) → number_on d w s ≡ number_of j
   unfolding number_on step_number plan_of
-  refused_number (Window o) e h = absurd (h refl)
-  refused_number (Notification o) e h = absurd (h refl)
-  refused_number (Desktop o) e h = absurd (h refl)
-  refused_number (Refused r) e h = rw (e, ne_eqb r.number 0 h)
+  refused_number (Ok o) e h = absurd (h refl)
+  refused_number (Err f) e h = rw (e, ne_eqb (number_of (Err f)) 0 h)
 
   pub explained_is : on_state d s w ≡ explain s m
   unfolding explain on_state on_table
   explained_is = rw delivered (go (judge_of s) refl (judged_tells s bytes))
     where
       go : (j : Judged) → judge_of s ≡ j → Tells s (judge_of s) → by_judged j (explanation (number_on d w s) (pick (eqb (number_on d w s) 0) 0 7)) ≡ explained (number_on d w s) s
-      go (Window o) e k = ap (explanation (number_on d w s)) (seven (Window o) e refl)
-      go (Notification o) e k = ap (explanation (number_on d w s)) (seven (Notification o) e refl)
-      go (Desktop o) e k = ap (explanation (number_on d w s)) (seven (Desktop o) e refl)
-      go (Refused r) e k =
-          let told : (r.at ≡ offset_of r.number s) × (r.number ≡ 0 → ⊥) = unfold Tells in rw e at k in
-          rw (refused_number (Refused r) e told.1) (ap (explanation r.number) told.0)
+      go (Ok o) e k = ap (explanation (number_on d w s)) (seven (Ok o) e refl)
+      go (Err f) e k =
+          let told : f.at ≡ offset_of (number_of (Err f)) s = unfold Tells in rw e at k in
+          rw (refused_number (Err f) e (has_number f.refusal)) (ap (explanation (number_of (Err f))) told)

@@ -21,6 +21,7 @@ use Rattle.explain.specs.Fields.{first_cut, first_outside, fields_of, icon_at}
 use Rattle.explain.specs.Explain.{explain}
 use Rattle.explain.specs.Conditions.{too_few, other_size, no_order, unlisted, clashing, unfilled, outside, wrong_id, table_full, empty_cell, places_full, Condition, condition, index_in, conditions, Names, none, this, later, NoneHolds, Explained}
 use Rattle.explain.proofs.Judging.{ladder, judged}
+use Rattle.protocol.specs.declared.Refusal.TheVariants.{TooShort, LengthDiffers, UnknownType, UnknownFlag, FlagsClash, NotFilled, OutsideSet}
 
 -- ---- the first condition that holds
 
@@ -84,8 +85,8 @@ module _ (d : Index) (s : List ℕ) where
     where
       go : (a b c d' e f g h : Bool)
           → on_judged
-          (pick a (refuse 2 0) (pick b (refuse 3 1) (pick (not c) (refuse 4 0) (pick (not d') (refuse 4 3) (pick e (refuse 5 3) (pick f (refuse 6 3)
-          (pick g (refuse 7 (first_cut (length s) 7 (fields_of s))) (pick h (refuse 8 (first_outside 7 (fields_of s))) (order_of (flags_of s) s (icon_at s))))))))))
+          (pick a (refuse TooShort 0) (pick b (refuse LengthDiffers 1) (pick (not c) (refuse UnknownType 0) (pick (not d') (refuse UnknownType 3) (pick e (refuse UnknownFlag 3) (pick f (refuse FlagsClash 3)
+          (pick g (refuse NotFilled (first_cut (length s) 7 (fields_of s))) (pick h (refuse OutsideSet (first_outside 7 (fields_of s))) (order_of (flags_of s) s (icon_at s))))))))))
           (record_number d s) (λ flags. 0) (λ number. number)
           ≡ pick a 2 (pick b 3 (pick (either (not c) (not d')) 4 (pick e 5 (pick f 6 (pick g 7 (pick h 8 (on_index d s 0)))))))
       go true b c d' e f g h = refl

@@ -1,10 +1,9 @@
 -- What the private functions answer: an order judged on its bytes, then on the index d of the present table and the extent w of the
 -- journal. Assumes nothing.
-use Rattle.std.specs.Prelude.{ℕ, ◌≤◌, ◌≡◌, true, List, eqb}
+use Rattle.std.specs.Prelude.{ℕ, ◌≤◌, ◌≡◌, true, List, eqb, Ok, Err}
 use Rattle.wire.specs.Tests.{pick}
-use Rattle.order.specs.declared.Judged.{Judged}
-use Rattle.order.specs.declared.Judged.TheVariants.{Window, Notification, Desktop, Refused}
-use Rattle.order.specs.Judge.{judge_of}
+use Rattle.protocol.specs.Refusals.{number_of}
+use Rattle.order.specs.Judge.{Judged, judge_of}
 use Rattle.slots.specs.Sound.{sound_index}
 use Rattle.index.specs.Plans.{plan_of, plan_number}
 use Rattle.journal.specs.declared.JournalExtent.{JournalExtent}
@@ -27,10 +26,8 @@ unfoldable pub on_table : List ℕ → List ℕ → JournalExtent → Explanatio
 on_table d s w = explanation (number_on d w s) (pick (eqb (number_on d w s) 0) 0 7)
 
 abbrev pub by_judged : Judged → Explanation → Explanation
-by_judged (Window o) e = e
-by_judged (Notification o) e = e
-by_judged (Desktop o) e = e
-by_judged (Refused r) e = explanation r.number r.at
+by_judged (Ok o) e = e
+by_judged (Err f) e = explanation (number_of f.refusal) f.at
 
 unfoldable pub on_state : List ℕ → List ℕ → JournalExtent → Explanation
 on_state d s w = by_judged (judge_of s) (on_table d s w)

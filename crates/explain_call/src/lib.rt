@@ -10,7 +10,6 @@ ghost use Rattle.explain.specs.OneFile.{memory_in};
 
 use explain::Explanation;
 use journal::JournalExtent;
-use order::Judged;
 
 // Where a field is at fault that no offset of the order's bytes tells: its first byte after the header.
 const AFTER_FLAGS: u32 = 7;
@@ -40,18 +39,16 @@ fn on_table(d: &[u8], s: &[u8], w: JournalExtent) -> Explanation
 }
 
 // Explains an order on the index d of the present table and the extent w of the journal.
+#[tactic(auto, unfolding(explain::specs::Steps::on_state))]
 fn on_state(d: &[u8], s: &[u8], w: JournalExtent) -> Explanation
     requires { Judgeable d.now w }
     ensures { result ≡ on_state d.now s.now w }
 {
-    let j = order_judge::judge(s);
-    match j {
-        Judged::Window(_) => on_table(d, s, w),
-        Judged::Notification(_) => on_table(d, s, w),
-        Judged::Desktop(_) => on_table(d, s, w),
-        Judged::Refused(r) => Explanation {
-            number: r.number,
-            at: r.at,
+    match order_judge::judge(s) {
+        Ok(_) => on_table(d, s, w),
+        Err(fault) => Explanation {
+            number: u8::from(fault.refusal),
+            at: fault.at,
         },
     }
 }

@@ -6,12 +6,12 @@ use Prim.Native.Nat.{ℕ, ◌+◌, ◌-◌}
 use native.Mathlib.Omega.{arith}
 use lib.Dec.{eqb}
 use borrow.Author.Tests.{eq-eqb, ne_eqb}
+use Rattle.std.specs.Prelude.{Ok, Err}
 use Rattle.wire.specs.Tests.{pick, has}
 use Rattle.wire.proofs.Numbers.{Bytes}
 use Rattle.protocol.specs.Flags.{desktop_none}
-use Rattle.order.specs.declared.Judged.{Judged}
-use Rattle.order.specs.declared.Judged.TheVariants.{Window, Notification, Desktop, Refused}
-use Rattle.order.specs.Judge.{judge_of}
+use Rattle.order.specs.declared.Order.TheVariants.{Window, Notification, Desktop}
+use Rattle.order.specs.Judge.{Judged, judge_of}
 use Rattle.places.specs.Memory.{pointer_at, with_picture}
 use Rattle.places.specs.Holder.{Holder}
 use Rattle.slots.specs.Sound.{sound_index}
@@ -55,11 +55,11 @@ planned_carries x s sound bytes c = go (judge_of s) refl
 
     go : (j : Judged) → judge_of s ≡ j → on_judged j (plan_record x s) ChangeDesktop Refuse ≡ ChangeRecord c → brings_icon c.flags ≡ true
         → on_judged j (λ o. pick (brings_icon o.flags) (carried_picture s o.icon) []) (λ flags. []) (λ n. []) ≡ carried_picture s c.icon
-    go (Window o) e h t = of (window_order o) (plan_record x s (window_order o)) (outcome x s (window_order o) sound (ordered_window s bytes o e)) h t
-    go (Notification o) e h t =
+    go (Ok (Window o)) e h t = of (window_order o) (plan_record x s (window_order o)) (outcome x s (window_order o) sound (ordered_window s bytes o e)) h t
+    go (Ok (Notification o)) e h t =
         of (notification_order o) (plan_record x s (notification_order o)) (outcome x s (notification_order o) sound (ordered_notification s bytes o e)) h t
-    go (Desktop o) e h t = let z : ◌≡◌ {A = ℕ} 0 1 = cc in absurd (omega arith)
-    go (Refused n) e h t = let z : ◌≡◌ {A = ℕ} 0 1 = cc in absurd (omega arith)
+    go (Ok (Desktop o)) e h t = let z : ◌≡◌ {A = ℕ} 0 1 = cc in absurd (omega arith)
+    go (Err n) e h t = let z : ◌≡◌ {A = ℕ} 0 1 = cc in absurd (omega arith)
 
 puts_brings : (d b : Bool) → pick d false b ≡ true → b ≡ true
 puts_brings true b e = let z : ◌≡◌ {A = ℕ} 0 1 = cc in absurd (omega arith)

@@ -7,12 +7,13 @@ use native.Mathlib.Omega.{arith}
 use lib.Dec.{eqb}
 use lib.ListN.{length}
 use borrow.Author.Tests.{ne_eqb}
+use Rattle.std.specs.Prelude.{Ok, Err}
 use Rattle.wire.specs.Tests.{pick, has}
 use Rattle.wire.specs.Numbers.{Bytes}
 use Rattle.protocol.specs.Flags.{desktop_none}
-use Rattle.order.specs.declared.Judged.{Judged}
-use Rattle.order.specs.declared.Judged.TheVariants.{Window, Notification, Desktop, Refused}
-use Rattle.order.specs.Judge.{judge_of}
+use Rattle.protocol.specs.Refusals.{number_of}
+use Rattle.order.specs.declared.Order.TheVariants.{Window, Notification, Desktop}
+use Rattle.order.specs.Judge.{Judged, judge_of}
 use Rattle.places.specs.declared.Family.{Family}
 use Rattle.places.specs.declared.Found.{Found}
 use Rattle.places.specs.declared.Found.TheVariants.{At, Nothing}
@@ -238,10 +239,10 @@ module _ (x s : List ℕ) (ok : sound_index x ≡ true) (bytes : Bytes s) where
   plan_number_lem = go (judge_of s) refl
     where
       go : (j : Judged) → judge_of s ≡ j → plan_number (on_judged j (plan_record x s) ChangeDesktop Refuse) ≡ on_judged j (record_number (index_of x) s) (λ flags. 0) (λ n. n)
-      go (Window o) e = record_number_lem x s (window_order o) sound (ordered_window s bytes o e)
-      go (Notification o) e = record_number_lem x s (notification_order o) sound (ordered_notification s bytes o e)
-      go (Desktop o) e = refl
-      go (Refused r) e = refl
+      go (Ok (Window o)) e = record_number_lem x s (window_order o) sound (ordered_window s bytes o e)
+      go (Ok (Notification o)) e = record_number_lem x s (notification_order o) sound (ordered_notification s bytes o e)
+      go (Ok (Desktop o)) e = refl
+      go (Err r) e = refl
 
   -- the memory then describes the index after the order
   pub plan_after : index_of (applied_of x (plan_of x s)) ≡ index_after (index_of x) s
@@ -256,10 +257,10 @@ module _ (x s : List ℕ) (ok : sound_index x ≡ true) (bytes : Bytes s) where
           → index_of (applied_of x (on_judged j (plan_record x s) ChangeDesktop Refuse))
           ≡ pick (eqb (on_judged j (record_number (index_of x) s) (λ flags. 0) (λ n. n)) 0)
           (on_judged j (change_record (index_of x) s) (change_desktop (index_of x)) (λ n. index_of x)) (index_of x)
-      go (Window o) e = (record_done x s (window_order o) sound (ordered_window s bytes o e)).index
-      go (Notification o) e = (record_done x s (notification_order o) sound (ordered_notification s bytes o e)).index
-      go (Desktop o) e = (desktop_done x sound o.flags).0
-      go (Refused r) e = refuse (eqb r.number 0)
+      go (Ok (Window o)) e = (record_done x s (window_order o) sound (ordered_window s bytes o e)).index
+      go (Ok (Notification o)) e = (record_done x s (notification_order o) sound (ordered_notification s bytes o e)).index
+      go (Ok (Desktop o)) e = (desktop_done x sound o.flags).0
+      go (Err f) e = refuse (eqb (number_of f.refusal) 0)
 
   -- and meets the rule again
   pub plan_sound : sound_index (applied_of x (plan_of x s)) ≡ true
@@ -267,20 +268,20 @@ module _ (x s : List ℕ) (ok : sound_index x ≡ true) (bytes : Bytes s) where
   plan_sound = sound_is (applied_of x (plan_of x s)) (go (judge_of s) refl)
     where
       go : (j : Judged) → judge_of s ≡ j → Sound (applied_of x (on_judged j (plan_record x s) ChangeDesktop Refuse))
-      go (Window o) e = (record_done x s (window_order o) sound (ordered_window s bytes o e)).sound
-      go (Notification o) e = (record_done x s (notification_order o) sound (ordered_notification s bytes o e)).sound
-      go (Desktop o) e = (desktop_done x sound o.flags).1
-      go (Refused r) e = sound
+      go (Ok (Window o)) e = (record_done x s (window_order o) sound (ordered_window s bytes o e)).sound
+      go (Ok (Notification o)) e = (record_done x s (notification_order o) sound (ordered_notification s bytes o e)).sound
+      go (Ok (Desktop o)) e = (desktop_done x sound o.flags).1
+      go (Err r) e = sound
 
   pub length_plan : length (applied_of x (plan_of x s)) ≡ length x
   unfolding plan_of applied_of
   length_plan = go (judge_of s) refl
     where
       go : (j : Judged) → judge_of s ≡ j → length (applied_of x (on_judged j (plan_record x s) ChangeDesktop Refuse)) ≡ length x
-      go (Window o) e = (record_done x s (window_order o) sound (ordered_window s bytes o e)).long
-      go (Notification o) e = (record_done x s (notification_order o) sound (ordered_notification s bytes o e)).long
-      go (Desktop o) e = (desktop_done x sound o.flags).2
-      go (Refused r) e = refl
+      go (Ok (Window o)) e = (record_done x s (window_order o) sound (ordered_window s bytes o e)).long
+      go (Ok (Notification o)) e = (record_done x s (notification_order o) sound (ordered_notification s bytes o e)).long
+      go (Ok (Desktop o)) e = (desktop_done x sound o.flags).2
+      go (Err r) e = refl
 
   -- what `apply` asks
   pub plan_fits : FitsPlan (plan_of x s)
@@ -288,10 +289,10 @@ module _ (x s : List ℕ) (ok : sound_index x ≡ true) (bytes : Bytes s) where
   plan_fits = go (judge_of s) refl
     where
       go : (j : Judged) → judge_of s ≡ j → FitsPlan (on_judged j (plan_record x s) ChangeDesktop Refuse)
-      go (Window o) e = record_fits x s (window_order o) sound (ordered_window s bytes o e)
-      go (Notification o) e = record_fits x s (notification_order o) sound (ordered_notification s bytes o e)
-      go (Desktop o) e = tt
-      go (Refused r) e = tt
+      go (Ok (Window o)) e = record_fits x s (window_order o) sound (ordered_window s bytes o e)
+      go (Ok (Notification o)) e = record_fits x s (notification_order o) sound (ordered_notification s bytes o e)
+      go (Ok (Desktop o)) e = tt
+      go (Err r) e = tt
 
 pub judged_fits : (x s : List ℕ) → sound_index x ≡ true → Bytes s → {p : Plan} → p ≡ plan_of x s → FitsPlan p
 judged_fits x s ok bytes e = rw e (plan_fits x s ok bytes)

@@ -11,5 +11,4 @@ pub mod Promises
 pub mod Ways
 pub mod PlansMade
 pub mod StepsOfPlans
-pub mod JudgedNumbers
 pub mod StepsHeld

@@ -9,6 +9,7 @@ use lib.Dec.{eqb, leb}
 use lib.Bits.{bit_and, and_high, and_mask, and_shr, and_mod}
 use lib.ListN.{length}
 use borrow.Author.Tests.{eqb-true, leb-true, le-leb, lt-leb, not-false}
+use Rattle.std.specs.Prelude.{Ok}
 use Rattle.wire.specs.Tests.{pick, both, either, all, has, has_all}
 use Rattle.wire.specs.Numbers.{num_at}
 use Rattle.wire.proofs.Numbers.{Bytes, num4_is}
@@ -19,7 +20,7 @@ use Rattle.rows.specs.Rows.{len_of, ok_of, cut_of, first_bad, field_of, step_of,
 use Rattle.rows.proofs.Absent.{bit}
 use Rattle.order.specs.declared.WindowOrder.{WindowOrder}
 use Rattle.order.specs.declared.NotificationOrder.{NotificationOrder}
-use Rattle.order.specs.declared.Judged.TheVariants.{Window, Notification}
+use Rattle.order.specs.declared.Order.TheVariants.{Window, Notification}
 use Rattle.order.specs.Flags.{is_window, is_desktop, clash}
 use Rattle.order.specs.Icons.{picture_fit}
 use Rattle.order.specs.Judge.{flags_of, kind_rows, fields_fit, judge_of}
@@ -119,13 +120,13 @@ module _ (s : List ℕ) (bytes : Bytes s) where
   unfolding fields_fit
   icon_low w = walk_past (kind_rows (flags_of s)) (flags_of s) s 7 0 w.icon 0 w.fields
 
-  pub ordered_window : (o : WindowOrder) → judge_of s ≡ Window o → Ordered s (window_order o)
+  pub ordered_window : (o : WindowOrder) → judge_of s ≡ Ok (Window o) → Ordered s (window_order o)
   ordered_window o e =
       let w = a_window s o e in
       subst (λ (o : WindowOrder). Ordered s (window_order o)) (sym w.is)
       (record { first = number_small s 7 bytes; second = omega arith; agrees = w.whole.agrees; low = icon_low w.whole; picture = w.whole.picture })
 
-  pub ordered_notification : (o : NotificationOrder) → judge_of s ≡ Notification o → Ordered s (notification_order o)
+  pub ordered_notification : (o : NotificationOrder) → judge_of s ≡ Ok (Notification o) → Ordered s (notification_order o)
   ordered_notification o e =
       let w = a_notification s o e in
       subst (λ (o : NotificationOrder). Ordered s (notification_order o)) (sym w.is)

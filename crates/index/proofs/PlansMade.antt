@@ -6,16 +6,17 @@ use Prim.Native.Nat.{ℕ, ◌<◌}
 use native.Mathlib.Omega.{arith}
 use lib.Bits.{bit_and}
 use borrow.Author.Tests.{eq-eqb, ne_eqb}
+use Rattle.std.specs.Prelude.{Ok, Err}
 use Rattle.wire.specs.Tests.{pick, both}
 use Rattle.wire.proofs.Tests.{both_left, both_right}
 use Rattle.protocol.specs.Flags.{flag_icon}
-use Rattle.order.specs.declared.Judged.{Judged}
-use Rattle.order.specs.declared.Judged.TheVariants.{Window, Notification, Desktop, Refused}
+use Rattle.order.specs.declared.Order.TheVariants.{Window, Notification, Desktop}
 use Rattle.order.specs.declared.WindowOrder.{WindowOrder}
 use Rattle.order.specs.declared.NotificationOrder.{NotificationOrder}
 use Rattle.order.specs.declared.DesktopOrder.{DesktopOrder}
-use Rattle.order.specs.declared.Refusal.{Refusal}
-use Rattle.order.specs.Judge.{judge_of}
+use Rattle.order.specs.declared.Fault.{Fault}
+use Rattle.order.specs.Judge.{Judged, judge_of}
+use Rattle.protocol.specs.Refusals.{number_of}
 use Rattle.places.specs.declared.Family.{Family}
 use Rattle.places.specs.declared.Family.TheVariants.{Windows, Notifications}
 use Rattle.places.specs.declared.Found.{Found}
@@ -168,20 +169,20 @@ module _ (x s : List ℕ) (o : RecordOrder) {p : Place} (e : p ≡ slot_for x o)
   record_in_lem g = rw (← e, g)
 
 module _ (x s : List ℕ) {j : Judged} (e : j ≡ judge_of s) where
-  pub judged_window : {o : WindowOrder} {r : Plan} → j ≡ Window o
+  pub judged_window : {o : WindowOrder} {r : Plan} → j ≡ Ok (Window o)
       → r ≡ plan_record x s (record { family = Windows; window = o.window; notify = record { id = 0 }; flags = o.flags; icon = o.icon }) → r ≡ plan_of x s
   unfolding plan_of
   judged_window g h = rw (← e, g) h
 
-  pub judged_notification : {o : NotificationOrder} {r : Plan} → j ≡ Notification o
+  pub judged_notification : {o : NotificationOrder} {r : Plan} → j ≡ Ok (Notification o)
       → r ≡ plan_record x s (record { family = Notifications; window = o.window; notify = o.notify; flags = o.flags; icon = o.icon }) → r ≡ plan_of x s
   unfolding plan_of
   judged_notification g h = rw (← e, g) h
 
-  pub judged_desktop : {o : DesktopOrder} → j ≡ Desktop o → ChangeDesktop o.flags ≡ plan_of x s
+  pub judged_desktop : {o : DesktopOrder} → j ≡ Ok (Desktop o) → ChangeDesktop o.flags ≡ plan_of x s
   unfolding plan_of
   judged_desktop g = rw (← e, g)
 
-  pub judged_refused : {r : Refusal} → j ≡ Refused r → Refuse r.number ≡ plan_of x s
+  pub judged_refused : {r : Fault} → j ≡ Err r → Refuse (number_of r.refusal) ≡ plan_of x s
   unfolding plan_of
   judged_refused g = rw (← e, g)

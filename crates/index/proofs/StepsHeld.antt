@@ -3,10 +3,11 @@ use mathlib.Core.Path.{◌≡◌, refl, sym, subst, ◌∙◌}
 use mathlib.Core.Bool.{Bool, true, false}
 use mathlib.Core.List.{List, [], ◌∷◌}
 use Prim.Native.Nat.{ℕ, ◌+◌, ◌<◌}
+use Rattle.std.specs.Prelude.{Ok, Err}
 use Rattle.wire.specs.Tests.{pick}
-use Rattle.order.specs.declared.Judged.{Judged}
-use Rattle.order.specs.declared.Judged.TheVariants.{Window, Notification, Desktop, Refused}
-use Rattle.order.specs.Judge.{judge_of}
+use Rattle.protocol.specs.Refusals.{number_of}
+use Rattle.order.specs.declared.Order.TheVariants.{Window, Notification, Desktop}
+use Rattle.order.specs.Judge.{Judged, judge_of}
 use Rattle.places.specs.declared.Found.{Found}
 use Rattle.places.specs.declared.Found.TheVariants.{At, Nothing}
 use Rattle.places.specs.Counts.{on_found}
@@ -100,10 +101,10 @@ module _ (full : Bool) (x s : List ℕ) (sound : sound_index x ≡ true) where
   step_holds = go (judge_of s)
     where
       go : (j : Judged) → Holds full x (on_judged j (plan_record x s) ChangeDesktop Refuse)
-      go (Window o) = record_holds (record { family = _; window = o.window; notify = record { id = 0 }; flags = o.flags; icon = o.icon })
-      go (Notification o) = record_holds (record { family = _; window = o.window; notify = o.notify; flags = o.flags; icon = o.icon })
-      go (Desktop o) = held_none (stepped_of full x (ChangeDesktop o.flags))
-      go (Refused r) = held_none (stepped_of full x (Refuse r.number))
+      go (Ok (Window o)) = record_holds (record { family = _; window = o.window; notify = record { id = 0 }; flags = o.flags; icon = o.icon })
+      go (Ok (Notification o)) = record_holds (record { family = _; window = o.window; notify = o.notify; flags = o.flags; icon = o.icon })
+      go (Ok (Desktop o)) = held_none (stepped_of full x (ChangeDesktop o.flags))
+      go (Err r) = held_none (stepped_of full x (Refuse (number_of r.refusal)))
 
   -- the whole outcome of a step
   pub step_told : {r : Stepped} {x' : List ℕ} → StepOutcome full x (plan_of x s) r x' → (r ≡ step_of full (plan_of x s)) × ((x' ≡ stepped_of full x (plan_of x s)) × HeldBelow x' r.held)

@@ -1,9 +1,10 @@
 -- Orders for records of either family. Assumes nothing.
-use Rattle.std.specs.Prelude.{ℕ, ◌+◌, ◌*◌, Bool, not, List, [], ◌∷◌, eqb}
+use Rattle.std.specs.Prelude.{ℕ, ◌+◌, ◌*◌, Bool, not, List, [], ◌∷◌, eqb, Ok, Err}
 use Rattle.wire.specs.Tests.{pick, both, has}
 use Rattle.wire.specs.Numbers.{num_at}
-use Rattle.order.specs.declared.Judged.{Judged}
-use Rattle.order.specs.declared.Judged.TheVariants.{Window, Notification, Desktop, Refused}
+use Rattle.order.specs.Judge.{Judged}
+use Rattle.order.specs.declared.Order.TheVariants.{Window, Notification, Desktop}
+use Rattle.protocol.specs.Refusals.{number_of}
 use Rattle.protocol.specs.Flags.{flag_big_icon, flag_cached_icon, flag_deleted, flag_icon, flag_new, flag_overlay_none, flags_icon, flags_overlay}
 use Rattle.places.specs.declared.Family.{Family}
 use Rattle.places.specs.declared.Family.TheVariants.{Windows, Notifications}
@@ -12,12 +13,12 @@ use Rattle.index.specs.declared.RecordOrder.{RecordOrder}
 
 -- an order for a record, one for the desktop with its flags, or the number of a refusal
 abbrev pub on_judged : {A : Type 0} → Judged → (RecordOrder → A) → (ℕ → A) → (ℕ → A) → A
-on_judged (Window o) change desktop refused =
+on_judged (Ok (Window o)) change desktop refused =
     change (record { family = Windows; window = o.window; notify = record { id = 0 }; flags = o.flags; icon = o.icon })
-on_judged (Notification o) change desktop refused =
+on_judged (Ok (Notification o)) change desktop refused =
     change (record { family = Notifications; window = o.window; notify = o.notify; flags = o.flags; icon = o.icon })
-on_judged (Desktop o) change desktop refused = desktop o.flags
-on_judged (Refused r) change desktop refused = refused r.number
+on_judged (Ok (Desktop o)) change desktop refused = desktop o.flags
+on_judged (Err f) change desktop refused = refused (number_of f.refusal)
 
 -- a new record is asked for; on window icon orders the new bit is ignored
 abbrev pub is_new : Family → ℕ → Bool

@@ -12,7 +12,7 @@ ghost use Rattle.index.specs.Orders.{is_new, cell_at, which_of};
 ghost use Rattle.index.specs.Plans.{beside_of, pointer_for, lacks_picture, place_for, change_with, plan_in, plan_record, plan_of, plan_number, plan_slot};
 
 use index::{Change, Place, Plan, RecordOrder};
-use order::{Judged, NotificationOrder, WindowOrder};
+use order::{NotificationOrder, Order, WindowOrder};
 use places::{Family, Found};
 use protocol::{NotifyIconId, WindowId};
 
@@ -238,22 +238,17 @@ pub fn of_notification(o: NotificationOrder) -> RecordOrder
 
 // The first of the numbers 2 to 11 and 17 that applies to an order, or what it changes. Slot near is looked at for its record before
 // a search.
+#[tactic(auto, unfolding(index::specs::Plans::plan_of))]
 pub fn judge_near(index: &[u8], s: &[u8], near: usize) -> Plan
     requires { sound_index index.now ≡ true }
     ensures { result ≡ plan_of index.now s.now }
 {
-    let j = order_judge::judge(s);
-    let r = match j {
-        Judged::Window(o) => of_window(o),
-        Judged::Notification(o) => of_notification(o),
-        Judged::Desktop(o) => {
-            return Plan::ChangeDesktop(o.flags);
-        }
-        Judged::Refused(r) => {
-            return Plan::Refuse(r.number);
-        }
-    };
-    plan_record(index, s, r, near)
+    match order_judge::judge(s) {
+        Ok(Order::Window(o)) => plan_record(index, s, of_window(o), near),
+        Ok(Order::Notification(o)) => plan_record(index, s, of_notification(o), near),
+        Ok(Order::Desktop(o)) => Plan::ChangeDesktop(o.flags),
+        Err(fault) => Plan::Refuse(u8::from(fault.refusal)),
+    }
 }
 
 // The same with no slot known.

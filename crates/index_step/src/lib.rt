@@ -16,7 +16,7 @@ ghost use Rattle.index.specs.Changes.{Fits};
 ghost use Rattle.index.specs.Steps.{change_held, step_of, stepped_of, StepOutcome, SlotOutcome};
 
 use index::{Change, Place, RecordOrder, Stepped};
-use order::Judged;
+use order::Order;
 use places::{Family, Found};
 use protocol::{NotifyIconId, WindowId};
 
@@ -300,22 +300,19 @@ fn icon(index: &mut [u8], s: &[u8], near: usize, held: u8, full: bool) -> Steppe
 }
 
 // Judges any order and carries it out.
+#[tactic(auto, unfolding(index::specs::Plans::plan_of), using(slots::proofs::Ways::sound_long))]
 fn step_judged(index: &mut [u8], s: &[u8], near: usize, held: u8, full: bool) -> Stepped
     requires { (sound_index index.old ≡ true) × HeldBelow index.old held }
     ensures { StepOutcome full index.old (plan_of index.old s.now) result index.new }
 {
-    let j = order_judge::judge(s);
-    let r = match j {
-        Judged::Window(o) => index_plan::of_window(o),
-        Judged::Notification(o) => index_plan::of_notification(o),
-        Judged::Desktop(o) => {
-            return desktop(index, o.flags, full);
+    match order_judge::judge(s) {
+        Ok(Order::Window(o)) => record(index, s, index_plan::of_window(o), near, held, full),
+        Ok(Order::Notification(o)) => {
+            record(index, s, index_plan::of_notification(o), near, held, full)
         }
-        Judged::Refused(r) => {
-            return no_slot(r.number);
-        }
-    };
-    record(index, s, r, near, held, full)
+        Ok(Order::Desktop(o)) => desktop(index, o.flags, full),
+        Err(fault) => no_slot(u8::from(fault.refusal)),
+    }
 }
 
 // Judges an order on the index and, unless it is refused or the history is full (12, the last of the numbers), carries it

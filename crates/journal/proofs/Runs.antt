@@ -7,10 +7,10 @@ use native.Mathlib.Omega.{arith}
 use lib.Dec.{eqb}
 use lib.ListN.{take}
 use borrow.Author.Tests.{eqb-true}
+use Rattle.std.specs.Prelude.{Ok, Err}
 use Rattle.wire.proofs.Tests.{both_left, both_right}
-use Rattle.order.specs.declared.Judged.{Judged}
-use Rattle.order.specs.declared.Judged.TheVariants.{Window, Notification, Desktop, Refused}
-use Rattle.order.specs.Judge.{judge_of, number_of}
+use Rattle.order.specs.declared.Order.TheVariants.{Window, Notification, Desktop}
+use Rattle.order.specs.Judge.{Judged, judge_of, number_of}
 use Rattle.order.proofs.Accepted.{Accepted, accepted}
 use Rattle.index.specs.Orders.{on_judged}
 use Rattle.index.specs.Index.{Index, number_in, record_number}
@@ -50,10 +50,10 @@ accepted_take t (suc k) (o ∷ os) h = rw (accepted_first t o os h) (accepted_ta
 
 -- an accepted order is accepted on its bytes
 number_bytes : (d : Index) (s : List ℕ) (j : Judged) → on_judged j (record_number d s) (λ flags. 0) (λ n. n) ≡ 0 → number_of j ≡ 0
-number_bytes d s (Window o) h = refl
-number_bytes d s (Notification o) h = refl
-number_bytes d s (Desktop o) h = refl
-number_bytes d s (Refused r) h = h
+number_bytes d s (Ok (Window o)) h = refl
+number_bytes d s (Ok (Notification o)) h = refl
+number_bytes d s (Ok (Desktop o)) h = refl
+number_bytes d s (Err r) h = h
 
 pub accepted_order : (t : Table) (s : List ℕ) → number t s ≡ 0 → Accepted s
 unfolding number number_in

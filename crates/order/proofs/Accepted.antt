@@ -8,6 +8,7 @@ use lib.Dec.{eqb, leb, ltb}
 use lib.Bits.{bit_and}
 use lib.ListN.{length}
 use borrow.Author.Tests.{leb-true, ltb-false, eqb-true}
+use Rattle.std.specs.Prelude.{Ok, Err}
 use Rattle.wire.specs.Tests.{pick, both, has}
 use Rattle.wire.specs.Numbers.{num_at}
 use Rattle.rows.specs.declared.Fit.{Fit}
@@ -16,16 +17,16 @@ use Rattle.rows.specs.Rows.{window_rows, notification_rows, desktop_rows, on_fit
 use Rattle.order.specs.declared.WindowOrder.{WindowOrder}
 use Rattle.order.specs.declared.NotificationOrder.{NotificationOrder}
 use Rattle.order.specs.declared.DesktopOrder.{DesktopOrder}
-use Rattle.order.specs.declared.Judged.{Judged}
-use Rattle.order.specs.declared.Judged.TheVariants.{Window, Notification, Desktop, Refused}
+use Rattle.order.specs.declared.Order.TheVariants.{Window, Notification, Desktop}
 use Rattle.order.specs.Flags.{is_window, is_notification, is_desktop, one_type, in_list, closed, clash}
 use Rattle.order.specs.Icons.{parts_of, entry_ok, cache_ok, bits_ok, side_ok, icon_bad, cached_bad, head_cut, parts_cut, icon_fit, cached_fit, picture_fit}
-use Rattle.order.specs.Judge.{refuse, number_of, flags_of, order_of, fields_fit, judge_of}
+use Rattle.order.specs.Judge.{Judged, refuse, number_of, flags_of, order_of, fields_fit, judge_of}
 use Rattle.wire.proofs.Tests.{both_right}
 use Rattle.rows.proofs.Absent.{unlisted}
 use Rattle.rows.proofs.RowsCarried.{fit_kept}
 use Rattle.order.proofs.Pictures.{picture_none, laid}
 use Rattle.protocol.specs.Flags.{desktop_flags, flag_cached_icon, flag_icon}
+use Rattle.protocol.specs.declared.Refusal.TheVariants.{TooShort, LengthDiffers, UnknownType, UnknownFlag, FlagsClash, NotFilled, OutsideSet}
 
 pub record Accepted (s : List ℕ) : Type 0 where
   pub long : 7 ≤ length s
@@ -62,19 +63,19 @@ record Body (flags : ℕ) (s : List ℕ) (j : Judged) : Type 0 where
 module _ (flags : ℕ) (s : List ℕ) where
   -- the ladder's end
   abbrev at_end : ℕ → ℕ → ℕ → Judged
-  at_end icon end first = pick (not (eqb end (length s))) (refuse 7 end) (pick (not (eqb first 0)) (refuse 8 first) (order_of flags s icon))
+  at_end icon end first = pick (not (eqb end (length s))) (refuse NotFilled end) (pick (not (eqb first 0)) (refuse OutsideSet first) (order_of flags s icon))
 
   abbrev in_body : Judged
   in_body =
-      on_fit (fields_fit flags s) (λ cut. refuse 7 cut) (λ icon bad. on_fit (picture_fit flags s icon bad) (λ cut. refuse 7 cut) (λ end first. at_end icon end first))
+      on_fit (fields_fit flags s) (λ cut. refuse NotFilled cut) (λ icon bad. on_fit (picture_fit flags s icon bad) (λ cut. refuse NotFilled cut) (λ end first. at_end icon end first))
 
   ended : (icon bad end first : ℕ) → fields_fit flags s ≡ Ends icon bad → picture_fit flags s icon bad ≡ Ends end first
       → number_of (at_end icon end first) ≡ 0 → Body flags s (at_end icon end first)
   ended icon bad end first f p h = go (eqb end (length s)) (eqb first 0) refl refl h
     where
       go : (a b : Bool) → eqb end (length s) ≡ a → eqb first 0 ≡ b
-          → number_of (pick (not a) (refuse 7 end) (pick (not b) (refuse 8 first) (order_of flags s icon))) ≡ 0
-          → Body flags s (pick (not a) (refuse 7 end) (pick (not b) (refuse 8 first) (order_of flags s icon)))
+          → number_of (pick (not a) (refuse NotFilled end) (pick (not b) (refuse OutsideSet first) (order_of flags s icon))) ≡ 0
+          → Body flags s (pick (not a) (refuse NotFilled end) (pick (not b) (refuse OutsideSet first) (order_of flags s icon)))
       go false b x y h = absurd (omega (arith, h))
       go true false x y h = absurd (omega (arith, h))
       go true true x y h =
@@ -88,14 +89,14 @@ module _ (flags : ℕ) (s : List ℕ) where
   body h = go (fields_fit flags s) refl h
     where
       then : (icon bad : ℕ) → fields_fit flags s ≡ Ends icon bad → (g : Fit) → picture_fit flags s icon bad ≡ g
-          → number_of (on_fit g (λ cut. refuse 7 cut) (λ end first. at_end icon end first)) ≡ 0
-          → Body flags s (on_fit g (λ cut. refuse 7 cut) (λ end first. at_end icon end first))
+          → number_of (on_fit g (λ cut. refuse NotFilled cut) (λ end first. at_end icon end first)) ≡ 0
+          → Body flags s (on_fit g (λ cut. refuse NotFilled cut) (λ end first. at_end icon end first))
       then icon bad e (Short c) p h = absurd (omega (arith, h))
       then icon bad e (Ends end first) p h = ended icon bad end first e p h
 
       go : (f : Fit) → fields_fit flags s ≡ f
-          → number_of (on_fit f (λ cut. refuse 7 cut) (λ icon bad. on_fit (picture_fit flags s icon bad) (λ cut. refuse 7 cut) (λ end first. at_end icon end first))) ≡ 0
-          → Body flags s (on_fit f (λ cut. refuse 7 cut) (λ icon bad. on_fit (picture_fit flags s icon bad) (λ cut. refuse 7 cut) (λ end first. at_end icon end first)))
+          → number_of (on_fit f (λ cut. refuse NotFilled cut) (λ icon bad. on_fit (picture_fit flags s icon bad) (λ cut. refuse NotFilled cut) (λ end first. at_end icon end first))) ≡ 0
+          → Body flags s (on_fit f (λ cut. refuse NotFilled cut) (λ icon bad. on_fit (picture_fit flags s icon bad) (λ cut. refuse NotFilled cut) (λ end first. at_end icon end first)))
       go (Short c) e h = absurd (omega (arith, h))
       go (Ends icon bad) e h = then icon bad e (picture_fit flags s icon bad) refl h
 
@@ -114,7 +115,7 @@ accepted s h =
     go : (a b c d e f : Bool) → ltb (length s) 7 ≡ a → eqb (num_at 2 s 1) (length s) ≡ b → eqb (num_at 1 s 0) 0x2E ≡ c → one_type (flags_of s) ≡ d
         → closed (flags_of s) ≡ e → clash (flags_of s) ≡ f
         → number_of
-        (pick a (refuse 2 0) (pick (not b) (refuse 3 1) (pick (not c) (refuse 4 0) (pick (not d) (refuse 4 3) (pick (not e) (refuse 5 3) (pick f (refuse 6 3)
+        (pick a (refuse TooShort 0) (pick (not b) (refuse LengthDiffers 1) (pick (not c) (refuse UnknownType 0) (pick (not d) (refuse UnknownType 3) (pick (not e) (refuse UnknownFlag 3) (pick f (refuse FlagsClash 3)
         (in_body (flags_of s) s))))))) ≡ 0
         → Accepted s
     go true b c d e f x1 x2 x3 x4 x5 x6 h = absurd (omega (arith, h))
@@ -159,10 +160,10 @@ pub record ADesktop (s : List ℕ) (o : DesktopOrder) : Type 0 where
   pub fields : walk_of desktop_rows (flags_of s) s 7 0 ≡ Ends whole.icon 0
 
 abbrev pub Kinded : List ℕ → Judged → Type 0
-Kinded s (Window o) = AWindow s o
-Kinded s (Notification o) = ANotification s o
-Kinded s (Desktop o) = ADesktop s o
-Kinded s (Refused r) = Unit {0}
+Kinded s (Ok (Window o)) = AWindow s o
+Kinded s (Ok (Notification o)) = ANotification s o
+Kinded s (Ok (Desktop o)) = ADesktop s o
+Kinded s (Err r) = Unit {0}
 
 -- a desktop order has no icon, by its closed list
 desktop_list : (flags : ℕ) → is_window flags ≡ false → is_notification flags ≡ false → closed flags ≡ true → bit_and flags desktop_flags ≡ flags
@@ -184,9 +185,9 @@ kinded s h =
     go : (w : Accepted s) (a b : Bool) → is_window (flags_of s) ≡ a → is_notification (flags_of s) ≡ b
         → walk_of (pick a window_rows (pick b notification_rows desktop_rows)) (flags_of s) s 7 0 ≡ Ends w.icon 0
         → Kinded s
-        (pick a (Window (record { window = record { id = num_at 4 s 7 }; flags = flags_of s; icon = w.icon }))
-        (pick b (Notification (record { window = record { id = num_at 4 s 7 }; notify = record { id = num_at 4 s 11 }; flags = flags_of s; icon = w.icon }))
-        (Desktop (record { flags = flags_of s }))))
+        (pick a (Ok (Window (record { window = record { id = num_at 4 s 7 }; flags = flags_of s; icon = w.icon })))
+        (pick b (Ok (Notification (record { window = record { id = num_at 4 s 7 }; notify = record { id = num_at 4 s 11 }; flags = flags_of s; icon = w.icon })))
+        (Ok (Desktop (record { flags = flags_of s })))))
     go w true b t u f = record { whole = w; kind = t; is = refl; fields = f }
     go w false true t u f = record { whole = w; kind = u; is = refl; fields = f }
     go w false false t u f =
@@ -198,13 +199,13 @@ kinded s h =
         }
 
 module _ (s : List ℕ) where
-  pub a_window : (o : WindowOrder) → judge_of s ≡ Window o → AWindow s o
+  pub a_window : (o : WindowOrder) → judge_of s ≡ Ok (Window o) → AWindow s o
   a_window o e = subst (Kinded s) e (kinded s (ap number_of e))
 
-  pub a_notification : (o : NotificationOrder) → judge_of s ≡ Notification o → ANotification s o
+  pub a_notification : (o : NotificationOrder) → judge_of s ≡ Ok (Notification o) → ANotification s o
   a_notification o e = subst (Kinded s) e (kinded s (ap number_of e))
 
-  pub a_desktop : (o : DesktopOrder) → judge_of s ≡ Desktop o → ADesktop s o
+  pub a_desktop : (o : DesktopOrder) → judge_of s ≡ Ok (Desktop o) → ADesktop s o
   a_desktop o e = subst (Kinded s) e (kinded s (ap number_of e))
 
 -- ---- the icon

@@ -7,15 +7,15 @@ use native.Mathlib.Omega.{arith}
 use lib.Dec.{eqb, ltb}
 use lib.ListN.{length, replicate, take, drop}
 use borrow.Author.Tests.{eq-eqb, ne_eqb, lt-ltb, le-ltb}
+use Rattle.std.specs.Prelude.{Ok, Err}
 use Rattle.wire.specs.Tests.{pick}
 use Rattle.wire.specs.Numbers.{num_at, Bytes}
 use Rattle.wire.specs.Parts.{slice, splice}
 use Rattle.wire.proofs.Numbers.{bytes_slice}
 use Rattle.wire.proofs.Parts.{length_zeros}
-use Rattle.order.specs.declared.Judged.{Judged}
-use Rattle.order.specs.declared.Judged.TheVariants.{Window, Notification, Desktop, Refused}
+use Rattle.order.specs.declared.Order.TheVariants.{Window, Notification, Desktop}
 use Rattle.order.specs.declared.WindowOrder.{WindowOrder}
-use Rattle.order.specs.Judge.{flags_of, judge_of}
+use Rattle.order.specs.Judge.{Judged, flags_of, judge_of}
 use Rattle.order.proofs.Accepted.{a_window}
 use Rattle.protocol.specs.declared.WindowId.{WindowId}
 use Rattle.places.specs.declared.Family.TheVariants as family
@@ -86,7 +86,7 @@ module _ (id : ℕ) (d s : List ℕ) where
       placed (Slot i) = pictured i (lacks_picture d o.flags (cell_at s o.icon))
       placed (Not n) = tt
 
-  other_id : (o : WindowOrder) → judge_of s ≡ Window o → is_order_for id s ≡ false → eqb id o.window.id ≡ false
+  other_id : (o : WindowOrder) → judge_of s ≡ Ok (Window o) → is_order_for id s ≡ false → eqb id o.window.id ≡ false
   unfolding flags_of
   other_id o e t =
       let w = a_window s o e in
@@ -102,12 +102,12 @@ module _ (id : ℕ) (d s : List ℕ) where
   plan_other t = go (judge_of s) refl
     where
       go : (j : Judged) → judge_of s ≡ j → Other id (on_judged j (plan_record d s) ChangeDesktop Refuse)
-      go (Window o) e =
+      go (Ok (Window o)) e =
           record_other (record { family = family.Windows; window = o.window; notify = record { id = 0 }; flags = o.flags; icon = o.icon }) (rw (other_id o e t))
-      go (Notification o) e =
+      go (Ok (Notification o)) e =
           record_other (record { family = family.Notifications; window = o.window; notify = o.notify; flags = o.flags; icon = o.icon }) refl
-      go (Desktop o) e = unfold Other in tt
-      go (Refused r) e = unfold Other in tt
+      go (Ok (Desktop o)) e = unfold Other in tt
+      go (Err r) e = unfold Other in tt
 
 -- the slot that is followed stays
 other_stays : (w : WindowId) (d s m : List ℕ) (q : ℕ) → Bytes s → sound_index d ≡ true → length m ≡ record_room family.Windows → is_order_for w.id s ≡ false

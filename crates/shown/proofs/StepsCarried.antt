@@ -7,6 +7,7 @@ use native.Mathlib.Omega.{arith}
 use lib.Bits.{bit_and}
 use lib.ListN.{length, replicate}
 use borrow.Author.Tests.{ne_eqb}
+use Rattle.std.specs.Prelude.{Ok, Err}
 use Rattle.wire.specs.Tests.{pick}
 use Rattle.wire.specs.Parts.{slice, splice}
 use Rattle.wire.proofs.Numbers.{Bytes}
@@ -15,10 +16,9 @@ use Rattle.protocol.specs.Flags.{flag_icon}
 use Rattle.order.specs.declared.WindowOrder.{WindowOrder}
 use Rattle.order.specs.declared.NotificationOrder.{NotificationOrder}
 use Rattle.order.specs.declared.DesktopOrder.{DesktopOrder}
-use Rattle.order.specs.declared.Refusal.{Refusal}
-use Rattle.order.specs.declared.Judged.{Judged}
-use Rattle.order.specs.declared.Judged.TheVariants.{Window, Notification, Desktop, Refused}
-use Rattle.order.specs.Judge.{judge_of}
+use Rattle.order.specs.declared.Fault.{Fault}
+use Rattle.order.specs.declared.Order.TheVariants.{Window, Notification, Desktop}
+use Rattle.order.specs.Judge.{Judged, judge_of}
 use Rattle.order.proofs.Pictures.{laid}
 use Rattle.order.proofs.Accepted.{an_icon}
 use Rattle.index.specs.declared.RecordOrder.{RecordOrder}
@@ -73,20 +73,20 @@ unfolding carried_by
 by_judged_lem s e = ap (λ (j : Judged). on_judged j (brought s) (λ flags. []) (λ n. [])) e
 
 module _ (s : List ℕ) {j : Judged} (judged : j ≡ judge_of s) where
-  pub carries_window : Bytes s → {o : WindowOrder} → j ≡ Window o → {r : ℕ} → r ≡ begins_at s o.flags o.icon → Carries s r
+  pub carries_window : Bytes s → {o : WindowOrder} → j ≡ Ok (Window o) → {r : ℕ} → r ≡ begins_at s o.flags o.icon → Carries s r
   carries_window b {o = o} e x =
-      let d : judge_of s ≡ Window o = sym judged ∙ e in
+      let d : judge_of s ≡ Ok (Window o) = sym judged ∙ e in
       subst (Carries s) (sym x) (carries_record s (window_order o) (ordered_window s b o d) (by_judged_lem s d))
 
-  pub carries_notification : Bytes s → {o : NotificationOrder} → j ≡ Notification o → {r : ℕ} → r ≡ begins_at s o.flags o.icon → Carries s r
+  pub carries_notification : Bytes s → {o : NotificationOrder} → j ≡ Ok (Notification o) → {r : ℕ} → r ≡ begins_at s o.flags o.icon → Carries s r
   carries_notification b {o = o} e x =
-      let d : judge_of s ≡ Notification o = sym judged ∙ e in
+      let d : judge_of s ≡ Ok (Notification o) = sym judged ∙ e in
       subst (Carries s) (sym x) (carries_record s (notification_order o) (ordered_notification s b o d) (by_judged_lem s d))
 
-  pub carries_desktop : {o : DesktopOrder} → j ≡ Desktop o → Carries s (length s)
+  pub carries_desktop : {o : DesktopOrder} → j ≡ Ok (Desktop o) → Carries s (length s)
   carries_desktop {o = o} e = carries_none s (by_judged_lem s (sym judged ∙ e))
 
-  pub carries_refused : {r : Refusal} → j ≡ Refused r → Carries s (length s)
+  pub carries_refused : {r : Fault} → j ≡ Err r → Carries s (length s)
   carries_refused {r = r} e = carries_none s (by_judged_lem s (sym judged ∙ e))
 
 -- ---- in the fixed layout

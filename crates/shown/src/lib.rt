@@ -12,7 +12,7 @@ ghost use Rattle.follow.specs.Follow.{carried_by};
 ghost use Rattle.shown.specs.Shown.{shows, shown_bytes, held_pictures, Ready};
 ghost use Rattle.shown.specs.Steps.{begins_at, Carries, PlaceReady};
 
-use order::Judged;
+use order::Order;
 
 // The bytes of an icon before its bits per pixel: entry 2, cache id 1.
 const ICON_CELL: usize = 3;
@@ -31,12 +31,11 @@ fn begins_at(s: &[u8], flags: u32, icon: u32) -> usize
 fn carried_from(s: &[u8]) -> usize
     ensures { Carries s.now result }
 {
-    let j = order_judge::judge(s);
-    match j {
-        Judged::Window(o) => begins_at(s, o.flags, o.icon),
-        Judged::Notification(o) => begins_at(s, o.flags, o.icon),
-        Judged::Desktop(_) => s.len(),
-        Judged::Refused(_) => s.len(),
+    match order_judge::judge(s) {
+        Ok(Order::Window(o)) => begins_at(s, o.flags, o.icon),
+        Ok(Order::Notification(o)) => begins_at(s, o.flags, o.icon),
+        Ok(Order::Desktop(_)) => s.len(),
+        Err(_) => s.len(),
     }
 }
 

@@ -6,12 +6,12 @@ use mathlib.Core.List.{List, [], ◌∷◌}
 use native.Mathlib.Omega.{arith}
 use lib.Dec.{eqb}
 use borrow.Author.Tests.{eqb-true, eqb-false, eq-eqb}
+use Rattle.std.specs.Prelude.{Ok, Err}
 use Rattle.wire.specs.Tests.{pick, both, either, has}
 use Rattle.order.specs.declared.WindowOrder.{WindowOrder}
 use Rattle.order.specs.declared.NotificationOrder.{NotificationOrder}
-use Rattle.order.specs.declared.Judged.{Judged}
-use Rattle.order.specs.declared.Judged.TheVariants.{Window, Notification, Desktop, Refused}
-use Rattle.order.specs.Judge.{flags_of, judge_of}
+use Rattle.order.specs.declared.Order.TheVariants.{Window, Notification, Desktop}
+use Rattle.order.specs.Judge.{Judged, flags_of, judge_of}
 use Rattle.order.proofs.Accepted.{a_window}
 use Rattle.protocol.specs.Flags.{desktop_none}
 use Rattle.places.specs.declared.Family.TheVariants.{Windows, Notifications}
@@ -140,7 +140,7 @@ module _ (d : Index) (l : Lists d) (s : List ℕ) where
         go x true f = sym (ap (λ (z : ℕ). d.listed Windows z 0) (sym (eqb-true a x f)) ∙ e)
         go x false f = refl
 
-    old-if : judge_of s ≡ Window o → is_delete o.flags ≡ true → is_new Windows o.flags ≡ false
+    old-if : judge_of s ≡ Ok (Window o) → is_delete o.flags ≡ true → is_new Windows o.flags ≡ false
     old-if j h =
         let w = a_window s o j in
         let e : o.flags ≡ flags_of s = ap (λ (x : WindowOrder). x.flags) w.is in
@@ -152,7 +152,7 @@ module _ (d : Index) (l : Lists d) (s : List ℕ) where
         not_nine (pick (is_new Windows o.flags) listed (not listed))
         (pick (no_room d (window_order o)) 10 (pick (no_picture d s (window_order o)) 11 (pick (no_place d s (window_order o)) 17 0))) z
 
-    window-lists : judge_of s ≡ Window o → record_number d s (window_order o) ≡ 0 → Lists (change_record d s (window_order o))
+    window-lists : judge_of s ≡ Ok (Window o) → record_number d s (window_order o) ≡ 0 → Lists (change_record d s (window_order o))
     window-lists j z = go (is_new Windows o.flags) refl (is_delete o.flags) refl (there z)
       where
         go : (f : Bool) → is_new Windows o.flags ≡ f → (t : Bool) → is_delete o.flags ≡ t → pick f listed (not listed) ≡ false
@@ -184,10 +184,10 @@ module _ (d : Index) (l : Lists d) (s : List ℕ) where
 
   on_lists : (j : Judged) → judge_of s ≡ j → on_judged j (record_number d s) (λ flags. 0) (λ number. number) ≡ 0
       → Lists (on_judged j (change_record d s) (change_desktop d) (λ number. d))
-  on_lists (Window o) e z = window-lists o e z
-  on_lists (Notification o) e z = icon_lists o
-  on_lists (Desktop o) e z = desktop_lists o.flags
-  on_lists (Refused r) e z = l
+  on_lists (Ok (Window o)) e z = window-lists o e z
+  on_lists (Ok (Notification o)) e z = icon_lists o
+  on_lists (Ok (Desktop o)) e z = desktop_lists o.flags
+  on_lists (Err r) e z = l
 
   pub order_lists : Lists (index_after d s)
   unfolding index_after number_in

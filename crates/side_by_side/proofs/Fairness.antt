@@ -6,11 +6,11 @@ use mathlib.Core.List.{List}
 use lib.Dec.{eqb}
 use lib.ListN.{length}
 use borrow.Author.Tests.{eqb-true}
+use Rattle.std.specs.Prelude.{Ok, Err}
 use Rattle.wire.specs.Tests.{pick, both, either, has}
 use Rattle.wire.proofs.Tests.{both_left, both_right, never}
-use Rattle.order.specs.declared.Judged.{Judged}
-use Rattle.order.specs.declared.Judged.TheVariants.{Window, Notification, Desktop, Refused}
-use Rattle.order.specs.Judge.{judge_of}
+use Rattle.order.specs.declared.Order.TheVariants.{Window, Notification, Desktop}
+use Rattle.order.specs.Judge.{Judged, judge_of}
 use Rattle.protocol.specs.Flags.{desktop_none}
 use Rattle.places.specs.Counts.{one}
 use Rattle.places.specs.Sharing.{Sharing, is_one, drop, drop_all, via, join, fresh, full, taken, cells_only}
@@ -172,10 +172,10 @@ module _ (d : Index) (f : Fair d.sharing) (s : List ℕ) where
       go false h = rw h f
 
   judged_fair : (j : Judged) → Fair (on_judged j (change_record d s) (change_desktop d) (λ number. d)).sharing
-  judged_fair (Window o) = record_fair (window_order o)
-  judged_fair (Notification o) = record_fair (notification_order o)
-  judged_fair (Desktop o) = desktop_fair o.flags
-  judged_fair (Refused r) = f
+  judged_fair (Ok (Window o)) = record_fair (window_order o)
+  judged_fair (Ok (Notification o)) = record_fair (notification_order o)
+  judged_fair (Ok (Desktop o)) = desktop_fair o.flags
+  judged_fair (Err r) = f
 
   pub order_fair : Fair (index_after d s).sharing
   unfolding index_after

@@ -8,12 +8,12 @@ use mathlib.Core.Option.{none}
 use native.Mathlib.Omega.{arith}
 use lib.Dec.{eqb, leb}
 use borrow.Author.Tests.{eqb-true, ne_eqb, not-true}
+use Rattle.std.specs.Prelude.{Ok, Err}
 use Rattle.wire.specs.Tests.{pick, both, either, has}
 use Rattle.wire.proofs.Tests.{both_left, both_right, never}
 use Rattle.order.specs.declared.WindowOrder.{WindowOrder}
-use Rattle.order.specs.declared.Judged.{Judged}
-use Rattle.order.specs.declared.Judged.TheVariants.{Window, Notification, Desktop, Refused}
-use Rattle.order.specs.Judge.{flags_of, judge_of}
+use Rattle.order.specs.declared.Order.TheVariants.{Window, Notification, Desktop}
+use Rattle.order.specs.Judge.{Judged, flags_of, judge_of}
 use Rattle.order.proofs.Accepted.{a_window}
 use Rattle.places.specs.declared.Family.{Family}
 use Rattle.places.specs.declared.Family.TheVariants.{Windows, Notifications}
@@ -39,7 +39,7 @@ pub record Plain (id : ℕ) (o : WindowOrder) : Type 0 where
   pub no_icon : brings_icon o.flags ≡ false
   pub no_cell : brings_cached o.flags ≡ false
 
-pub plain_has : (id : ℕ) (o : WindowOrder) → edits id (Window o) ≡ true → Plain id o
+pub plain_has : (id : ℕ) (o : WindowOrder) → edits id (Ok (Window o)) ≡ true → Plain id o
 plain_has id o e =
     let a = eqb o.window.id id in
     let b = not (has o.flags flag_icon) in
@@ -64,7 +64,7 @@ abbrev pub many_in : Table → ℕ
 many_in t = t.index.many Windows
 
 pub window_number : (t : Table) (s : List ℕ) (id : ℕ) (o : WindowOrder) → Plain id o
-    → number_for t s (Window o) ≡ verdict (is_new Windows o.flags) (listed_in t id) (leb (capacity Windows) (many_in t))
+    → number_for t s (Ok (Window o)) ≡ verdict (is_new Windows o.flags) (listed_in t id) (leb (capacity Windows) (many_in t))
 unfolding index.record_number index.not_there index.no_room index.no_picture index.no_place
 window_number t s id o p = rw (p.names, p.no_icon, p.no_cell)
 
@@ -260,7 +260,7 @@ abbrev pub change_by : Table → List ℕ → Table
 change_by t s = change_for t s (judge_of s)
 
 -- what is deleted is listed before, so counted
-deleted_counts : (t : Table) (s : List ℕ) (id : ℕ) (o : WindowOrder) → judge_of s ≡ Window o → Plain id o → Counts t → number_for t s (Window o) ≡ 0
+deleted_counts : (t : Table) (s : List ℕ) (id : ℕ) (o : WindowOrder) → judge_of s ≡ Ok (Window o) → Plain id o → Counts t → number_for t s (Ok (Window o)) ≡ 0
     → is_delete o.flags ≡ true → 1 ≤ many_in t
 deleted_counts t s id o j p c z d =
     let w = a_window s o j in
@@ -276,39 +276,39 @@ deleted_counts t s id o j p c z d =
 module _ (t : Table) (a b : List ℕ) (x y : ℕ) (n : x ≡ y → ⊥) (few : t.index.many Windows ≤ 30) (c : Counts t) where
   -- the number of a window order after another window's change
   beside_number : (s r : List ℕ) (i k : ℕ) (o p : WindowOrder) → (i ≡ k → ⊥) → Plain i o → Plain k p
-      → number_for (change_for t r (Window p)) s (Window o) ≡ number_for t s (Window o)
+      → number_for (change_for t r (Ok (Window p))) s (Ok (Window o)) ≡ number_for t s (Ok (Window o))
   beside_number s r i k o p d f g =
       let u = changed r p t in
       let e : listed_in u i ≡ listed_in t i =
       listed_are r p t (key Windows i 0)
       ∙ edit_other same_key (at_window_lem r p) (listed_by r p) (λ (k : Key). t.index.listed k.family k.a k.b) (key Windows i 0)
       (not_same p.window.id i (λ z. d (sym z ∙ g.names))) in
-      keyed_number (λ (v : Table). listed_in v i) many_in (capacity Windows) (verdict (is_new Windows o.flags)) (λ (v : Table). number_for v s (Window o))
+      keyed_number (λ (v : Table). listed_in v i) many_in (capacity Windows) (verdict (is_new Windows o.flags)) (λ (v : Table). number_for v s (Ok (Window o)))
       (λ v. window_number v s i o f) t u e (omega (arith, many_are r p t, count_next (deleted r p) (fresh r p) (many_in t))) (omega (arith, few))
 
   -- whatever the two are judged to be
   number_on_lem : (s r : List ℕ) (i k : ℕ) (j h : Judged) → (i ≡ k → ⊥) → edits i j ≡ true → edits k h ≡ true
       → number_for (change_for t r h) s j ≡ number_for t s j
-  number_on_lem s r i k (Window o) (Window p) d e f = beside_number s r i k o p d (plain_has i o e) (plain_has k p f)
-  number_on_lem s r i k (Window o) (Refused p) d e f = refl
-  number_on_lem s r i k (Window o) (Notification p) d e f = never f
-  number_on_lem s r i k (Window o) (Desktop p) d e f = never f
-  number_on_lem s r i k (Refused o) h d e f = refl
-  number_on_lem s r i k (Notification o) h d e f = never e
-  number_on_lem s r i k (Desktop o) h d e f = never e
+  number_on_lem s r i k (Ok (Window o)) (Ok (Window p)) d e f = beside_number s r i k o p d (plain_has i o e) (plain_has k p f)
+  number_on_lem s r i k (Ok (Window o)) (Err p) d e f = refl
+  number_on_lem s r i k (Ok (Window o)) (Ok (Notification p)) d e f = never f
+  number_on_lem s r i k (Ok (Window o)) (Ok (Desktop p)) d e f = never f
+  number_on_lem s r i k (Err o) h d e f = refl
+  number_on_lem s r i k (Ok (Notification o)) h d e f = never e
+  number_on_lem s r i k (Ok (Desktop o)) h d e f = never e
 
   changes_on : (j h : Judged) → judge_of a ≡ j → judge_of b ≡ h → edits x j ≡ true → edits y h ≡ true → number_for t a j ≡ 0 → number_for t b h ≡ 0
       → change_for (change_for t a j) b h ≡ change_for (change_for t b h) a j
-  changes_on (Window o) (Window p) v w e f za zb =
+  changes_on (Ok (Window o)) (Ok (Window p)) v w e f za zb =
       let g = plain_has x o e in
       let k = plain_has y p f in
       changes_commute t a b o p (λ z. n (sym g.names ∙ z ∙ k.names)) x y g k c.places (deleted_counts t a x o v g c za) (deleted_counts t b y p w k c zb)
-  changes_on (Window o) (Refused p) v w e f za zb = refl
-  changes_on (Window o) (Notification p) v w e f za zb = never f
-  changes_on (Window o) (Desktop p) v w e f za zb = never f
-  changes_on (Refused o) h v w e f za zb = refl
-  changes_on (Notification o) h v w e f za zb = never e
-  changes_on (Desktop o) h v w e f za zb = never e
+  changes_on (Ok (Window o)) (Err p) v w e f za zb = refl
+  changes_on (Ok (Window o)) (Ok (Notification p)) v w e f za zb = never f
+  changes_on (Ok (Window o)) (Ok (Desktop p)) v w e f za zb = never f
+  changes_on (Err o) h v w e f za zb = refl
+  changes_on (Ok (Notification o)) h v w e f za zb = never e
+  changes_on (Ok (Desktop o)) h v w e f za zb = never e
 
   pub orders_apart : edits x (judge_of a) ≡ true → edits y (judge_of b) ≡ true → Apart number change_by t a b
   unfolding number index.number_in

@@ -1,12 +1,11 @@
 -- Request No. 13, two editors side by side: two window orders naming different windows, neither bringing an icon or naming a cell,
 -- get the same number each and leave the same table in either order. Refused orders are among them. Assumes nothing.
-use Rattle.std.specs.Prelude.{ℕ, ◌+◌, ◌≤◌, ◌≡◌, Bool, true, false, not, List, [], ◌∷◌, eqb, length}
+use Rattle.std.specs.Prelude.{ℕ, ◌+◌, ◌≤◌, ◌≡◌, Bool, true, false, not, List, [], ◌∷◌, eqb, length, Ok, Err}
 use Rattle.wire.specs.Tests.{all, has}
 use Rattle.wire.specs.Numbers.{num_at}
-use Rattle.order.specs.declared.Judged.{Judged}
-use Rattle.order.specs.declared.Judged.TheVariants.{Window, Notification, Desktop, Refused}
+use Rattle.order.specs.declared.Order.TheVariants.{Window, Notification, Desktop}
 use Rattle.order.specs.Flags.{is_window}
-use Rattle.order.specs.Judge.{flags_of, judge_of}
+use Rattle.order.specs.Judge.{Judged, flags_of, judge_of}
 use Rattle.places.specs.declared.Family.TheVariants as family
 use Rattle.places.specs.Sharing.{Sharing}
 use Rattle.table.specs.Table.{Table}
@@ -21,10 +20,10 @@ use Rattle.protocol.specs.Flags.{flag_icon, flag_cached_icon}
 
 -- a window order that names window id, brings no icon and names no cell; or bytes that are refused for themselves (2 to 8)
 abbrev pub edits : ℕ → Judged → Bool
-edits id (Window o) = all (eqb o.window.id id ∷ not (has o.flags flag_icon) ∷ not (has o.flags flag_cached_icon) ∷ [])
-edits id (Notification o) = false
-edits id (Desktop o) = false
-edits id (Refused r) = true
+edits id (Ok (Window o)) = all (eqb o.window.id id ∷ not (has o.flags flag_icon) ∷ not (has o.flags flag_cached_icon) ∷ [])
+edits id (Ok (Notification o)) = false
+edits id (Ok (Desktop o)) = false
+edits id (Err r) = true
 
 -- the same, read from the bytes of any order, refused or not: flagged as a window's, without icon and cached icon
 pub record WindowFlags (s : List ℕ) : Type 0 where

@@ -9,6 +9,7 @@ use lib.Dec.{eqb, leb}
 use lib.Bits.{bit_and}
 use lib.ListN.{length}
 use borrow.Author.Tests.{eqb-true, eq-eqb, leb-true, le-leb}
+use Rattle.std.specs.Prelude.{Ok}
 use Rattle.wire.specs.Tests.{both, either}
 use Rattle.wire.specs.Numbers.{num_at}
 use Rattle.wire.proofs.Tests.{both_left, both_right, never}
@@ -20,7 +21,7 @@ use Rattle.rows.specs.Ends.{ends_of}
 use Rattle.rows.proofs.Absent.{bare_ends}
 use Rattle.rows.proofs.Ended.{ends_on}
 use Rattle.rows.proofs.RowsCarried.{walk_ends}
-use Rattle.order.specs.declared.Judged.TheVariants.{Desktop}
+use Rattle.order.specs.declared.Order.TheVariants.{Desktop}
 use Rattle.order.specs.Flags.{is_window, one_type, closed, clash}
 use Rattle.order.specs.Icons.{picture_fit, ends_good, picture_whole}
 use Rattle.order.specs.Judge.{number_of, flags_of, kind_rows, fields_fit, order_of, judge_of}
@@ -154,6 +155,6 @@ module _ (s : List ℕ) where
       (λ x. (bare_judged icon_flags s refl refl x, record { icon = λ z. omega (arith, z); cached = refl; deleted = refl; new = refl; overlay = refl }))
       (λ x. (bare_judged icon_big_flags s refl refl x, record { icon = λ z. omega (arith, z); cached = refl; deleted = refl; new = refl; overlay = refl })) e
 
-  pub list_judged : good_with list_flags s ≡ true → judge_of s ≡ Desktop (record { flags = list_flags })
+  pub list_judged : good_with list_flags s ≡ true → judge_of s ≡ Ok (Desktop (record { flags = list_flags }))
   unfolding order_of
   list_judged e = (good list_flags s e).order

@@ -8,11 +8,12 @@ use lib.Dec.{eqb, leb}
 use lib.Bits.{bit_and}
 use lib.ListN.{length}
 use borrow.Author.Tests.{eqb-true, eqb-false, eq-eqb, not-true, not-false}
+use Rattle.std.specs.Prelude.{Ok}
 use Rattle.wire.specs.Tests.{pick, both, either}
 use Rattle.wire.specs.Numbers.{num_at}
 use Rattle.wire.proofs.Tests.{both_left, both_right, never, same_test, both_true}
 use Rattle.protocol.specs.Flags.{flag_cached_icon, flag_icon}
-use Rattle.order.specs.declared.Judged.TheVariants.{Window, Notification, Desktop}
+use Rattle.order.specs.declared.Order.TheVariants.{Window, Notification, Desktop}
 use Rattle.order.specs.Flags.{is_window, is_notification}
 use Rattle.order.specs.Icons.{picture_fit, icon_whole, cached_whole, picture_whole}
 use Rattle.order.specs.Judge.{number_of, order_of}
@@ -47,9 +48,9 @@ module _ (flags : ℕ) (s : List ℕ) where
     where
       go : (a b : Bool)
           → number_of
-          (pick a (Window (record { window = record { id = num_at 4 s 7 }; flags = flags; icon = icon }))
-          (pick b (Notification (record { window = record { id = num_at 4 s 7 }; notify = record { id = num_at 4 s 11 }; flags = flags; icon = icon }))
-          (Desktop (record { flags = flags })))) ≡ 0
+          (pick a (Ok (Window (record { window = record { id = num_at 4 s 7 }; flags = flags; icon = icon })))
+          (pick b (Ok (Notification (record { window = record { id = num_at 4 s 7 }; notify = record { id = num_at 4 s 11 }; flags = flags; icon = icon })))
+          (Ok (Desktop (record { flags = flags }))))) ≡ 0
       go true b = refl
       go false true = refl
       go false false = refl

@@ -1,12 +1,11 @@
 -- Orders that say one thing: a window's delete, its icon or cached icon, the stacking list with the active window. Assumes nothing.
-use Rattle.std.specs.Prelude.{ℕ, ◌≡◌, Bool, List, [], ◌∷◌, eqb, leb, length}
+use Rattle.std.specs.Prelude.{ℕ, ◌≡◌, Bool, List, [], ◌∷◌, eqb, leb, length, Ok}
 use Rattle.std.specs.Int.Bits.{bit_and}
 use Rattle.wire.specs.Tests.{both, all}
 use Rattle.wire.specs.Numbers.{num_at}
 use Rattle.protocol.specs.Flags.{flag_cached_icon, flag_deleted, flag_icon, flag_new, flags_overlay}
-use Rattle.order.specs.declared.Judged.{Judged}
-use Rattle.order.specs.declared.Judged.TheVariants.{Window}
-use Rattle.order.specs.Judge.{number_of, judge_of}
+use Rattle.order.specs.declared.Order.TheVariants.{Window}
+use Rattle.order.specs.Judge.{Judged, number_of, judge_of}
 
 -- their flags, whole
 abbrev pub delete_flags : ℕ
@@ -33,7 +32,7 @@ good_with flags s = both (eqb (num_at 4 s 3) flags) (eqb (number_of (judge_of s)
 
 -- what a window's order with these flags that has no field says
 abbrev pub window_of : ℕ → List ℕ → Judged
-window_of flags s = Window (record { window = record { id = num_at 4 s 7 }; flags = flags; icon = 11 })
+window_of flags s = Ok (Window (record { window = record { id = num_at 4 s 7 }; flags = flags; icon = 11 }))
 
 -- a cached icon and nothing else is brought
 pub record BringsCached (flags : ℕ) : Type 0 where

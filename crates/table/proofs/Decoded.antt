@@ -5,12 +5,12 @@ use mathlib.Core.Bool.{Bool, true, false}
 use mathlib.Core.List.{List, [], ◌∷◌}
 use Prim.Native.Nat.{ℕ}
 use lib.Dec.{eqb}
+use Rattle.std.specs.Prelude.{Ok, Err}
 use Rattle.wire.specs.Tests.{pick, has}
 use Rattle.wire.proofs.Numbers.{Bytes}
 use Rattle.protocol.specs.Flags.{desktop_none}
-use Rattle.order.specs.declared.Judged.{Judged}
-use Rattle.order.specs.declared.Judged.TheVariants.{Window, Notification, Desktop, Refused}
-use Rattle.order.specs.Judge.{judge_of}
+use Rattle.order.specs.declared.Order.TheVariants.{Window, Notification, Desktop}
+use Rattle.order.specs.Judge.{Judged, judge_of}
 use Rattle.places.specs.Sharing.{Sharing, drop, drop_all, join, fresh, full, taken, cells_only}
 use Rattle.places.specs.Memory.{places_of, sharing_of}
 use Rattle.places.specs.Memory as places
@@ -40,10 +40,10 @@ index_alone t s = go (eqb (number_in t.index s) 0) (judge_of s)
   where
     go : (d : Bool) (j : Judged) → (pick d (on_judged j (change_record t s) (change_desktop t s) (λ n. t)) t).index
         ≡ pick d (on_judged j (index.change_record t.index s) (index.change_desktop t.index) (λ n. t.index)) t.index
-    go true (Window o) = refl
-    go true (Notification o) = refl
-    go true (Desktop o) = refl
-    go true (Refused r) = refl
+    go true (Ok (Window o)) = refl
+    go true (Ok (Notification o)) = refl
+    go true (Ok (Desktop o)) = refl
+    go true (Err r) = refl
     go false j = refl
 
 -- ---- the number of places
@@ -90,10 +90,10 @@ unfolding index_after
 after_places d s = go (eqb (number_in d s) 0) (judge_of s)
   where
     go : (t : Bool) (j : Judged) → places_in (pick t (on_judged j (index.change_record d s) (index.change_desktop d) (λ n. d)) d) ≡ places_in d
-    go true (Window o) = record_places d s _
-    go true (Notification o) = record_places d s _
-    go true (Desktop o) = desktop_places d o.flags
-    go true (Refused r) = refl
+    go true (Ok (Window o)) = record_places d s _
+    go true (Ok (Notification o)) = record_places d s _
+    go true (Ok (Desktop o)) = desktop_places d o.flags
+    go true (Err r) = refl
     go false j = refl
 
 index_places : (x : List ℕ) → places_in (index_of x) ≡ places_of x

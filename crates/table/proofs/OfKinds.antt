@@ -6,14 +6,15 @@ use Prim.Native.Nat.{ℕ, ◌≤◌}
 use lib.Dec.{eqb}
 use lib.ListN.{length}
 use borrow.Author.Tests.{ne_eqb}
+use Rattle.std.specs.Prelude.{Ok, Err}
 use Rattle.wire.specs.Tests.{pick}
 use Rattle.wire.proofs.Numbers.{Bytes}
 use Rattle.order.specs.declared.WindowOrder.{WindowOrder}
 use Rattle.order.specs.declared.NotificationOrder.{NotificationOrder}
 use Rattle.order.specs.declared.DesktopOrder.{DesktopOrder}
-use Rattle.order.specs.declared.Judged.{Judged}
-use Rattle.order.specs.declared.Judged.TheVariants.{Window, Notification, Desktop, Refused}
-use Rattle.order.specs.Judge.{flags_of, judge_of}
+use Rattle.protocol.specs.Refusals.{number_of}
+use Rattle.order.specs.declared.Order.TheVariants.{Window, Notification, Desktop}
+use Rattle.order.specs.Judge.{Judged, flags_of, judge_of}
 use Rattle.order.proofs.Accepted.{a_window, a_notification, a_desktop}
 use Rattle.slots.specs.Sound.{sound_index}
 use Rattle.slots.proofs.Soundness.{sound_has}
@@ -57,7 +58,7 @@ pub data Kind (s : List ℕ) : Type 0 where
   of_none : (n : ℕ) → OfNone s n → Kind s
 
 module _ (s : List ℕ) (bytes : Bytes s) where
-  window_kind : (o : WindowOrder) → judge_of s ≡ Window o → OfRecord s (window_order o)
+  window_kind : (o : WindowOrder) → judge_of s ≡ Ok (Window o) → OfRecord s (window_order o)
   unfolding plan_of number number_in after
   window_kind o e =
       let w = a_window s o e in
@@ -72,7 +73,7 @@ module _ (s : List ℕ) (bytes : Bytes s) where
         changed = λ t. rw e;
       }
 
-  notification_kind : (o : NotificationOrder) → judge_of s ≡ Notification o → OfRecord s (notification_order o)
+  notification_kind : (o : NotificationOrder) → judge_of s ≡ Ok (Notification o) → OfRecord s (notification_order o)
   unfolding plan_of number number_in after
   notification_kind o e =
       let w = a_notification s o e in
@@ -87,7 +88,7 @@ module _ (s : List ℕ) (bytes : Bytes s) where
         changed = λ t. rw e;
       }
 
-  desktop_kind : (o : DesktopOrder) → judge_of s ≡ Desktop o → OfDesktop s o.flags
+  desktop_kind : (o : DesktopOrder) → judge_of s ≡ Ok (Desktop o) → OfDesktop s o.flags
   unfolding plan_of number number_in after
   desktop_kind o e =
       let w = a_desktop s o e in
@@ -109,10 +110,10 @@ module _ (s : List ℕ) (bytes : Bytes s) where
       same false t = refl
 
       go : (j : Judged) → judge_of s ≡ j → Kind s
-      go (Window o) e = of_record (window_order o) (window_kind o e)
-      go (Notification o) e = of_record (notification_order o) (notification_kind o e)
-      go (Desktop o) e = of_desktop o.flags (desktop_kind o e)
-      go (Refused r) e = of_none r.number (record { plans = λ x. rw e; changed = λ t. rw e (same (eqb r.number 0) t) })
+      go (Ok (Window o)) e = of_record (window_order o) (window_kind o e)
+      go (Ok (Notification o)) e = of_record (notification_order o) (notification_kind o e)
+      go (Ok (Desktop o)) e = of_desktop o.flags (desktop_kind o e)
+      go (Err f) e = of_none (number_of f.refusal) (record { plans = λ x. rw e; changed = λ t. rw e (same (eqb (number_of f.refusal) 0) t) })
 
 -- ---- the plan of an order
 

@@ -7,10 +7,10 @@ use Prim.Native.Nat.{ℕ}
 use native.Mathlib.Omega.{arith}
 use lib.Dec.{eqb}
 use borrow.Author.Tests.{eq-eqb}
+use Rattle.std.specs.Prelude.{Ok, Err}
 use Rattle.wire.specs.Tests.{pick, both, either}
-use Rattle.order.specs.declared.Judged.{Judged}
-use Rattle.order.specs.declared.Judged.TheVariants.{Window, Notification, Desktop, Refused}
-use Rattle.order.specs.Judge.{judge_of}
+use Rattle.order.specs.declared.Order.TheVariants.{Window, Notification, Desktop}
+use Rattle.order.specs.Judge.{Judged, judge_of}
 use Rattle.places.specs.declared.Family.{Family}
 use Rattle.places.specs.Sharing.{is_one}
 use Rattle.places.specs.Holder.{Holder, cell, icon, same_family, same_holder}
@@ -32,10 +32,10 @@ use Rattle.index.proofs.Shared.{own_record}
 
 module _ (t : Table) (s : List ℕ) (o : RecordOrder) (u : Updates t s o) where
   changed_on : (j : Judged) → record_order j ≡ some o → on_judged j (change_record t s) (change_desktop t s) (λ n. t) ≡ change_record t s o
-  changed_on (Window w) e = let k : window_order w ≡ o = cc in ap (change_record t s) k
-  changed_on (Notification w) e = let k : notification_order w ≡ o = cc in ap (change_record t s) k
-  changed_on (Desktop w) e = let z : ◌≡◌ {A = ℕ} 0 1 = cc in absurd (omega arith)
-  changed_on (Refused r) e = let z : ◌≡◌ {A = ℕ} 0 1 = cc in absurd (omega arith)
+  changed_on (Ok (Window w)) e = let k : window_order w ≡ o = cc in ap (change_record t s) k
+  changed_on (Ok (Notification w)) e = let k : notification_order w ≡ o = cc in ap (change_record t s) k
+  changed_on (Ok (Desktop w)) e = let z : ◌≡◌ {A = ℕ} 0 1 = cc in absurd (omega arith)
+  changed_on (Err r) e = let z : ◌≡◌ {A = ℕ} 0 1 = cc in absurd (omega arith)
 
   pub after_is : after t s ≡ change_record t s o
   unfolding after

@@ -5,10 +5,10 @@ use mathlib.Core.List.{List}
 use mathlib.Core.Option.{some}
 use Prim.Native.Nat.{ℕ}
 use native.Mathlib.Omega.{arith}
+use Rattle.std.specs.Prelude.{Ok, Err}
 use Rattle.wire.specs.Tests.{pick}
-use Rattle.order.specs.declared.Judged.{Judged}
-use Rattle.order.specs.declared.Judged.TheVariants.{Window, Notification, Desktop, Refused}
-use Rattle.order.specs.Judge.{judge_of}
+use Rattle.order.specs.declared.Order.TheVariants.{Window, Notification, Desktop}
+use Rattle.order.specs.Judge.{Judged, judge_of}
 use Rattle.places.specs.Sharing.{is_one, fresh, full, taken}
 use Rattle.places.specs.Holder.{Holder, cell, same_holder}
 use Rattle.places.proofs.Named.{holder_same}
@@ -33,10 +33,10 @@ last_number false false false false e = refl
 module _ (t : Table) (s : List ℕ) (o : RecordOrder) (u : Updates t s o) (e : brings_icon o.flags ≡ true) (once : sent_once s o.icon ≡ true) where
   number_on_lem : (j : Judged) → record_order j ≡ some o
       → on_judged j (index.record_number t.index s) (λ flags. 0) (λ n. n) ≡ index.record_number t.index s o
-  number_on_lem (Window w) k = let m : window_order w ≡ o = cc in ap (index.record_number t.index s) m
-  number_on_lem (Notification w) k = let m : notification_order w ≡ o = cc in ap (index.record_number t.index s) m
-  number_on_lem (Desktop w) k = let z : ◌≡◌ {A = ℕ} 0 1 = cc in absurd (omega arith)
-  number_on_lem (Refused r) k = let z : ◌≡◌ {A = ℕ} 0 1 = cc in absurd (omega arith)
+  number_on_lem (Ok (Window w)) k = let m : window_order w ≡ o = cc in ap (index.record_number t.index s) m
+  number_on_lem (Ok (Notification w)) k = let m : notification_order w ≡ o = cc in ap (index.record_number t.index s) m
+  number_on_lem (Ok (Desktop w)) k = let z : ◌≡◌ {A = ℕ} 0 1 = cc in absurd (omega arith)
+  number_on_lem (Err r) k = let z : ◌≡◌ {A = ℕ} 0 1 = cc in absurd (omega arith)
 
   accepted_is : index.record_number t.index s o ≡ 0
   unfolding number index.number_in

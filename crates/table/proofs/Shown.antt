@@ -7,12 +7,13 @@ use Prim.Native.Nat.{ℕ, ◌+◌, ◌*◌, ◌-◌, ◌<◌}
 use native.Mathlib.Omega.{arith}
 use lib.Dec.{eqb, ltb}
 use borrow.Author.Tests.{ne_eqb, ltb-true}
+use Rattle.std.specs.Prelude.{Ok, Err}
 use Rattle.wire.specs.Tests.{pick, both, has}
 use Rattle.wire.specs.Numbers.{Bytes}
 use Rattle.protocol.specs.Flags.{desktop_none}
-use Rattle.order.specs.declared.Judged.{Judged}
-use Rattle.order.specs.declared.Judged.TheVariants.{Window, Notification, Desktop, Refused}
-use Rattle.order.specs.Judge.{judge_of}
+use Rattle.protocol.specs.Refusals as refusals
+use Rattle.order.specs.declared.Order.TheVariants.{Window, Notification, Desktop}
+use Rattle.order.specs.Judge.{Judged, judge_of}
 use Rattle.places.specs.declared.Family.{Family}
 use Rattle.places.specs.declared.Found.{Found}
 use Rattle.places.specs.declared.Found.TheVariants.{At, Nothing}
@@ -338,7 +339,7 @@ shown_applied x s ok bytes pictures t same shows h = go (judge_of s) refl
         → (pick (eqb (on_judged j (index.record_number t.index s) (λ flags. 0) (λ n. n)) 0)
         (on_judged j (change_record t s) (change_desktop t s) (λ n. t)) t).shown h
         ≡ shown_in (applied_of x (on_judged j (plan_record x s) ChangeDesktop Refuse)) (pictures_by s (on_judged j (plan_record x s) ChangeDesktop Refuse) pictures) h
-    go (Window o) e = record_shown x s sound pictures t same shows h (window_order o) (ordered_window s bytes o e)
-    go (Notification o) e = record_shown x s sound pictures t same shows h (notification_order o) (ordered_notification s bytes o e)
-    go (Desktop o) e = desktop_shown x s sound pictures t same shows h o.flags
-    go (Refused n) e = refuse (eqb n.number 0)
+    go (Ok (Window o)) e = record_shown x s sound pictures t same shows h (window_order o) (ordered_window s bytes o e)
+    go (Ok (Notification o)) e = record_shown x s sound pictures t same shows h (notification_order o) (ordered_notification s bytes o e)
+    go (Ok (Desktop o)) e = desktop_shown x s sound pictures t same shows h o.flags
+    go (Err f) e = refuse (eqb (refusals.number_of f.refusal) 0)

@@ -1,8 +1,7 @@
 -- What a reader may rely on of any accepted order, whatever the table: stated apart from how `after` is written. Assumes nothing.
 use Rattle.std.specs.Prelude.{ℕ, ◌≡◌, Bool, true, false, List, []}
 use Rattle.std.proofs.Math.Option.{Option, none, some}
-use Rattle.order.specs.declared.Judged.{Judged}
-use Rattle.order.specs.Judge.{judge_of}
+use Rattle.order.specs.Judge.{Judged, judge_of}
 use Rattle.places.specs.declared.Family.{Family}
 use Rattle.places.specs.Sharing.{is_one}
 use Rattle.places.specs.Holder.{Holder, cell, icon, same_holder}
