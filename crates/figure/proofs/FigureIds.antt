@@ -7,13 +7,12 @@ use Prim.Native.Nat.{ℕ, ◌+◌, ◌<◌}
 use native.Mathlib.Omega.{arith}
 use lib.Dec.{eqb}
 use borrow.Author.Tests.{eq-eqb, ne_eqb}
+use Rattle.std.specs.Prelude.{Option, Some, None}
 use Rattle.wire.specs.Tests.{pick, both}
 use Rattle.wire.specs.Numbers.{num_at, Bytes}
 use Rattle.wire.proofs.Numbers.{num4_is}
 use Rattle.body.specs.Bodies.{Body}
 use Rattle.places.specs.declared.Family.TheVariants.{Windows}
-use Rattle.places.specs.declared.Found.{Found}
-use Rattle.places.specs.declared.Found.TheVariants.{At, Nothing}
 use Rattle.places.specs.Counts.{on_found}
 use Rattle.places.proofs.Counting.{found, none_passes}
 use Rattle.slots.specs.Families.{slot_at}
@@ -36,14 +35,14 @@ module _ (x : List ℕ) (bytes : Bytes x) (sound : Sound x) (f : ℕ → ℕ) wh
   abbrev if_at : ℕ → ℕ → ℕ
   if_at id i = pick (is_at x id 0 i) (f i) 0
 
-  one_at : (id k i : ℕ) → slot_of x Windows id 0 ≡ At k → i < 32 → if_at id i ≡ pick (eqb k i) (f k) 0
+  one_at : (id k i : ℕ) → slot_of x Windows id 0 ≡ Some k → i < 32 → if_at id i ≡ pick (eqb k i) (f k) 0
   one_at id k i e h = go (is_at x id 0 i) refl
     where
       has : is_at x id 0 k ≡ true
       has = (found 32 0 (is_at x id 0) k e).2
 
-      same : At k ≡ At i → k ≡ i
-      same e = ap (λ (w : Found). on_found w 0 (λ j. j)) e
+      same : Some k ≡ Some i → k ≡ i
+      same e = ap (λ (w : Option ℕ). on_found w 0 (λ j. j)) e
 
       go : (t : Bool) → is_at x id 0 i ≡ t → pick t (f i) 0 ≡ pick (eqb k i) (f k) 0
       go true q =
@@ -57,10 +56,10 @@ module _ (x : List ℕ) (bytes : Bytes x) (sound : Sound x) (f : ℕ → ℕ) wh
   id_sum : (id : ℕ) → by_id id ≡ sum_below 32 (if_at id)
   id_sum id = go (slot_of x Windows id 0) refl
     where
-      go : (w : Found) → slot_of x Windows id 0 ≡ w → on_found w 0 f ≡ sum_below 32 (if_at id)
-      go Nothing e =
+      go : (w : Option ℕ) → slot_of x Windows id 0 ≡ w → on_found w 0 f ≡ sum_below 32 (if_at id)
+      go None e =
           sym (sum_same 32 (if_at id) (λ i. 0) (λ i h. ap (λ (t : Bool). pick t (f i) 0) (none_passes 32 0 (is_at x id 0) e i (omega arith) (omega arith))) ∙ sum_none 32 (λ i. 0) (λ i. refl))
-      go (At k) e =
+      go (Some k) e =
           sym (sum_same 32 (if_at id) (λ i. pick (eqb k i) (f k) 0) (λ i h. one_at id k i e h) ∙ sum_one 32 k (f k) (omega (arith, (found 32 0 (is_at x id 0) k e).1)))
 
   slot_sum : (i : ℕ) → i < 32 → sum_below id_end (λ id. if_at id i) ≡ pick (is_used x i) (f i) 0
@@ -93,9 +92,9 @@ window_sum x bodies b s f =
     sym (ids_slots x b s (λ i. f (window_at bodies i)))
     ∙ sum_cong id_end (λ id. on_found (slot_of x Windows id 0) 0 (λ i. f (window_at bodies i))) (λ id. of_window f (window_by x bodies id)) (λ id. go (slot_of x Windows id 0))
   where
-    go : (w : Found) → on_found w 0 (λ i. f (window_at bodies i)) ≡ of_window f (on_found w none (λ i. some (window_at bodies i)))
-    go Nothing = refl
-    go (At i) = refl
+    go : (w : Option ℕ) → on_found w 0 (λ i. f (window_at bodies i)) ≡ of_window f (on_found w none (λ i. some (window_at bodies i)))
+    go None = refl
+    go (Some i) = refl
 
 pub places_dont_count : PlacesDontCount
 unfolding figure_of figure_by

@@ -5,11 +5,10 @@ use mathlib.Core.List.{List}
 use Prim.Native.Nat.{ℕ, ◌+◌, ◌≤◌}
 use native.Mathlib.Omega.{arith}
 use lib.ListN.{length, replicate, length-take, length-drop}
+use Rattle.std.specs.Prelude.{Option, Some, None}
 use Rattle.wire.specs.Parts.{slice, splice}
 use Rattle.wire.proofs.Parts.{length_slice, length_splice, slice_last, slice_splice, slice_splice_before, length_zeros}
 use Rattle.places.specs.declared.Family.{Family}
-use Rattle.places.specs.declared.Found.{Found}
-use Rattle.places.specs.declared.Found.TheVariants.{At, Nothing}
 use Rattle.places.specs.Counts.{on_found}
 use Rattle.places.proofs.Counting.{found}
 use Rattle.slots.specs.Families.{start, capacity}
@@ -50,27 +49,27 @@ pictures_begun x b p lent origins since sound none =
 -- ---- a record
 
 module _ (f : Family) (b m : List ℕ) (long : length m ≡ record_room f) where
-  abbrev copied : Found → List ℕ
+  abbrev copied : Option ℕ → List ℕ
   copied w = begin_slot f w b m
 
-  copied_length : (w : Found) → length (copied w) ≡ record_room f
-  copied_length (At i) = length_splice m 0 (slice b (slot_start i) (slot_room f)) (omega (arith, part_short b (slot_start i) (slot_room f))) ∙ long
-  copied_length Nothing = long
+  copied_length : (w : Option ℕ) → length (copied w) ≡ record_room f
+  copied_length (Some i) = length_splice m 0 (slice b (slot_start i) (slot_room f)) (omega (arith, part_short b (slot_start i) (slot_room f))) ∙ long
+  copied_length None = long
 
-  fits : (w : Found) → slot_room f + length (replicate {A = ℕ} 128 0) ≤ length (copied w)
+  fits : (w : Option ℕ) → slot_room f + length (replicate {A = ℕ} 128 0) ≤ length (copied w)
   fits w = let e = length_zeros 128 in omega (arith, copied_length w)
 
-  pub record_length : (w : Found) → length (begin_record f w b m) ≡ record_room f
+  pub record_length : (w : Option ℕ) → length (begin_record f w b m) ≡ record_room f
   record_length w = length_splice (copied w) (slot_room f) (replicate 128 0) (fits w) ∙ copied_length w
 
-  pub record_origins : (w : Found) (k : ℕ) → origin_at (slice (begin_record f w b m) (slot_room f) 128) k ≡ 0
+  pub record_origins : (w : Option ℕ) (k : ℕ) → origin_at (slice (begin_record f w b m) (slot_room f) 128) k ≡ 0
   record_origins w k = origin_cleared (copied w) (slot_room f) (omega (arith, copied_length w)) k
 
-  pub slot_begun : (i : ℕ) → Within f i → 61012 ≤ length b → held_slot f (begin_record f (At i) b m) ≡ slot_of b i
+  pub slot_begun : (i : ℕ) → Within f i → 61012 ≤ length b → held_slot f (begin_record f (Some i) b m) ≡ slot_of b i
   slot_begun i n big =
       let part = slice b (slot_start i) (slot_room f) in
       let e = length_slice b (slot_start i) (slot_room f) (room_within f b i n big) in
-      slice_splice_before (copied (At i)) (slot_room f) (replicate 128 0) (fits (At i)) 0 (slot_room f) (omega arith)
+      slice_splice_before (copied (Some i)) (slot_room f) (replicate 128 0) (fits (Some i)) 0 (slot_room f) (omega arith)
       ∙ ap (slice (splice m 0 part) 0) (sym e)
       ∙ slice_splice m 0 part (omega (arith, e))
       ∙ room_slot f b i n
@@ -80,8 +79,8 @@ pub record_begun : (x b : List ℕ) (p : List (List ℕ)) (lent : ℕ) (m : List
 unfolding decode index_of
 record_begun x b p lent m sound f long c d = go (slots.slot_of x f c d) refl
   where
-    go : (w : Found) → slots.slot_of x f c d ≡ w → RecordHeld (decode x b p) f c d (begin_record f w b m)
-    go (At i) e =
+    go : (w : Option ℕ) → slots.slot_of x f c d ≡ w → RecordHeld (decode x b p) f c d (begin_record f w b m)
+    go (Some i) e =
         let n = found_within f x c d i e in
         let u : is_used x i ≡ true = used_is x i (at_has x c d i (found (capacity f) (start f) (is_at x c d) i e).2).used in
         let k = slot_begun f b m long i n sound.big in
@@ -89,7 +88,7 @@ record_begun x b p lent m sound f long c d = go (slots.slot_of x f c d) refl
           fields = λ l. rw e (ap (fields_of (field_rows f) 2) k);
           ok = λ l. ap (body_ok (field_rows f) 0 0) k ∙ sound.records f i n u;
         }
-    go Nothing e =
+    go None e =
         let no : on_found (slots.slot_of x f c d) false (λ i. true) ≡ false = rw e in
         record { fields = λ l. never (sym no ∙ l); ok = λ l. never (sym no ∙ l) }
 

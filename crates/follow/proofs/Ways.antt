@@ -10,13 +10,13 @@ use lib.ListN.{length, drop}
 use denote.Enum.Declared.{tag_of}
 use types.Run.{OneOf}
 use borrow.Author.Tests.{ne_eqb, eq-eqb, not-true, not-false}
+use Rattle.std.specs.Prelude.{Some, None}
 use Rattle.wire.specs.Tests.{pick, both}
 use Rattle.wire.specs.Numbers.{bytes_of}
 use Rattle.wire.specs.Parts.{slice, splice}
 use Rattle.wire.proofs.Parts.{length_slice, part_back}
 use Rattle.protocol.specs.Flags.{flag_icon}
 use Rattle.places.specs.declared.Family.{Family}
-use Rattle.places.specs.declared.Found.TheVariants.{At, Nothing}
 use Rattle.places.specs.Holder.{same_family}
 use Rattle.places.proofs.Named.{same_record_lem, family_same}
 use Rattle.slots.specs.declared.Searched.{Searched}
@@ -42,19 +42,19 @@ module _ (x : List ℕ) (f : Family) (a b : ℕ) {s : Searched} (h : s ≡ searc
   slot_is : {w : _} → s.found ≡ w → slot_of x f a b ≡ w
   slot_is e = found_is (is_at x a b) (start f) (capacity f) h e
 
-  pub slot_below : (i : ℕ) → s.found ≡ At i → i < 48
+  pub slot_below : (i : ℕ) → s.found ≡ Some i → i < 48
   slot_below i e = within_slots f i (found_within f x a b i (slot_is e))
 
   module _ (records m : List ℕ) where
-    pub begun_nothing : s.found ≡ Nothing → m ≡ begin_slot f (slot_of x f a b) records m
+    pub begun_nothing : s.found ≡ None → m ≡ begin_slot f (slot_of x f a b) records m
     begun_nothing e = rw (slot_is e)
 
-    pub begun_slot : (i : ℕ) {base n : ℕ} {y : List ℕ} → s.found ≡ At i → base ≡ slot_start i → n ≡ slot_room f → y ≡ splice m 0 (slice records base n)
+    pub begun_slot : (i : ℕ) {base n : ℕ} {y : List ℕ} → s.found ≡ Some i → base ≡ slot_start i → n ≡ slot_room f → y ≡ splice m 0 (slice records base n)
         → y ≡ begin_slot f (slot_of x f a b) records m
     begun_slot i {base} {n} e eb en k =
         rw (slot_is e) (k ∙ ap (λ (v : ℕ). splice m 0 (slice records v n)) eb ∙ ap (λ (v : ℕ). splice m 0 (slice records (slot_start i) v)) en)
 
-    pub slot_found : (i : ℕ) {base n : ℕ} → s.found ≡ At i → base ≡ slot_start i → n ≡ slot_room f → 61012 ≤ length records → base + n ≤ length records
+    pub slot_found : (i : ℕ) {base n : ℕ} → s.found ≡ Some i → base ≡ slot_start i → n ≡ slot_room f → 61012 ≤ length records → base + n ≤ length records
     slot_found i e eb en big = omega (arith, eb, en, room_within f records i (found_within f x a b i (slot_is e)) big)
 
 -- ---- whose change it is

@@ -7,7 +7,6 @@ use Rattle.wire.specs.Parts.{slice, splice}
 use Rattle.order.specs.Judge.{judge_of}
 use Rattle.places.specs.declared.Family.{Family}
 use Rattle.places.specs.declared.Family.TheVariants.{Windows, Notifications}
-use Rattle.places.specs.declared.Found.{Found}
 use Rattle.places.specs.Counts.{on_found}
 use Rattle.places.specs.Memory.{pointer_at}
 use Rattle.places.specs.Holder.{Holder}
@@ -72,10 +71,10 @@ present_pictures marked since origins p = pick (eqb (origin_at origins p) 0) (ma
 abbrev pub no_origins : List ℕ
 no_origins = replicate origins_length 0
 
-abbrev pub begin_slot : Family → Found → List ℕ → List ℕ → List ℕ
+abbrev pub begin_slot : Family → Option ℕ → List ℕ → List ℕ → List ℕ
 begin_slot f w bodies m = on_found w m (λ i. splice m 0 (slice bodies (slot_start i) (slot_room f)))
 
-abbrev pub begin_record : Family → Found → List ℕ → List ℕ → List ℕ
+abbrev pub begin_record : Family → Option ℕ → List ℕ → List ℕ → List ℕ
 begin_record f w bodies m = splice (begin_slot f w bodies m) (slot_room f) no_origins
 
 unfoldable pub begin_of : Option Want → List ℕ → List ℕ → List ℕ → List ℕ

@@ -10,7 +10,7 @@ ghost use Rattle.follow.specs.Follow.{origins_length, slot_room, record_room, ro
 
 use follow::Want;
 use index::{Change, Plan};
-use places::{Family, Found};
+use places::Family;
 use protocol::{NotifyIconId, WindowId};
 
 // The bytes of a slot of the family.
@@ -36,9 +36,7 @@ fn begin_slot(
     requires { (length m.old ≡ record_room family) × (index_length ≤ length index.now) × (bodies_length ≤ length bodies.now) }
     ensures { m.new ≡ begin_slot family (slots.slot_of index.now family window.id notify.id) bodies.now m.old }
 {
-    let search = slots::find(index, family, window, notify);
-    let f = search.found;
-    let Found::At(i) = f else {
+    let Some(i) = slots::find(index, family, window, notify).found else {
         return;
     };
     let room = slot_room(family);

@@ -7,7 +7,7 @@ use native.Mathlib.Omega.{arith}
 use lib.Dec.{eqb}
 use lib.ListN.{length}
 use borrow.Author.Tests.{ne_eqb}
-use Rattle.std.specs.Prelude.{Ok, Err}
+use Rattle.std.specs.Prelude.{Ok, Err, Option, Some, None}
 use Rattle.wire.specs.Tests.{pick, has}
 use Rattle.wire.specs.Numbers.{Bytes}
 use Rattle.protocol.specs.Flags.{desktop_none}
@@ -15,8 +15,6 @@ use Rattle.protocol.specs.Refusals.{number_of}
 use Rattle.order.specs.declared.Order.TheVariants.{Window, Notification, Desktop}
 use Rattle.order.specs.Judge.{Judged, judge_of}
 use Rattle.places.specs.declared.Family.{Family}
-use Rattle.places.specs.declared.Found.{Found}
-use Rattle.places.specs.declared.Found.TheVariants.{At, Nothing}
 use Rattle.places.specs.Sharing.{cells_only}
 use Rattle.places.specs.Counts.{on_found}
 use Rattle.places.specs.Memory.{places_of, count_at, is_free, used_of, sharing_of, decode}
@@ -93,7 +91,7 @@ module _ (x s : List ℕ) (o : RecordOrder) (i place : ℕ) (h : Ordered s o) (r
           → Pictured z
           (pick t (point_all z ns (place + 1)) (pick u (share_of z (pointer_for i o.flags) (cell_for s o i)) (pick v (release_of z (pointer_for i o.flags)) z))) s o
       go true u v m n q =
-          let free : free_place z ns ≡ At place = r.free ns ∙ p.icon m in
+          let free : free_place z ns ≡ Some place = r.free ns ∙ p.icon m in
           let k = held z s o i r.sound h r.at_i m in
           record {
             slotted = points_slotted ns z (place + 1) k.all r.sound.long;
@@ -129,7 +127,7 @@ module _ (x s : List ℕ) (o : RecordOrder) (sound : Sound x) (h : Ordered s o) 
       record {
         index =
             same_index (index_of y) (with_record (index_of x) s o)
-            (λ g a b. ap (λ (w : Found). on_found w false (λ j. true)) (slotted_find z y q.slotted g a b) ∙ r.listed g a b)
+            (λ g a b. ap (λ (w : Option ℕ). on_found w false (λ j. true)) (slotted_find z y q.slotted g a b) ∙ r.listed g a b)
             (λ g. slotted_many z y q.slotted g ∙ r.many g)
             (q.sharing ∙ ap (pictured s o) r.sharing);
         sound = q.sound;
@@ -142,21 +140,21 @@ module _ (x s : List ℕ) (o : RecordOrder) (sound : Sound x) (h : Ordered s o) 
       let f = o.family in
       let a = o.window.id in
       let b = o.notify.id in
-      let e : slot_of x f a b ≡ At i = p.placed.old (deleted_old f o.flags h.agrees t) in
+      let e : slot_of x f a b ≡ Some i = p.placed.old (deleted_old f o.flags h.agrees t) in
       let w = found_within f x a b i e in
       let here = (found (capacity f) (start f) (is_at x a b) i e).2 in
       let k = removed_freed x i sound.long (within_slots f i w) in
       record {
         index =
             same_index (index_of (removed_of x i)) (without (index_of x) o)
-            (λ g m n. ap (λ (w : Found). on_found w false (λ j. true)) (find_freed f x (removed_of x i) i a b w k sound here g m n) ∙ gone (same_record f a b g m n) (slot_of x g m n))
+            (λ g m n. ap (λ (w : Option ℕ). on_found w false (λ j. true)) (find_freed f x (removed_of x i) i a b w k sound here g m n) ∙ gone (same_record f a b g m n) (slot_of x g m n))
             (many_freed f x (removed_of x i) i a b w k sound here)
             (removed_sharing f x i a b sound e here);
         sound = removed_sound f x i a b sound e here;
         long = k.kept.long;
       }
     where
-      gone : (t : Bool) (w : Found) → on_found (pick t Nothing w) false (λ j. true) ≡ pick t false (on_found w false (λ j. true))
+      gone : (t : Bool) (w : Option ℕ) → on_found (pick t None w) false (λ j. true) ≡ pick t false (on_found w false (λ j. true))
       gone true w = refl
       gone false w = refl
 
@@ -212,7 +210,7 @@ module _ (x : List ℕ) (sound : Sound x) where
       let h = cleared_is x sound.long in
       same_index (index_of (cleared_of x))
       (record { listed = λ f a b. false; many = λ f. 0; sharing = cells_only is_cell_holder cell (index_of x).sharing })
-      (λ f a b. ap (λ (w : Found). on_found w false (λ j. true)) (none_find (cleared_of x) h.slots f a b))
+      (λ f a b. ap (λ (w : Option ℕ). on_found w false (λ j. true)) (none_find (cleared_of x) h.slots f a b))
       (none_many (cleared_of x) h.slots)
       (cleared_sharing x sound)
 
@@ -309,7 +307,7 @@ module _ (x : List ℕ) (n : ℕ) (long : 589 ≤ length x) (small : n < 256) wh
   emptied_index =
       let e = emptied_of x n in
       same_index (index_of e) (empty_index n)
-      (λ f a b. ap (λ (w : Found). on_found w false (λ j. true)) (none_find e (slots_emptied x n long small) f a b))
+      (λ f a b. ap (λ (w : Option ℕ). on_found w false (λ j. true)) (none_find e (slots_emptied x n long small) f a b))
       (none_many e (slots_emptied x n long small))
       (equal_sharing (sharing_at e) (empty_index n).sharing (λ g k. rw (pointer_emptied x n long small)) (λ g. rw (pointer_emptied x n long small))
       (rw (pointer_emptied x n long small) (nothing_used 156 (places_of e))) (places_emptied x n long small))

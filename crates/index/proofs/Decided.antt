@@ -6,12 +6,11 @@ use Prim.Native.Nat.{ℕ, zero, suc, ◌+◌, ◌*◌, ◌/◌, ◌%◌, ◌-◌
 use native.Mathlib.Omega.{arith}
 use lib.Dec.{eqb, ltb, leb}
 use borrow.Author.Tests.{eqb-true, eqb-false, eq-eqb, ne_eqb, ltb-true, ltb-false, leb-true, leb-false, not-true}
+use Rattle.std.specs.Prelude.{Option, Some, None}
 use Rattle.wire.specs.Tests.{pick, both}
 use Rattle.wire.proofs.Tests.{both_left, both_right, never}
 use Rattle.places.specs.declared.Family.{Family}
 use Rattle.places.specs.declared.Family.TheVariants.{Windows, Notifications}
-use Rattle.places.specs.declared.Found.{Found}
-use Rattle.places.specs.declared.Found.TheVariants.{At, Nothing}
 use Rattle.places.specs.Counts.{one, count_below, first_from, on_found}
 use Rattle.places.specs.Memory.{places_of, pointer_at, count_at, is_free, shares_of, used_of, sharing_of, decode}
 use Rattle.places.specs.Keyed.{keyed}
@@ -106,7 +105,7 @@ named x s h pos = go (ltb h 12) refl
         icon_number_lem (slot_of x) (slots_of x) (family_at ((h - 12) / 3)) (first_id x ((h - 12) / 3)) (second_id x ((h - 12) / 3)) ((h - 12) % 3) ((h - 12) / 3) at_i (omega arith) ∙ m
 
 -- a holder that is kept has a number of its own
-one_holder : (slot : Family → ℕ → ℕ → Found) → Slots slot → (g h : Holder) → number_of slot g ≡ number_of slot h → number_of slot h < 156 → g ≡ h
+one_holder : (slot : Family → ℕ → ℕ → Option ℕ) → Slots slot → (g h : Holder) → number_of slot g ≡ number_of slot h → number_of slot h < 156 → g ≡ h
 unfolding number_of
 one_holder slot slots g (cell c) e l = go (ltb c 12) refl l
   where
@@ -115,10 +114,10 @@ one_holder slot slots g (cell c) e l = go (ltb c 12) refl l
     go false m k = absurd (omega arith)
 one_holder slot slots g (icon f a b w) e l = go (slot f a b) (ltb w 3) refl refl l
   where
-    go : (v : Found) (t : Bool) → slot f a b ≡ v → ltb w 3 ≡ t → on_found v 156 (λ i. pick t (12 + 3 * i + w) 156) < 156 → g ≡ icon f a b w
-    go (At i) true m n k = same_holder_lem g (icon f a b w) (sym (own_icon slot slots f a b w i m (ltb-true w 3 n) g) ∙ eq-eqb (number_of slot g) (number_of slot (icon f a b w)) e)
-    go (At i) false m n k = absurd (omega arith)
-    go Nothing t m n k = absurd (omega arith)
+    go : (v : Option ℕ) (t : Bool) → slot f a b ≡ v → ltb w 3 ≡ t → on_found v 156 (λ i. pick t (12 + 3 * i + w) 156) < 156 → g ≡ icon f a b w
+    go (Some i) true m n k = same_holder_lem g (icon f a b w) (sym (own_icon slot slots f a b w i m (ltb-true w 3 n) g) ∙ eq-eqb (number_of slot g) (number_of slot (icon f a b w)) e)
+    go (Some i) false m n k = absurd (omega arith)
+    go None t m n k = absurd (omega arith)
 
 -- ---- who shares
 
@@ -203,9 +202,9 @@ module _ (x y : List ℕ) (sx : Sound x) (sy : Sound y) (places : places_of x �
   unfolding count_at
   at_is p t = go (first_from 156 0 (λ h. eqb (pointer_at x h) (p + 1))) refl
     where
-      go : (w : Found) → first_from 156 0 (λ h. eqb (pointer_at x h) (p + 1)) ≡ w → pointer_at x (on_found w 0 (λ h. h)) ≡ p + 1
-      go (At h) e = eqb-true (pointer_at x h) (p + 1) (found 156 0 (λ h. eqb (pointer_at x h) (p + 1)) h e).2
-      go Nothing e =
+      go : (w : Option ℕ) → first_from 156 0 (λ h. eqb (pointer_at x h) (p + 1)) ≡ w → pointer_at x (on_found w 0 (λ h. h)) ≡ p + 1
+      go (Some h) e = eqb-true (pointer_at x h) (p + 1) (found 156 0 (λ h. eqb (pointer_at x h) (p + 1)) h e).2
+      go None e =
           let z = free_is 156 (pointer_at x) p (count_none 156 (λ h. eqb (pointer_at x h) (p + 1)) (λ h l. none_passes 156 0 (λ h. eqb (pointer_at x h) (p + 1)) e h (omega arith) (omega arith))) in
           let r : not true ≡ true = rw z at t in
           never r
@@ -244,18 +243,18 @@ module _ (x y : List ℕ) (sx : Sound x) (f : Family)
   abbrev place : ℕ → ℕ
   place i = on_found (slot_of y f (first_id x i) (second_id x i)) 0 (λ j. j)
 
-  own_slot : (i : ℕ) → Within f i → is_used x i ≡ true → slot_of x f (first_id x i) (second_id x i) ≡ At i
+  own_slot : (i : ℕ) → Within f i → is_used x i ≡ true → slot_of x f (first_id x i) (second_id x i) ≡ Some i
   own_slot i w t = one_slot x sx f (first_id x i) (second_id x i) i w (at_own x i (used_has x i t))
 
-  moved : (i : ℕ) → Within f i → is_used x i ≡ true → slot_of y f (first_id x i) (second_id x i) ≡ At (place i)
+  moved : (i : ℕ) → Within f i → is_used x i ≡ true → slot_of y f (first_id x i) (second_id x i) ≡ Some (place i)
   moved i w t = go (slot_of y f (first_id x i) (second_id x i)) refl
     where
       here : on_found (slot_of y f (first_id x i) (second_id x i)) false (λ j. true) ≡ true
       here = sym (same (first_id x i) (second_id x i)) ∙ rw (own_slot i w t)
 
-      go : (v : Found) → slot_of y f (first_id x i) (second_id x i) ≡ v → slot_of y f (first_id x i) (second_id x i) ≡ At (on_found v 0 (λ j. j))
-      go (At j) e = e
-      go Nothing e = never (sym (ap (λ (v : Found). on_found v false (λ j. true)) e) ∙ here)
+      go : (v : Option ℕ) → slot_of y f (first_id x i) (second_id x i) ≡ v → slot_of y f (first_id x i) (second_id x i) ≡ Some (on_found v 0 (λ j. j))
+      go (Some j) e = e
+      go None e = never (sym (ap (λ (v : Option ℕ). on_found v false (λ j. true)) e) ∙ here)
 
   many_most : many_in x f ≤ many_in y f
   many_most =
@@ -280,8 +279,8 @@ module _ (x y : List ℕ) (sx : Sound x) (f : Family)
           let lj = (found_within f y (first_id x (start f + j)) (second_id x (start f + j)) (place (start f + j)) ej).low in
           let lk = (found_within f y (first_id x (start f + k)) (second_id x (start f + k)) (place (start f + k)) ek).low in
           let n : place (start f + k) ≡ place (start f + j) = omega arith in
-          let o = (slots_of y).one_record f f (first_id x (start f + j)) (second_id x (start f + j)) (first_id x (start f + k)) (second_id x (start f + k)) (place (start f + j)) ej (ek ∙ ap At n) in
-          let c : slot_of x f (first_id x (start f + j)) (second_id x (start f + j)) ≡ At (start f + k) = rw (o.1, o.2) (own_slot (start f + k) wk v) in
+          let o = (slots_of y).one_record f f (first_id x (start f + j)) (second_id x (start f + j)) (first_id x (start f + k)) (second_id x (start f + k)) (place (start f + j)) ej (ek ∙ ap Some n) in
+          let c : slot_of x f (first_id x (start f + j)) (second_id x (start f + j)) ≡ Some (start f + k) = rw (o.1, o.2) (own_slot (start f + k) wk v) in
           let d = own_slot (start f + j) wj t in
           let z : start f + j ≡ start f + k = cc in
           omega arith

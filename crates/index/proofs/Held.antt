@@ -8,11 +8,10 @@ use native.Mathlib.Omega.{arith}
 use lib.Dec.{eqb, leb}
 use lib.ListN.{set}
 use borrow.Author.Tests.{ne_eqb, lt-leb, leb-false}
+use Rattle.std.specs.Prelude.{Option, Some}
 use Rattle.wire.specs.Tests.{pick, either, has}
 use Rattle.protocol.specs.Flags.{flag_big_icon, flags_overlay}
 use Rattle.places.specs.declared.Family.{Family}
-use Rattle.places.specs.declared.Found.{Found}
-use Rattle.places.specs.declared.Found.TheVariants.{At}
 use Rattle.places.specs.Sharing.{is_one, full, taken}
 use Rattle.places.specs.Counts.{on_found}
 use Rattle.places.specs.Memory.{decode, valid}
@@ -49,8 +48,8 @@ pub record Held (z : List ℕ) (i : ℕ) (ns : List ℕ) (hs : List Holder) : Ty
   -- 17
   pub refuses : on_found (free_place z ns) true (λ p. false) ≡ full same_holder hs (sharing_at z)
   -- they take a place that is free once they let go
-  pub shares : (p : ℕ) → free_place z ns ≡ At p → sharing_at (point_all z ns (p + 1)) ≡ taken same_holder hs (sharing_at z)
-  pub kept : (p : ℕ) → free_place z ns ≡ At p → valid (point_all z ns (p + 1)) ≡ true
+  pub shares : (p : ℕ) → free_place z ns ≡ Some p → sharing_at (point_all z ns (p + 1)) ≡ taken same_holder hs (sharing_at z)
+  pub kept : (p : ℕ) → free_place z ns ≡ Some p → valid (point_all z ns (p + 1)) ≡ true
 
 -- ---- a holder that stands twice
 
@@ -70,11 +69,11 @@ twice : (t : Bool) → either t (either t false) ≡ either t false
 twice true = refl
 twice false = refl
 
-taken_is : (z ns : List ℕ) (p : ℕ) → free_place z ns ≡ At p → take_of z ns ≡ point_all z ns (p + 1)
+taken_is : (z ns : List ℕ) (p : ℕ) → free_place z ns ≡ Some p → take_of z ns ≡ point_all z ns (p + 1)
 unfolding take_of
 taken_is z ns p e = rw e
 
-module _ (z : List ℕ) (s : Sound z) (f : Family) (a b w i : ℕ) (at_i : slot_of z f a b ≡ At i) (lw : w < 3) where
+module _ (z : List ℕ) (s : Sound z) (f : Family) (a b w i : ℕ) (at_i : slot_of z f a b ≡ Some i) (lw : w < 3) where
   abbrev num : Holder → ℕ
   num = number_of (slot_of z)
 
@@ -100,7 +99,7 @@ module _ (z : List ℕ) (s : Sound z) (f : Family) (a b w i : ℕ) (at_i : slot_
   pointed : (ns : List ℕ) (p : ℕ) → Holders ns → sharing_at (point_all z ns (p + 1)) ≡ keyed num (decode (point_all z ns (p + 1)))
   pointed ns p all =
       let y = point_all z ns (p + 1) in
-      ap (λ (slot : Family → ℕ → ℕ → Found). keyed (number_of slot) (decode y)) (same_slots z y (points_slotted ns z (p + 1) all s.long))
+      ap (λ (slot : Family → ℕ → ℕ → Option ℕ). keyed (number_of slot) (decode y)) (same_slots z y (points_slotted ns z (p + 1) all s.long))
 
   alone_held : Held z i (q ∷ q ∷ []) (own ∷ [])
   alone_held =
@@ -111,7 +110,7 @@ module _ (z : List ℕ) (s : Sound z) (f : Family) (a b w i : ℕ) (at_i : slot_
         among = λ g. twice (eqb (num g) q) ∙ ap (λ (k : ℕ). either (eqb (num g) k) false) (sym own_is) ∙ ap (λ (t : Bool). either t false) (owned g);
         others = λ j v ne l. rw (apart_from j v ne l);
         refuses =
-            ap (λ (m : Found). on_found m true (λ p. false)) (free_once z q ∙ ap (λ (k : ℕ). free_place z (k ∷ [])) (sym own_is))
+            ap (λ (m : Option ℕ). on_found m true (λ p. false)) (free_once z q ∙ ap (λ (k : ℕ). free_place z (k ∷ [])) (sym own_is))
             ∙ alone_full (slot_of z) (slots_of z) z s.holders f a b w i at_i lw;
         shares = λ p e.
             pointed (q ∷ q ∷ []) p all
@@ -166,7 +165,7 @@ beside_small c pointer l = go (leb 12 c) refl
     go true e = l
     go false e = let m = leb-false 12 c e in omega arith
 
-pub held : (z s : List ℕ) (o : RecordOrder) (i : ℕ) → Sound z → Ordered s o → slot_of z o.family o.window.id o.notify.id ≡ At i
+pub held : (z s : List ℕ) (o : RecordOrder) (i : ℕ) → Sound z → Ordered s o → slot_of z o.family o.window.id o.notify.id ≡ Some i
     → brings_icon o.flags ≡ true → Held z i (cell_for s o i ∷ pointer_for i o.flags ∷ []) (holders_of s o)
 unfolding beside_of
 held z s o i sound h at_i t = go (leb 12 (cell_at s o.icon)) refl (sym (icon_names s o h t))

@@ -7,13 +7,13 @@ use native.Mathlib.Omega.{arith}
 use lib.Dec.{eqb, ltb}
 use lib.ListN.{length, get_or, replicate, length-replicate}
 use borrow.Author.Tests.{eq-eqb, ne_eqb, eqb-true, eqb-false, le-ltb, ltb-true}
+use Rattle.std.specs.Prelude.{Some, None}
 use Rattle.wire.specs.Tests.{pick, both, either}
 use Rattle.wire.specs.Parts.{splice}
 use Rattle.wire.specs.Numbers.{num_at, bytes_of}
 use Rattle.wire.proofs.Parts.{length_splice}
 use Rattle.wire.proofs.Numbers.{length_bytes, num1_is, num_in, num_after, num_put, num_zeros, fits1}
 use Rattle.places.specs.declared.Family.{Family}
-use Rattle.places.specs.declared.Found.TheVariants.{At, Nothing}
 use Rattle.places.specs.Sharing.{is_one}
 use Rattle.places.specs.Memory.{places_of, pointer_at, valid}
 use Rattle.places.specs.Changes.{point_all, free_place, share_of, release_of, release_all_of, release_records_of}
@@ -35,7 +35,7 @@ use Rattle.places.proofs.Listing.{releases_point}
 
 -- a slot that is as it was, and is found as it was; without a record it still has no pointers
 slot_kept : (f : Family) (x y : List ℕ) (j : ℕ) → Same x y j → (used_at x j ≡ 0 → no_pointers x j ≡ true → no_pointers y j ≡ true)
-    → (slot_of x f (first_id x j) (second_id x j) ≡ At j → slot_of y f (first_id x j) (second_id x j) ≡ At j)
+    → (slot_of x f (first_id x j) (second_id x j) ≡ Some j → slot_of y f (first_id x j) (second_id x j) ≡ Some j)
     → slot_ok x (start f) (capacity f) (highest f) j ≡ true → slot_ok y (start f) (capacity f) (highest f) j ≡ true
 slot_kept f x y j same pointers finds t =
     slot_cases x (start f) (capacity f) (highest f) j t (λ e n. slot_free y (start f) (capacity f) (highest f) j (same.used ∙ e) (pointers e n))
@@ -47,22 +47,22 @@ slot_kept f x y j same pointers finds t =
 -- ---- ids listed
 
 module _ (f : Family) (x y : List ℕ) (i a b : ℕ) (s : Sound x) (w : Within f i) (h : Listed x y i a b) (free : is_used x i ≡ false) (hb : b ≤ highest f)
-    (none : slot_of x f a b ≡ Nothing) where
-  finds : (g : Family) (p q : ℕ) → slot_of y g p q ≡ pick (same_record f a b g p q) (At i) (slot_of x g p q)
+    (none : slot_of x f a b ≡ None) where
+  finds : (g : Family) (p q : ℕ) → slot_of y g p q ≡ pick (same_record f a b g p q) (Some i) (slot_of x g p q)
   finds = find_listed f x y i a b w h free none
 
   own_slot : slot_ok y (start f) (capacity f) (highest f) i ≡ true
   own_slot =
-      let r : slot_of y f a b ≡ At i = finds f a b ∙ rw (family_same f, eq-eqb a a refl, eq-eqb b b refl) in
+      let r : slot_of y f a b ≡ Some i = finds f a b ∙ rw (family_same f, eq-eqb a a refl, eq-eqb b b refl) in
       slot_used y (start f) (capacity f) (highest f) i h.used (record { second = rw h.second hb; first_is = rw (h.first, h.second) r })
 
   -- ids that stand in a slot are others
-  others : (g : Family) (p q j : ℕ) → slot_of x g p q ≡ At j → slot_of y g p q ≡ At j
+  others : (g : Family) (p q j : ℕ) → slot_of x g p q ≡ Some j → slot_of y g p q ≡ Some j
   others g p q j e = finds g p q ∙ go (same_family g f) (eqb p a) (eqb q b) refl refl refl
     where
-      go : (t u v : Bool) → same_family g f ≡ t → eqb p a ≡ u → eqb q b ≡ v → pick (both t (both u v)) (At i) (slot_of x g p q) ≡ At j
+      go : (t u v : Bool) → same_family g f ≡ t → eqb p a ≡ u → eqb q b ≡ v → pick (both t (both u v)) (Some i) (slot_of x g p q) ≡ Some j
       go true true true k m n =
-          let z : slot_of x g p q ≡ Nothing = rw (same_family_lem g f k, eqb-true p a m, eqb-true q b n) none in
+          let z : slot_of x g p q ≡ None = rw (same_family_lem g f k, eqb-true p a m, eqb-true q b n) none in
           let c : ◌≡◌ {A = ℕ} 0 1 = cc in
           absurd (omega arith)
       go true true false k m n = e
@@ -105,7 +105,7 @@ own_icon i (suc (suc zero)) l = rw (eq-eqb (12 + 3 * i + 2) (12 + 3 * i + 2) ref
     last false false = refl
 own_icon i (suc (suc (suc w))) l = absurd (omega arith)
 
-module _ (f : Family) (x : List ℕ) (i a b : ℕ) (s : Sound x) (at_i : slot_of x f a b ≡ At i) (there : is_at x a b i ≡ true) where
+module _ (f : Family) (x : List ℕ) (i a b : ℕ) (s : Sound x) (at_i : slot_of x f a b ≡ Some i) (there : is_at x a b i ≡ true) where
   abbrev y : List ℕ
   y = removed_of x i
 
@@ -125,14 +125,14 @@ module _ (f : Family) (x : List ℕ) (i a b : ℕ) (s : Sound x) (at_i : slot_of
   still_none false n e = e
 
   -- ids that stand in another slot are others
-  other_ids : (g : Family) (p q j : ℕ) → (j ≡ i → ⊥) → slot_of x g p q ≡ At j → slot_of y g p q ≡ At j
+  other_ids : (g : Family) (p q j : ℕ) → (j ≡ i → ⊥) → slot_of x g p q ≡ Some j → slot_of y g p q ≡ Some j
   other_ids g p q j ne h =
       find_freed f x y i a b (found_within f x a b i at_i) (removed_freed x i s.long below) s there g p q
       ∙ go (same_family g f) (eqb p a) (eqb q b) refl refl refl
     where
-      go : (t u v : Bool) → same_family g f ≡ t → eqb p a ≡ u → eqb q b ≡ v → pick (both t (both u v)) Nothing (slot_of x g p q) ≡ At j
+      go : (t u v : Bool) → same_family g f ≡ t → eqb p a ≡ u → eqb q b ≡ v → pick (both t (both u v)) None (slot_of x g p q) ≡ Some j
       go true true true k m n =
-          let z : slot_of x g p q ≡ At i = rw (same_family_lem g f k, eqb-true p a m, eqb-true q b n) at_i in
+          let z : slot_of x g p q ≡ Some i = rw (same_family_lem g f k, eqb-true p a m, eqb-true q b n) at_i in
           let c : j ≡ i = cc in
           absurd (ne c)
       go true true false k m n = h
@@ -182,7 +182,7 @@ module _ (z y : List ℕ) (f : Family) (a b i : ℕ) (s : Sound z) (k : Slotted 
 
 -- an icon's holders take a place
 pub taken_sound : (z : List ℕ) (f : Family) (a b i : ℕ) → Sound z → is_at z a b i ≡ true → {ns : List ℕ} {hs : List Holder} → Held z i ns hs
-    → (p : ℕ) → free_place z ns ≡ At p → Sound (point_all z ns (p + 1))
+    → (p : ℕ) → free_place z ns ≡ Some p → Sound (point_all z ns (p + 1))
 taken_sound z f a b i s there {ns} k p e =
     let m = s.long in
     pointed_sound z (point_all z ns (p + 1)) f a b i s (points_slotted ns z (p + 1) k.all s.long) (k.kept p e) there
@@ -203,7 +203,7 @@ module _ (z : List ℕ) (f : Family) (a b w i c : ℕ) (s : Sound z) (there : is
       ∙ rw (apart_from j v ne l))
 
 -- an overlay icon set to none
-pub none_sound : (z : List ℕ) (f : Family) (a b w i : ℕ) → Sound z → slot_of z f a b ≡ At i → is_at z a b i ≡ true → i < 48 → w < 3 → Sound (release_of z (12 + 3 * i + w))
+pub none_sound : (z : List ℕ) (f : Family) (a b w i : ℕ) → Sound z → slot_of z f a b ≡ Some i → is_at z a b i ≡ true → i < 48 → w < 3 → Sound (release_of z (12 + 3 * i + w))
 unfolding release_of
 none_sound z f a b w i s at_i there below lw =
     let m = s.long in

@@ -6,9 +6,9 @@ use Prim.Native.Nat.{ℕ, ◌+◌, ◌-◌, ◌≤◌, ◌<◌}
 use native.Mathlib.Omega.{arith}
 use lib.Dec.{eqb}
 use borrow.Author.Tests.{eq-eqb, ne_eqb, eqb-true, eqb-false, not-true, not-false}
+use Rattle.std.specs.Prelude.{Some, None}
 use Rattle.wire.specs.Tests.{pick, both}
 use Rattle.places.specs.declared.Family.{Family}
-use Rattle.places.specs.declared.Found.TheVariants.{At, Nothing}
 use Rattle.places.specs.Counts.{one}
 use Rattle.places.specs.Holder.{same_family}
 use Rattle.places.proofs.Counting.{found, none_passes, first_cong, count_cong, count_change, count_none, count_all, count_below_lem, first_is}
@@ -58,7 +58,7 @@ module _ (x y : List ℕ) (i : ℕ) (k : Kept x y i) where
 -- ---- ids listed in a free slot
 
 module _ (f : Family) (x y : List ℕ) (i a b : ℕ) (w : Within f i) (h : Listed x y i a b) (free : is_used x i ≡ false) where
-  pub find_listed : slot_of x f a b ≡ Nothing → (g : Family) (p q : ℕ) → slot_of y g p q ≡ pick (same_record f a b g p q) (At i) (slot_of x g p q)
+  pub find_listed : slot_of x f a b ≡ None → (g : Family) (p q : ℕ) → slot_of y g p q ≡ pick (same_record f a b g p q) (Some i) (slot_of x g p q)
   find_listed none g p q = go (same_family g f) (eqb p a) (eqb q b) refl refl refl
     where
       ids : (u v : Bool) → eqb p a ≡ u → eqb q b ≡ v → is_at y p q i ≡ both u v
@@ -69,13 +69,13 @@ module _ (f : Family) (x y : List ℕ) (i a b : ℕ) (w : Within f i) (h : Liste
           turn true false e r = rw (eq-eqb a p (sym (eqb-true p a e))) (ne_eqb b q (λ z. eqb-false q b r (sym z)))
           turn false v e r = rw (ne_eqb a p (λ z. eqb-false p a e (sym z)))
 
-      here : p ≡ a → q ≡ b → slot_of y f p q ≡ At i
+      here : p ≡ a → q ≡ b → slot_of y f p q ≡ Some i
       here ep eq =
-          let n : slot_of x f p q ≡ Nothing = rw (ep, eq) none in
+          let n : slot_of x f p q ≡ None = rw (ep, eq) none in
           first_is (capacity f) (start f) (is_at y p q) i w.low w.high (ids true true (eq-eqb p a ep) (eq-eqb q b eq))
           (λ j l u. same_at x y j (h.kept.others j (λ e. omega arith)) p q ∙ none_passes (capacity f) (start f) (is_at x p q) n j l (omega (arith, w.high)))
 
-      go : (t u v : Bool) → same_family g f ≡ t → eqb p a ≡ u → eqb q b ≡ v → slot_of y g p q ≡ pick (both t (both u v)) (At i) (slot_of x g p q)
+      go : (t u v : Bool) → same_family g f ≡ t → eqb p a ≡ u → eqb q b ≡ v → slot_of y g p q ≡ pick (both t (both u v)) (Some i) (slot_of x g p q)
       go true true true d e r = rw (same_family_lem g f d) (here (eqb-true p a e) (eqb-true q b r))
       go true true false d e r = other_find x y i h.kept g p q (λ v. ids true false e r ∙ sym (at_free x i free p q))
       go true false v d e r = other_find x y i h.kept g p q (λ z. ids false v e r ∙ sym (at_free x i free p q))
@@ -94,7 +94,7 @@ module _ (f : Family) (x y : List ℕ) (i a b : ℕ) (w : Within f i) (h : Liste
 -- ---- the slot of a record freed
 
 module _ (f : Family) (x y : List ℕ) (i a b : ℕ) (w : Within f i) (h : Freed x y i) (s : Sound x) (t : is_at x a b i ≡ true) where
-  pub find_freed : (g : Family) (p q : ℕ) → slot_of y g p q ≡ pick (same_record f a b g p q) Nothing (slot_of x g p q)
+  pub find_freed : (g : Family) (p q : ℕ) → slot_of y g p q ≡ pick (same_record f a b g p q) None (slot_of x g p q)
   find_freed g p q = go (same_family g f) (eqb p a) (eqb q b) refl refl refl
     where
       gone : is_at y p q i ≡ false
@@ -113,7 +113,7 @@ module _ (f : Family) (x y : List ℕ) (i a b : ℕ) (w : Within f i) (h : Freed
               let n = at_has x p q i m in
               absurd (ne (sym n.first ∙ o.first) (sym n.second ∙ o.second))
 
-      here : is_at x p q i ≡ true → slot_of y f p q ≡ Nothing
+      here : is_at x p q i ≡ true → slot_of y f p q ≡ None
       here r = first_none (capacity f) (start f) (is_at y p q) (λ j l u. each j l u (eqb j i) (is_at x p q j) refl refl)
         where
           each : (j : ℕ) → start f ≤ j → j < start f + capacity f → (b c : Bool) → eqb j i ≡ b → is_at x p q j ≡ c → is_at y p q j ≡ false
@@ -125,7 +125,7 @@ module _ (f : Family) (x y : List ℕ) (i a b : ℕ) (w : Within f i) (h : Freed
               let e : j ≡ i = cc in
               absurd (eqb-false j i m e)
 
-      go : (t u v : Bool) → same_family g f ≡ t → eqb p a ≡ u → eqb q b ≡ v → slot_of y g p q ≡ pick (both t (both u v)) Nothing (slot_of x g p q)
+      go : (t u v : Bool) → same_family g f ≡ t → eqb p a ≡ u → eqb q b ≡ v → slot_of y g p q ≡ pick (both t (both u v)) None (slot_of x g p q)
       go true true true d e r = rw (same_family_lem g f d) (here (at_i (eqb-true p a e) (eqb-true q b r)))
       go true true false d e r = other_find x y i h.kept g p q (λ v. gone ∙ sym (other_ids (λ m n. eqb-false q b r n)))
       go true false v d e r = other_find x y i h.kept g p q (λ z. gone ∙ sym (other_ids (λ m n. eqb-false p a e m)))
@@ -147,7 +147,7 @@ module _ (y : List ℕ) (h : (j : ℕ) → j < 48 → used_at y j ≡ 0) where
   none_used : (g : Family) (j : ℕ) → start g ≤ j → j < start g + capacity g → is_used y j ≡ false
   none_used g j l u = free_is y j (h j (within_slots g j (record { low = l; high = u })))
 
-  pub none_find : (g : Family) (p q : ℕ) → slot_of y g p q ≡ Nothing
+  pub none_find : (g : Family) (p q : ℕ) → slot_of y g p q ≡ None
   none_find g p q = first_none (capacity g) (start g) (is_at y p q) (λ j l u. at_free y j (none_used g j l u) p q)
 
   pub none_many : (g : Family) → many_in y g ≡ 0
@@ -155,12 +155,12 @@ module _ (y : List ℕ) (h : (j : ℕ) → j < 48 → used_at y j ≡ 0) where
 
 -- ---- room
 
-pub no_room_lem : (x : List ℕ) (f : Family) → free_of x f ≡ Nothing → many_in x f ≡ capacity f
+pub no_room_lem : (x : List ℕ) (f : Family) → free_of x f ≡ None → many_in x f ≡ capacity f
 no_room_lem x f e =
     count_all (capacity f) (λ k. is_used x (start f + k))
     (λ k l. not-false (is_used x (start f + k)) (none_passes (capacity f) (start f) (is_free x) e (start f + k) (omega arith) (omega arith)))
 
-pub some_room : (x : List ℕ) (f : Family) (i : ℕ) → free_of x f ≡ At i → many_in x f < capacity f
+pub some_room : (x : List ℕ) (f : Family) (i : ℕ) → free_of x f ≡ Some i → many_in x f < capacity f
 some_room x f i e =
     let r = found (capacity f) (start f) (is_free x) i e in
     let l = r.0 in

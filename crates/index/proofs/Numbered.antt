@@ -7,11 +7,10 @@ use native.Mathlib.Omega.{arith}
 use lib.Dec.{eqb, leb}
 use lib.ListN.{length}
 use borrow.Author.Tests.{eq-eqb, eqb-true, le-leb, lt-leb, not-true}
+use Rattle.std.specs.Prelude.{Option, Some, None}
 use Rattle.wire.specs.Tests.{pick, both, either}
 use Rattle.places.specs.declared.Family.{Family}
 use Rattle.places.specs.declared.Family.TheVariants.{Windows, Notifications}
-use Rattle.places.specs.declared.Found.{Found}
-use Rattle.places.specs.declared.Found.TheVariants.{At, Nothing}
 use Rattle.places.specs.Sharing.{full}
 use Rattle.places.specs.Counts.{on_found}
 use Rattle.places.specs.Memory.{pointer_at, sharing_of, decode}
@@ -50,7 +49,7 @@ readied x o i = pick (is_new o.family o.flags) (listed_of x i o.window.id o.noti
 
 pub record Ready (x z : List ℕ) (o : RecordOrder) (i : ℕ) : Type 0 where
   pub sound : Sound z
-  pub at_i : slot_of z o.family o.window.id o.notify.id ≡ At i
+  pub at_i : slot_of z o.family o.window.id o.notify.id ≡ Some i
   pub sharing : sharing_at z ≡ sharing_at x
   pub free : (hs : List ℕ) → free_place z hs ≡ free_place x hs
   pub long : length z ≡ length x
@@ -61,8 +60,8 @@ pub record Ready (x z : List ℕ) (o : RecordOrder) (i : ℕ) : Type 0 where
 -- the slot of an order: listed there, or free for a new record
 pub record Placed (x : List ℕ) (o : RecordOrder) (i : ℕ) : Type 0 where
   pub within : Within o.family i
-  pub new : is_new o.family o.flags ≡ true → (slot_of x o.family o.window.id o.notify.id ≡ Nothing) × (is_used x i ≡ false)
-  pub old : is_new o.family o.flags ≡ false → slot_of x o.family o.window.id o.notify.id ≡ At i
+  pub new : is_new o.family o.flags ≡ true → (slot_of x o.family o.window.id o.notify.id ≡ None) × (is_used x i ≡ false)
+  pub old : is_new o.family o.flags ≡ false → slot_of x o.family o.window.id o.notify.id ≡ Some i
 
 pub second_small : (f : Family) (b : ℕ) → b ≤ highest f → b < 4294967296
 second_small Windows b h = omega arith
@@ -88,11 +87,11 @@ module _ (x : List ℕ) (s : List ℕ) (o : RecordOrder) (i : ℕ) (sound : Soun
         sharing = listed_sharing f x (listed_of x i a b) i a b sound p.within l n.1 n.0;
         free = λ hs. still_free x (listed_of x i a b) hs l.still;
         long = l.kept.long;
-        listed = λ g p' q. ap (λ (w : Found). on_found w false (λ j. true)) (find_listed f x (listed_of x i a b) i a b p.within l n.1 n.0 g p' q) ∙ at_once (same_record f a b g p' q) (slot_of x g p' q);
+        listed = λ g p' q. ap (λ (w : Option ℕ). on_found w false (λ j. true)) (find_listed f x (listed_of x i a b) i a b p.within l n.1 n.0 g p' q) ∙ at_once (same_record f a b g p' q) (slot_of x g p' q);
         many = λ g. many_listed f x (listed_of x i a b) i a b p.within l n.1 g ∙ rw t;
       }
     where
-      at_once : (t : Bool) (w : Found) → on_found (pick t (At i) w) false (λ j. true) ≡ pick t true (on_found w false (λ j. true))
+      at_once : (t : Bool) (w : Option ℕ) → on_found (pick t (Some i) w) false (λ j. true) ≡ pick t true (on_found w false (λ j. true))
       at_once true w = refl
       at_once false w = refl
 
@@ -127,7 +126,7 @@ module _ (x : List ℕ) (s : List ℕ) (o : RecordOrder) (i : ℕ) (sound : Soun
       → on_found (free_place x (cell_for s o i ∷ pointer_for i o.flags ∷ [])) true (λ q. false) ≡ full same_holder (holders_of s o) (sharing_at x)
   place_is t =
       let r = ready in
-      ap (λ (v : Found). on_found v true (λ q. false)) (sym (r.free (cell_for s o i ∷ pointer_for i o.flags ∷ [])))
+      ap (λ (v : Option ℕ). on_found v true (λ q. false)) (sym (r.free (cell_for s o i ∷ pointer_for i o.flags ∷ [])))
       ∙ (held (readied x o i) s o i r.sound h r.at_i t).refuses
       ∙ ap (full same_holder (holders_of s o)) r.sharing
 
@@ -143,20 +142,20 @@ unfolding slot_for not_there no_room index_of
 slotting x o =
     go (slot_of x o.family o.window.id o.notify.id) (free_of x o.family) (is_new o.family o.flags) refl refl refl
   where
-    go : (w v : Found) (t : Bool) → slot_of x o.family o.window.id o.notify.id ≡ w → free_of x o.family ≡ v → is_new o.family o.flags ≡ t
+    go : (w v : Option ℕ) (t : Bool) → slot_of x o.family o.window.id o.notify.id ≡ w → free_of x o.family ≡ v → is_new o.family o.flags ≡ t
         → Slotting x o (on_found w (pick t (on_found v (Not 10) Slot) (Not 9)) (λ i. pick t (Not 9) (Slot i)))
-    go (At i) v true m n k = not_there_lem (rw (k, m))
-    go (At i) v false m n k =
+    go (Some i) v true m n k = not_there_lem (rw (k, m))
+    go (Some i) v false m n k =
         at_slot i (rw (k, m)) (rw k)
         (record {
           within = found_within o.family x o.window.id o.notify.id i m;
           new = λ t. never (sym k ∙ t);
           old = λ t. m;
         })
-    go Nothing v false m n k = not_there_lem (rw (k, m))
-    go Nothing Nothing true m n k =
+    go None v false m n k = not_there_lem (rw (k, m))
+    go None None true m n k =
         no_place_lem (rw (k, m)) (rw k (le-leb (capacity o.family) (many_in x o.family) (let e = no_room_lem x o.family n in omega arith)))
-    go Nothing (At i) true m n k =
+    go None (Some i) true m n k =
         at_slot i (rw (k, m)) (rw k (lt-leb (capacity o.family) (many_in x o.family) (some_room x o.family i n)))
         (record {
           within = free_within o.family x i n;
@@ -192,7 +191,7 @@ module _ (x s : List ℕ) (o : RecordOrder) (h : Ordered s o) where
 pub record Planned (x s : List ℕ) (o : RecordOrder) (i place : ℕ) : Type 0 where
   pub placed : Placed x o i
   pub small : place < 64
-  pub icon : brings_icon o.flags ≡ true → free_place x (cell_for s o i ∷ pointer_for i o.flags ∷ []) ≡ At place
+  pub icon : brings_icon o.flags ≡ true → free_place x (cell_for s o i ∷ pointer_for i o.flags ∷ []) ≡ Some place
   pub cached : brings_icon o.flags ≡ false → brings_cached o.flags ≡ true → cell_at s o.icon < 12
 
 pub data Outcome (x s : List ℕ) (o : RecordOrder) : Plan → Type 0 where
@@ -209,7 +208,7 @@ module _ (x s : List ℕ) (o : RecordOrder) (sound : Sound x) (h : Ordered s o) 
       e11 : no_picture (index_of x) s o ≡ false
       e11 = sym (picture_is x s o h) ∙ lacks
 
-      go : (t : Bool) → brings_icon o.flags ≡ t → (w : Found) → free_place x (cell_for s o i ∷ pointer_for i o.flags ∷ []) ≡ w
+      go : (t : Bool) → brings_icon o.flags ≡ t → (w : Option ℕ) → free_place x (cell_for s o i ∷ pointer_for i o.flags ∷ []) ≡ w
           → Outcome x s o
           (pick t (on_found w (Refuse 17) (λ p. ChangeRecord (change_of s o i p))) (ChangeRecord (change_of s o i 0)))
       go false t w e =
@@ -220,10 +219,10 @@ module _ (x s : List ℕ) (o : RecordOrder) (sound : Sound x) (h : Ordered s o) 
             icon = λ u. never (sym t ∙ u);
             cached = λ u v. cached_names s o h u v;
           })
-      go true t Nothing e =
+      go true t None e =
           let k : full same_holder (holders_of s o) (sharing_at x) ≡ true = sym (place_is x s o i sound h p t) ∙ rw e in
           refused 17 (λ z. omega arith) (rw (e9, e10, e11, t, k))
-      go true t (At q) e =
+      go true t (Some q) e =
           let k : full same_holder (holders_of s o) (sharing_at x) ≡ false = sym (place_is x s o i sound h p t) ∙ rw e in
           let v = valid_has x sound.holders in
           let r = found_free x (cell_for s o i ∷ pointer_for i o.flags ∷ []) q e in

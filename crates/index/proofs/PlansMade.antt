@@ -6,7 +6,7 @@ use Prim.Native.Nat.{ℕ, ◌<◌}
 use native.Mathlib.Omega.{arith}
 use lib.Bits.{bit_and}
 use borrow.Author.Tests.{eq-eqb, ne_eqb}
-use Rattle.std.specs.Prelude.{Ok, Err}
+use Rattle.std.specs.Prelude.{Ok, Err, Option, Some, None}
 use Rattle.wire.specs.Tests.{pick, both}
 use Rattle.wire.proofs.Tests.{both_left, both_right}
 use Rattle.protocol.specs.Flags.{flag_icon}
@@ -19,8 +19,6 @@ use Rattle.order.specs.Judge.{Judged, judge_of}
 use Rattle.protocol.specs.Refusals.{number_of}
 use Rattle.places.specs.declared.Family.{Family}
 use Rattle.places.specs.declared.Family.TheVariants.{Windows, Notifications}
-use Rattle.places.specs.declared.Found.{Found}
-use Rattle.places.specs.declared.Found.TheVariants.{At, Nothing}
 use Rattle.places.specs.Counts.{on_found}
 use Rattle.places.specs.Changes.{free_place}
 use Rattle.places.proofs.Meaning.{found_free}
@@ -42,23 +40,23 @@ use Rattle.index.specs.Changes.{Fits}
 
 -- ---- 9 and 10
 
-module _ (x : List ℕ) (family : Family) (a b : ℕ) (t : Bool) {r : Found} (f : slot_of x family a b ≡ r) where
-  module _ {i : ℕ} (g : r ≡ At i) where
+module _ (x : List ℕ) (family : Family) (a b : ℕ) (t : Bool) {r : Option ℕ} (f : slot_of x family a b ≡ r) where
+  module _ {i : ℕ} (g : r ≡ Some i) where
     pub place_listed : t ≡ true → Not 9 ≡ place_for x family a b t
     place_listed h = rw (f, g, h)
 
     pub place_own : t ≡ false → Slot i ≡ place_for x family a b t
     place_own h = rw (f, g, h)
 
-  module _ (g : r ≡ Nothing) where
+  module _ (g : r ≡ None) where
     pub place_absent : t ≡ false → Not 9 ≡ place_for x family a b t
     place_absent h = rw (f, g, h)
 
-    module _ (h : t ≡ true) {w : Found} (k : w ≡ free_of x family) where
-      pub place_full : w ≡ Nothing → Not 10 ≡ place_for x family a b t
+    module _ (h : t ≡ true) {w : Option ℕ} (k : w ≡ free_of x family) where
+      pub place_full : w ≡ None → Not 10 ≡ place_for x family a b t
       place_full m = rw (f, g, h, ← k, m)
 
-      pub place_new : {i : ℕ} → w ≡ At i → Slot i ≡ place_for x family a b t
+      pub place_new : {i : ℕ} → w ≡ Some i → Slot i ≡ place_for x family a b t
       place_new m = rw (f, g, h, ← k, m)
 
 module _ (x : List ℕ) (o : RecordOrder) {fresh : Bool} (new : fresh ≡ is_new o.family o.flags) where
@@ -85,30 +83,30 @@ unfolding slot_for
 slot_small x o {p} {i} e g =
     go (slot_of x o.family o.window.id o.notify.id) (free_of x o.family) (is_new o.family o.flags) refl refl (sym e ∙ g)
   where
-    go : (w v : Found) (t : Bool) → slot_of x o.family o.window.id o.notify.id ≡ w → free_of x o.family ≡ v
+    go : (w v : Option ℕ) (t : Bool) → slot_of x o.family o.window.id o.notify.id ≡ w → free_of x o.family ≡ v
         → on_found w (pick t (on_found v (Not 10) Slot) (Not 9)) (λ j. pick t (Not 9) (Slot j)) ≡ Slot i → i < 48
-    go (At j) v true m n h = let z : ◌≡◌ {A = ℕ} 0 1 = cc in absurd (omega arith)
-    go (At j) v false m n h =
+    go (Some j) v true m n h = let z : ◌≡◌ {A = ℕ} 0 1 = cc in absurd (omega arith)
+    go (Some j) v false m n h =
         let k : j ≡ i = cc in
         let s = within_slots o.family j (found_within o.family x o.window.id o.notify.id j m) in
         omega arith
-    go Nothing (At j) true m n h =
+    go None (Some j) true m n h =
         let k : j ≡ i = cc in
         let s = within_slots o.family j (free_within o.family x j n) in
         omega arith
-    go Nothing Nothing true m n h = let z : ◌≡◌ {A = ℕ} 0 1 = cc in absurd (omega arith)
-    go Nothing v false m n h = let z : ◌≡◌ {A = ℕ} 0 1 = cc in absurd (omega arith)
+    go None None true m n h = let z : ◌≡◌ {A = ℕ} 0 1 = cc in absurd (omega arith)
+    go None v false m n h = let z : ◌≡◌ {A = ℕ} 0 1 = cc in absurd (omega arith)
 
 pub not_zero : (x : List ℕ) (o : RecordOrder) {p : Place} {n : ℕ} → p ≡ slot_for x o → p ≡ Not n → n ≡ 0 → ⊥
 unfolding slot_for
 not_zero x o {p} {n} e g z = go (slot_of x o.family o.window.id o.notify.id) (free_of x o.family) (is_new o.family o.flags) (sym e ∙ g)
   where
-    go : (w v : Found) (t : Bool) → on_found w (pick t (on_found v (Not 10) Slot) (Not 9)) (λ j. pick t (Not 9) (Slot j)) ≡ Not n → ⊥
-    go (At j) v true h = let k : 9 ≡ n = cc in omega arith
-    go (At j) v false h = let k : ◌≡◌ {A = ℕ} 0 1 = cc in omega arith
-    go Nothing (At j) true h = let k : ◌≡◌ {A = ℕ} 0 1 = cc in omega arith
-    go Nothing Nothing true h = let k : 10 ≡ n = cc in omega arith
-    go Nothing v false h = let k : 9 ≡ n = cc in omega arith
+    go : (w v : Option ℕ) (t : Bool) → on_found w (pick t (on_found v (Not 10) Slot) (Not 9)) (λ j. pick t (Not 9) (Slot j)) ≡ Not n → ⊥
+    go (Some j) v true h = let k : 9 ≡ n = cc in omega arith
+    go (Some j) v false h = let k : ◌≡◌ {A = ℕ} 0 1 = cc in omega arith
+    go None (Some j) true h = let k : ◌≡◌ {A = ℕ} 0 1 = cc in omega arith
+    go None None true h = let k : 10 ≡ n = cc in omega arith
+    go None v false h = let k : 9 ≡ n = cc in omega arith
 
 -- ---- 11, 17 and the change
 
@@ -138,17 +136,17 @@ module _ (x s : List ℕ) (o : RecordOrder) (i : ℕ) {c : ℕ} (e : c ≡ cell_
     unfolding plan_at
     in_plain n q = rw (← e, ← h, k, eq-eqb (bit_and o.flags flag_icon) 0 n, q, ← g, ← b)
 
-    module _ (n : bit_and o.flags flag_icon ≡ 0 → ⊥) {f : Found} (m : f ≡ free_place x (held ∷ pointer ∷ [])) where
-      pub in_full : f ≡ Nothing → Refuse 17 ≡ plan_in x s o i
+    module _ (n : bit_and o.flags flag_icon ≡ 0 → ⊥) {f : Option ℕ} (m : f ≡ free_place x (held ∷ pointer ∷ [])) where
+      pub in_full : f ≡ None → Refuse 17 ≡ plan_in x s o i
       unfolding plan_at
       in_full q = rw (← e, ← h, k, ne_eqb (bit_and o.flags flag_icon) 0 n, ← g, ← b, ← m, q)
 
-      pub in_taken : {p : ℕ} {r : Change} → f ≡ At p → r ≡ change_with o i held pointer p → ChangeRecord r ≡ plan_in x s o i
+      pub in_taken : {p : ℕ} {r : Change} → f ≡ Some p → r ≡ change_with o i held pointer p → ChangeRecord r ≡ plan_in x s o i
       unfolding plan_at
       in_taken q w = rw (← e, ← h, k, ne_eqb (bit_and o.flags flag_icon) 0 n, w, ← g, ← b, ← m, q)
 
 -- a place that is found is one of 64
-pub place_small : (x : List ℕ) (held pointer : ℕ) {f : Found} {p : ℕ} → sound_index x ≡ true → f ≡ free_place x (held ∷ pointer ∷ []) → f ≡ At p → p < 64
+pub place_small : (x : List ℕ) (held pointer : ℕ) {f : Option ℕ} {p : ℕ} → sound_index x ≡ true → f ≡ free_place x (held ∷ pointer ∷ []) → f ≡ Some p → p < 64
 place_small x held pointer {f} {p} sound e g =
     let v = valid_has x (sound_has x sound).holders in
     let r = found_free x (held ∷ pointer ∷ []) p (sym e ∙ g) in

@@ -7,10 +7,9 @@ use native.Mathlib.Omega.{arith}
 use lib.Dec.{eqb}
 use lib.ListN.{length}
 use borrow.Author.Tests.{eq-eqb, eqb-true}
+use Rattle.std.specs.Prelude.{Option, Some, None}
 use Rattle.wire.specs.Tests.{pick, either}
 use Rattle.places.specs.declared.Family.{Family}
-use Rattle.places.specs.declared.Found.{Found}
-use Rattle.places.specs.declared.Found.TheVariants.{At, Nothing}
 use Rattle.places.specs.Sharing.{Sharing, drop, drop_all, join, cells_only}
 use Rattle.places.specs.Memory.{decode}
 use Rattle.places.specs.Changes.{share_of, release_of, release_all_of, release_records_of}
@@ -35,8 +34,8 @@ own_record f a b = rw (family_same f, eq-eqb a a refl, eq-eqb b b refl)
 
 -- ---- a record listed in a slot without one
 
-module _ (f : Family) (x y : List ℕ) (i a b : ℕ) (s : Sound x) (w : Within f i) (h : Listed x y i a b) (free : is_used x i ≡ false) (none : slot_of x f a b ≡ Nothing) where
-  pub listed_at : slot_of y f a b ≡ At i
+module _ (f : Family) (x y : List ℕ) (i a b : ℕ) (s : Sound x) (w : Within f i) (h : Listed x y i a b) (free : is_used x i ≡ false) (none : slot_of x f a b ≡ None) where
+  pub listed_at : slot_of y f a b ≡ Some i
   listed_at = find_listed f x y i a b w h free none f a b ∙ rw (own_record f a b)
 
   pub listed_sharing : sharing_at y ≡ sharing_at x
@@ -74,14 +73,14 @@ removed_still x i long below =
     let k = releases_slotted (icons_at i) x (icons_holders i below) long in
     freed_still (release_all_of x (icons_at i)) i (omega (arith, k.long)) below
 
-module _ (f : Family) (x : List ℕ) (i a b : ℕ) (s : Sound x) (at_i : slot_of x f a b ≡ At i) (there : is_at x a b i ≡ true) where
+module _ (f : Family) (x : List ℕ) (i a b : ℕ) (s : Sound x) (at_i : slot_of x f a b ≡ Some i) (there : is_at x a b i ≡ true) where
   abbrev gone : List ℕ
   gone = removed_of x i
 
   below : i < 48
   below = within_slots f i (found_within f x a b i at_i)
 
-  finds : (g : Family) (p q : ℕ) → slot_of gone g p q ≡ pick (same_record f a b g p q) Nothing (slot_of x g p q)
+  finds : (g : Family) (p q : ℕ) → slot_of gone g p q ≡ pick (same_record f a b g p q) None (slot_of x g p q)
   finds = find_freed f x gone i a b (found_within f x a b i at_i) (removed_freed x i s.long below) s there
 
   three : map (number_of (slot_of x)) (icons_of f a b) ≡ icons_at i
@@ -104,7 +103,7 @@ module _ (f : Family) (x : List ℕ) (i a b : ℕ) (s : Sound x) (at_i : slot_of
 pub same_slots : (x y : List ℕ) → Slotted x y → slot_of y ≡ slot_of x
 same_slots x y h = λ i g p q. slotted_find x y h g p q i
 
-module _ (z : List ℕ) (s : Sound z) (f : Family) (a b w i c : ℕ) (at_i : slot_of z f a b ≡ At i) (lw : w < 3) (lc : c < 12) where
+module _ (z : List ℕ) (s : Sound z) (f : Family) (a b w i c : ℕ) (at_i : slot_of z f a b ≡ Some i) (lw : w < 3) (lc : c < 12) where
   abbrev num : Holder → ℕ
   num = number_of (slot_of z)
 
@@ -121,14 +120,14 @@ module _ (z : List ℕ) (s : Sound z) (f : Family) (a b w i c : ℕ) (at_i : slo
   cached_sharing =
       let l = low in
       let y = share_of z (12 + 3 * i + w) c in
-      ap (λ (slot : Family → ℕ → ℕ → Found). keyed (number_of slot) (decode y)) (same_slots z y (share_slotted z (12 + 3 * i + w) c (omega arith) s.long))
+      ap (λ (slot : Family → ℕ → ℕ → Option ℕ). keyed (number_of slot) (decode y)) (same_slots z y (share_slotted z (12 + 3 * i + w) c (omega arith) s.long))
       ∙ ap (λ (m : ℕ). keyed num (decode (share_of z m c))) (sym icon_is)
       ∙ ap (λ (m : ℕ). keyed num (decode (share_of z (num (icon f a b w)) m))) (sym cell_is)
       ∙ cached_means (slot_of z) (slots_of z) z s.holders f a b w i at_i lw c lc
 
 -- ---- an overlay icon of a listed record set to none
 
-module _ (z : List ℕ) (s : Sound z) (f : Family) (a b w i : ℕ) (at_i : slot_of z f a b ≡ At i) (lw : w < 3) where
+module _ (z : List ℕ) (s : Sound z) (f : Family) (a b w i : ℕ) (at_i : slot_of z f a b ≡ Some i) (lw : w < 3) where
   pub none_slotted : Slotted z (release_of z (12 + 3 * i + w))
   none_slotted =
       let l = within_slots f i (found_within f z a b i at_i) in
@@ -137,7 +136,7 @@ module _ (z : List ℕ) (s : Sound z) (f : Family) (a b w i : ℕ) (at_i : slot_
   pub none_sharing : sharing_at (release_of z (12 + 3 * i + w)) ≡ drop same_holder (icon f a b w) (sharing_at z)
   none_sharing =
       let y = release_of z (12 + 3 * i + w) in
-      ap (λ (slot : Family → ℕ → ℕ → Found). keyed (number_of slot) (decode y)) (same_slots z y none_slotted)
+      ap (λ (slot : Family → ℕ → ℕ → Option ℕ). keyed (number_of slot) (decode y)) (same_slots z y none_slotted)
       ∙ ap (λ (m : ℕ). keyed (number_of (slot_of z)) (decode (release_of z m))) (sym (icon_number_lem (slot_of z) (slots_of z) f a b w i at_i lw))
       ∙ none_icon_means (slot_of z) (slots_of z) z s.holders f a b w i at_i lw
 
@@ -149,5 +148,5 @@ cleared_sharing x s =
     let h : Cleared x y = cleared_is x s.long in
     let none : slot_of y ≡ no_slot = λ i g p q. none_find y h.slots g p q i in
     ap (keyed (number_of (slot_of y))) (still_decode (release_records_of x) y h.still)
-    ∙ ap (λ (slot : Family → ℕ → ℕ → Found). keyed (number_of slot) (decode (release_records_of x))) none
+    ∙ ap (λ (slot : Family → ℕ → ℕ → Option ℕ). keyed (number_of slot) (decode (release_records_of x))) none
     ∙ none_means (slot_of x) (slots_of x) x s.holders

@@ -3,13 +3,11 @@ use mathlib.Core.Path.{◌≡◌, refl, sym, subst, ◌∙◌}
 use mathlib.Core.Bool.{Bool, true, false}
 use mathlib.Core.List.{List, [], ◌∷◌}
 use Prim.Native.Nat.{ℕ, ◌+◌, ◌<◌}
-use Rattle.std.specs.Prelude.{Ok, Err}
+use Rattle.std.specs.Prelude.{Ok, Err, Option, Some, None}
 use Rattle.wire.specs.Tests.{pick}
 use Rattle.protocol.specs.Refusals.{number_of}
 use Rattle.order.specs.declared.Order.TheVariants.{Window, Notification, Desktop}
 use Rattle.order.specs.Judge.{Judged, judge_of}
-use Rattle.places.specs.declared.Found.{Found}
-use Rattle.places.specs.declared.Found.TheVariants.{At, Nothing}
 use Rattle.places.specs.Counts.{on_found}
 use Rattle.places.specs.Changes.{point_all, free_place}
 use Rattle.places.specs.Held.{HeldBelow}
@@ -40,7 +38,7 @@ module _ (full : Bool) (x s : List ℕ) (sound : sound_index x ≡ true) where
     ns = cell_for s o i ∷ pointer_for i o.flags ∷ []
 
     -- a new record is listed before its icon takes a place: that changes no pointer
-    taken : (fresh : Bool) (q : ℕ) → free_place x ns ≡ At q → HeldBelow (point_all (pick fresh (listed_of x i o.window.id o.notify.id) x) ns (q + 1)) (q + 1)
+    taken : (fresh : Bool) (q : ℕ) → free_place x ns ≡ Some q → HeldBelow (point_all (pick fresh (listed_of x i o.window.id o.notify.id) x) ns (q + 1)) (q + 1)
     taken fresh q e =
         let w = which_small o.flags in
         let lp : pointer_for i o.flags < 156 = omega arith in
@@ -54,7 +52,7 @@ module _ (full : Bool) (x s : List ℕ) (sound : sound_index x ≡ true) where
             held_taken l (cell_for s o i) (pointer_for i o.flags) q (still_valid x l still long (sound_holders x sound)) lc lp (still_free x l ns still ∙ e)
         go false lc lp = held_taken x (cell_for s o i) (pointer_for i o.flags) q (sound_holders x sound) lc lp e
 
-    icon-holds : (q : ℕ) → free_place x ns ≡ At q → brings_icon o.flags ≡ true → Holds full x (ChangeRecord (change_of s o i q))
+    icon-holds : (q : ℕ) → free_place x ns ≡ Some q → brings_icon o.flags ≡ true → Holds full x (ChangeRecord (change_of s o i q))
     unfolding stepped_of applied_of changed_of pictured_of
     icon-holds q e t = rw t (go full (is_delete o.flags))
       where
@@ -75,10 +73,10 @@ module _ (full : Bool) (x s : List ℕ) (sound : sound_index x ≡ true) where
     unfolding plan_at
     at-holds = go (brings_icon o.flags) (free_place x ns) refl refl
       where
-        go : (t : Bool) (f : Found) → brings_icon o.flags ≡ t → free_place x ns ≡ f
+        go : (t : Bool) (f : Option ℕ) → brings_icon o.flags ≡ t → free_place x ns ≡ f
             → Holds full x (pick t (on_found f (Refuse 17) (λ p. ChangeRecord (change_of s o i p))) (ChangeRecord (change_of s o i 0)))
-        go true (At q) t e = icon-holds q e t
-        go true Nothing t e = held_none (stepped_of full x (Refuse 17))
+        go true (Some q) t e = icon-holds q e t
+        go true None t e = held_none (stepped_of full x (Refuse 17))
         go false f t e = plain-holds t
 
     in-holds : Holds full x (plan_in x s o i)

@@ -6,12 +6,11 @@ use Prim.Native.Nat.{ℕ, ◌+◌}
 use native.Mathlib.Omega.{arith}
 use lib.Bits.{bit_and}
 use borrow.Author.Tests.{eq-eqb, ne_eqb}
+use Rattle.std.specs.Prelude.{Option, Some, None}
 use Rattle.wire.specs.Tests.{pick}
 use Rattle.protocol.specs.Flags.{flag_cached_icon, flag_deleted, flag_icon, flag_new, flag_overlay_none}
 use Rattle.rows.proofs.Absent.{unmet}
 use Rattle.places.specs.declared.Family.TheVariants.{Windows}
-use Rattle.places.specs.declared.Found.{Found}
-use Rattle.places.specs.declared.Found.TheVariants.{At, Nothing}
 use Rattle.places.specs.Changes.{point_all, free_place, share_of}
 use Rattle.index.specs.declared.RecordOrder.{RecordOrder}
 use Rattle.index.specs.declared.Change.{Change}
@@ -132,11 +131,11 @@ module _ (c : Change) (t : c.deleted ≡ false) where
   held_icon h = rw (t, ne_eqb (bit_and c.flags flag_icon) 0 h)
 
 module _ (full : Bool) (x s : List ℕ) (o : RecordOrder) (i : ℕ) (brings : BringsIcon o.flags) {c pointer beside : ℕ} (e : c ≡ cell_at s o.icon) (g : pointer ≡ pointer_for i o.flags)
-    (b : beside ≡ beside_of c pointer) {f : Found} (m : f ≡ free_place x (beside ∷ pointer ∷ [])) where
-  pub take_none : {r : Stepped} → f ≡ Nothing → r ≡ record { number = 17; slot = 48; held = 0 } → StepOutcome full x (plan_in x s o i) r x
+    (b : beside ≡ beside_of c pointer) {f : Option ℕ} (m : f ≡ free_place x (beside ∷ pointer ∷ [])) where
+  pub take_none : {r : Stepped} → f ≡ None → r ≡ record { number = 17; slot = 48; held = 0 } → StepOutcome full x (plan_in x s o i) r x
   take_none q is = steps_refused full x (λ z. omega (arith, z)) is (in_full x s o i e (lacks_none x o.flags c brings.cached) refl g b brings.icon m q)
 
-  module _ {p : ℕ} (q : f ≡ At p) where
+  module _ {p : ℕ} (q : f ≡ Some p) where
     pub take_full : full ≡ true → StepOutcome full x (plan_in x s o i) (record { number = 12; slot = i; held = 0 }) x
     take_full y =
         steps_as full x (in_taken x s o i e (lacks_none x o.flags c brings.cached) refl g b brings.icon m q refl) (steps_full full x (ChangeRecord (change_with o i beside pointer p)) refl y refl)

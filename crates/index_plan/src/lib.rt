@@ -13,7 +13,7 @@ ghost use Rattle.index.specs.Plans.{beside_of, pointer_for, lacks_picture, place
 
 use index::{Change, Place, Plan, RecordOrder};
 use order::{NotificationOrder, Order, WindowOrder};
-use places::{Family, Found};
+use places::Family;
 use protocol::{NotifyIconId, WindowId};
 
 // The cell that an icon or cached icon at index icon names.
@@ -85,21 +85,18 @@ pub fn searched_slot(
     requires { index_length ≤ length index.now }
     ensures { result ≡ place_for index.now family window.id notify.id fresh }
 {
-    let f = slots::find(index, family, window, notify);
-    let w = f.found;
-    match w {
-        Found::At(i) => {
+    match slots::find(index, family, window, notify).found {
+        Some(i) => {
             if fresh {
                 return Place::Not(9);
             }
             Place::Slot(i)
         }
-        Found::Nothing => {
+        None => {
             if !fresh {
                 return Place::Not(9);
             }
-            let g = slots::free(index, family);
-            let Found::At(i) = g else {
+            let Some(i) = slots::free(index, family) else {
                 return Place::Not(10);
             };
             Place::Slot(i)
@@ -175,8 +172,7 @@ fn plan_at(index: &[u8], s: &[u8], o: RecordOrder, fresh: bool, i: usize) -> Pla
     if o.flags & protocol::ICON == 0 {
         return Plan::ChangeRecord(change_at(o, fresh, i, held, pointer, 0));
     }
-    let f = places_free::free_place(index, held, pointer);
-    let Found::At(p) = f else {
+    let Some(p) = places_free::free_place(index, held, pointer) else {
         return Plan::Refuse(17);
     };
     Plan::ChangeRecord(change_at(o, fresh, i, held, pointer, p))

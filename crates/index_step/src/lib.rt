@@ -17,7 +17,7 @@ ghost use Rattle.index.specs.Steps.{change_held, step_of, stepped_of, StepOutcom
 
 use index::{Change, Place, RecordOrder, Stepped};
 use order::Order;
-use places::{Family, Found};
+use places::Family;
 use protocol::{NotifyIconId, WindowId};
 
 // The answer of an order that changes no slot.
@@ -134,8 +134,7 @@ fn at(
             full,
         );
     }
-    let f = places_held::free_place_from(index, beside, pointer, held);
-    let Found::At(p) = f else {
+    let Some(p) = places_held::free_place_from(index, beside, pointer, held) else {
         return no_slot(17);
     };
     carry_out(
@@ -266,8 +265,7 @@ fn take_at(index: &mut [u8], s: &[u8], o: RecordOrder, i: usize, held: u8, full:
     let c = index_plan::cell(s, o.icon);
     let pointer = index_plan::pointer_of(i, o.flags);
     let beside = index_plan::beside(c, pointer);
-    let f = places_held::free_place_from(index, beside, pointer, held);
-    let Found::At(p) = f else {
+    let Some(p) = places_held::free_place_from(index, beside, pointer, held) else {
         return no_slot(17);
     };
     if full {

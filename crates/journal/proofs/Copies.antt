@@ -9,13 +9,13 @@ use lib.Dec.{ltb}
 use borrow.Author.Tests.{ltb-true}
 use lib.ListN.{length, get_or, take, drop}
 use lib.Seq.{take_at}
+use Rattle.std.specs.Prelude.{Option}
 use Rattle.wire.specs.Tests.{pick}
 use Rattle.wire.specs.Numbers.{num_at}
 use Rattle.wire.specs.Parts.{slice, splice}
 use Rattle.wire.proofs.Parts.{length_slice, length_splice, slice_cong, splice_start}
 use Rattle.wire.proofs.Numbers.{num1_is, num_cong}
 use Rattle.places.specs.declared.Family.{Family}
-use Rattle.places.specs.declared.Found.{Found}
 use Rattle.places.specs.Counts.{on_found}
 use Rattle.places.specs.Memory.{places_of, pointer_at, shown_of, shown}
 use Rattle.places.specs.Holder.{Holder, number_of}
@@ -95,14 +95,14 @@ module _ (x y : List ℕ) (agree : take 589 x ≡ take 589 y) where
   pub index_same : index_of y ≡ index_of x
   unfolding index_of
   index_same =
-      same_index (index_of y) (index_of x) (λ f a b. ap (λ (s : Family → ℕ → ℕ → Found). on_found (s f a b) false (λ i. true)) slots_same) many_same
+      same_index (index_of y) (index_of x) (λ f a b. ap (λ (s : Family → ℕ → ℕ → Option ℕ). on_found (s f a b) false (λ i. true)) slots_same) many_same
       (rw (slots_same, still_decode x y still))
 
   slot_ok_lem : (f : Family) (i : ℕ) → Within f i → slot_ok y (start f) (capacity f) (highest f) i ≡ slot_ok x (start f) (capacity f) (highest f) i
   unfolding slot_ok no_pointers
   slot_ok_lem f i w =
       let s = family_slot f i w.low w.high in
-      let e : slot_of y f (first_id x i) (second_id x i) ≡ slot_of x f (first_id x i) (second_id x i) = ap (λ (s : Family → ℕ → ℕ → Found). s f (first_id x i) (second_id x i)) slots_same in
+      let e : slot_of y f (first_id x i) (second_id x i) ≡ slot_of x f (first_id x i) (second_id x i) = ap (λ (s : Family → ℕ → ℕ → Option ℕ). s f (first_id x i) (second_id x i)) slots_same in
       rw (s.used, s.first, s.second, pointers_same, e)
 
   pub sound_same : 589 ≤ length y → sound_index x ≡ true → sound_index y ≡ true
@@ -129,7 +129,7 @@ module _ (x y : List ℕ) (agree : take 589 x ≡ take 589 y) where
   shown_same : (pictures : ℕ → List ℕ) (h : Holder) → shown_in y pictures h ≡ shown_in x pictures h
   unfolding shown
   shown_same pictures h =
-      ap (λ (s : Family → ℕ → ℕ → Found). shown_of (pointer_at y) pictures (number_of s h)) slots_same
+      ap (λ (s : Family → ℕ → ℕ → Option ℕ). shown_of (pointer_at y) pictures (number_of s h)) slots_same
       ∙ ap (λ (ptr : ℕ → ℕ). shown_of ptr pictures (number_of (slot_of x) h)) pointers_same
 
   held_same : (t : Table) (origins : List ℕ) (marked since : ℕ → List ℕ) (ok : ℕ → Bool) → PicturesHeld t x origins marked since ok → PicturesHeld t y origins marked since ok
@@ -153,7 +153,7 @@ module _ (x y : List ℕ) (agree : take 589 x ≡ take 589 y) where
   unfolding decode
   table_same b p =
       same_table (decode y b p) (decode x b p) index_same
-      (λ f a c. ap (λ (s : Family → ℕ → ℕ → Found). on_found (s f a c) [] (λ i. fields_of (field_rows f) 2 (Bodies·slotOf b i))) slots_same)
+      (λ f a c. ap (λ (s : Family → ℕ → ℕ → Option ℕ). on_found (s f a c) [] (λ i. fields_of (field_rows f) 2 (Bodies·slotOf b i))) slots_same)
       (shown_same (picture_at (heads_of b) p)) refl
 
   pub sound_table_same : 589 ≤ length y → (b : List ℕ) (lent : ℕ) → sound_table x b lent ≡ true → sound_table y b lent ≡ true

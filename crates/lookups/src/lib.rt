@@ -26,7 +26,7 @@ ghost use Rattle.session.specs.Handing.{refusal_of, marked_picture, records_held
 use crate::figures::figure_for;
 use figure::Figure;
 use follow::Want;
-use places::{Family, Found};
+use places::Family;
 use protocol::{NotifyIconId, WindowId};
 use replies::{granted, refused};
 use session::{LookupTarget, PictureHolder, Reply};
@@ -57,9 +57,7 @@ fn icon_number(d: &[u8], family: Family, window: WindowId, notify: NotifyIconId,
     requires { (index_length ≤ length d.now) × (w < 3) }
     ensures { result ≡ number_of (slot_of d.now) (icon family window.id notify.id w) }
 {
-    let search = slots::find(d, family, window, notify);
-    let f = search.found;
-    let Found::At(i) = f else {
+    let Some(i) = slots::find(d, family, window, notify).found else {
         return places::HOLDERS;
     };
     places::CELLS + places::ICONS_EACH * i + w
@@ -138,12 +136,7 @@ fn found(d: &[u8], family: Family, window: WindowId, notify: NotifyIconId) -> bo
     requires { index_length ≤ length d.now }
     ensures { result ≡ (index_of d.now).listed family window.id notify.id }
 {
-    let search = slots::find(d, family, window, notify);
-    let f = search.found;
-    match f {
-        Found::At(_) => true,
-        Found::Nothing => false,
-    }
+    slots::find(d, family, window, notify).found.is_some()
 }
 
 // Whether an index lists the target.

@@ -5,7 +5,7 @@ use mathlib.Core.List.{List, [], ◌∷◌}
 use Prim.Native.Nat.{ℕ}
 use lib.Dec.{eqb}
 use lib.ListN.{replicate}
-use Rattle.places.specs.declared.Found.TheVariants.{At, Nothing}
+use Rattle.std.specs.Prelude.{Some, None}
 use Rattle.places.specs.Counts.{count_below, each_below, first_from}
 use Rattle.places.specs.Sharing.{drop, full}
 use Rattle.places.specs.Memory.{places_of, pointer_at, count_at, is_free, used_of, sharing_of, decode, valid}
@@ -33,6 +33,6 @@ example_free : (full eqb (0 ∷ 12 ∷ []) (decode some_memory) ≡ false) × (f
 unfolding some_memory full drop decode sharing_of places_of pointer_at used_of is_free count_at count_below
 example_free = (refl, refl, refl)
 
-example_place : (free_place some_memory (5 ∷ 14 ∷ []) ≡ At 5) × (free_place some_memory (0 ∷ 14 ∷ []) ≡ Nothing)
+example_place : (free_place some_memory (5 ∷ 14 ∷ []) ≡ Some 5) × (free_place some_memory (0 ∷ 14 ∷ []) ≡ None)
 unfolding some_memory free_place first_from places_of pointer_at is_free count_at count_below
 example_place = (refl, refl)

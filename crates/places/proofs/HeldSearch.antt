@@ -9,8 +9,8 @@ use lib.Dec.{eqb, leb, ltb}
 use lib.ListN.{get_or}
 use mir.Val.{bool_byte}
 use borrow.Author.Tests.{eqb-true, eqb-false, eq-eqb, ne_eqb, ltb-true, ltb-false, le-leb}
+use Rattle.std.specs.Prelude.{Some}
 use Rattle.wire.specs.Tests.{pick}
-use Rattle.places.specs.declared.Found.TheVariants.{At}
 use Rattle.places.specs.Sizes.{holder_count}
 use Rattle.places.specs.Counts.{one, count_below}
 use Rattle.places.specs.Memory.{places_of, pointer_at, count_at, is_free, valid}
@@ -136,7 +136,7 @@ module _ (b : List ℕ) (ok : valid b ≡ true) (c q : ℕ) (lc : c < holder_cou
       go false x e = nq e
 
   -- a free place with none before it is the one that the search finds
-  found_at : (p : ℕ) → p < places_of b → is_free holder_count (left b c q) p ≡ true → ((j : ℕ) → j < p → is_free holder_count (left b c q) j ≡ false) → At p ≡ free_place b (c ∷ q ∷ [])
+  found_at : (p : ℕ) → p < places_of b → is_free holder_count (left b c q) p ≡ true → ((j : ℕ) → j < p → is_free holder_count (left b c q) j ≡ false) → Some p ≡ free_place b (c ∷ q ∷ [])
   unfolding free_place
   found_at p l t before = sym (first_is (places_of b) 0 (is_free holder_count (left b c q)) p (omega arith) (omega arith) t (λ j u. before j))
 
@@ -179,17 +179,17 @@ module _ (b : List ℕ) (ok : valid b ≡ true) (c q : ℕ) (lc : c < holder_cou
         let s : j ≡ v - 1 = omega arith in
         rw s (before (omega arith) (omega arith))
 
-    pub first_lower : 0 < x → x ≤ held → {r : Bool} → r ≡ is_free holder_count (left b c q) (x - 1) → r ≡ true → At (x - 1) ≡ free_place b (c ∷ q ∷ [])
+    pub first_lower : 0 < x → x ≤ held → {r : Bool} → r ≡ is_free holder_count (left b c q) (x - 1) → r ≡ true → Some (x - 1) ≡ free_place b (c ∷ q ∷ [])
     first_lower pos l e t =
         found_at (x - 1) (omega (arith, ordered.order, ordered.most)) (sym e ∙ t)
         (λ j u. only_two j (omega arith) (λ z. absurd (omega arith)) (λ z. absurd (omega (arith, ordered.order))))
 
-    pub first_higher : 0 < y → y ≤ held → Passed b c q held x → {r : Bool} → r ≡ is_free holder_count (left b c q) (y - 1) → r ≡ true → At (y - 1) ≡ free_place b (c ∷ q ∷ [])
+    pub first_higher : 0 < y → y ≤ held → Passed b c q held x → {r : Bool} → r ≡ is_free holder_count (left b c q) (y - 1) → r ≡ true → Some (y - 1) ≡ free_place b (c ∷ q ∷ [])
     first_higher pos l px e t =
         found_at (y - 1) (omega (arith, ordered.most)) (sym e ∙ t)
         (λ j u. only_two j (omega arith) (passed-at x j px (omega arith)) (λ z. absurd (omega arith)))
 
-    pub first_after : held < get_or b 0 0 → Passed b c q held x → Passed b c q held y → {r : Bool} → r ≡ is_free holder_count (left b c q) (held + 1 - 1) → r ≡ true → At held ≡ free_place b (c ∷ q ∷ [])
+    pub first_after : held < get_or b 0 0 → Passed b c q held x → Passed b c q held y → {r : Bool} → r ≡ is_free holder_count (left b c q) (held + 1 - 1) → r ≡ true → Some held ≡ free_place b (c ∷ q ∷ [])
     unfolding places_of
     first_after l px py e t =
         let s : held + 1 - 1 ≡ held = omega arith in

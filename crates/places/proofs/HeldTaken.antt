@@ -7,8 +7,8 @@ use Prim.Native.Nat.{ℕ, ◌+◌, ◌<◌}
 use native.Mathlib.Omega.{arith}
 use lib.Dec.{eqb}
 use borrow.Author.Tests.{eqb-true, eqb-false, eq-eqb, ne_eqb}
+use Rattle.std.specs.Prelude.{Some}
 use Rattle.wire.specs.Tests.{pick}
-use Rattle.places.specs.declared.Found.TheVariants.{At}
 use Rattle.places.specs.Sizes.{holder_count}
 use Rattle.places.specs.Sharing.{is_one}
 use Rattle.places.specs.Memory.{places_of, pointer_at, count_at, is_free, valid}
@@ -54,7 +54,7 @@ module _ (b : List ℕ) (cell pointer p : ℕ) (ok : valid b ≡ true) (lc : cel
       taken_is holder_count (pointer_at after) p (omega (arith, e, counted holder_count (pointer_at after) cell lc))
 
   -- before it, who has not let go points there as before
-  before_held : free_place b two ≡ At p → (j : ℕ) → j < p → is_free holder_count (pointer_at after) j ≡ false
+  before_held : free_place b two ≡ Some p → (j : ℕ) → j < p → is_free holder_count (pointer_at after) j ≡ false
   unfolding free_place
   before_held e j l =
       ap (λ (r : ℕ → ℕ). is_free holder_count r j) after_is
@@ -62,7 +62,7 @@ module _ (b : List ℕ) (cell pointer p : ℕ) (ok : valid b ≡ true) (lc : cel
       ∙ ap (λ (r : ℕ → ℕ). is_free holder_count r j) (sym (let_go_is two (pointer_at b)))
       ∙ found_first (places_of b) 0 (is_free holder_count (let_go two (pointer_at b))) p e j (omega arith) l
 
-  pub held_taken : free_place b (cell ∷ pointer ∷ []) ≡ At p → HeldBelow (point_all b (cell ∷ pointer ∷ []) (p + 1)) (p + 1)
+  pub held_taken : free_place b (cell ∷ pointer ∷ []) ≡ Some p → HeldBelow (point_all b (cell ∷ pointer ∷ []) (p + 1)) (p + 1)
   held_taken e j l = go (eqb j p) refl
     where
       go : (t : Bool) → eqb j p ≡ t → is_free holder_count (pointer_at after) j ≡ false

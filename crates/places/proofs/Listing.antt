@@ -6,9 +6,8 @@ use Prim.Native.Nat.{ℕ, zero, suc, ◌+◌, ◌*◌, ◌<◌}
 use native.Mathlib.Omega.{arith}
 use lib.Dec.{eqb, ltb}
 use borrow.Author.Tests.{eqb-true, eq-eqb, ltb-true}
+use Rattle.std.specs.Prelude.{Option, Some, None}
 use Rattle.wire.specs.Tests.{pick, both, either}
-use Rattle.places.specs.declared.Found.{Found}
-use Rattle.places.specs.declared.Found.TheVariants.{At, Nothing}
 use Rattle.places.specs.Counts.{on_found}
 use Rattle.places.specs.Sharing.{is_one, drop_all, cells_only}
 use Rattle.places.specs.Memory.{is_cell, places_of, pointer_at, decode, valid}
@@ -27,7 +26,7 @@ use Rattle.places.proofs.Named.{Slots, cell_number_lem, icon_number_lem, own_ico
 abbrev pub is_record_lem : Family → ℕ → ℕ → Family → ℕ → ℕ → Bool
 is_record_lem f a b g x y = both (same_family g f) (both (eqb x a) (eqb y b))
 
-module _ (slot new : Family → ℕ → ℕ → Found) (m : List ℕ) (f : Family) (a b i : ℕ) (at_i : slot f a b ≡ At i) (gone : new f a b ≡ Nothing)
+module _ (slot new : Family → ℕ → ℕ → Option ℕ) (m : List ℕ) (f : Family) (a b i : ℕ) (at_i : slot f a b ≡ Some i) (gone : new f a b ≡ None)
     (others : (g : Family) (x y : ℕ) → is_record_lem f a b g x y ≡ false → new g x y ≡ slot g x y)
     (empty : (w : ℕ) → w < 3 → pointer_at m (12 + 3 * i + w) ≡ 0) where
   alike : (g : Holder) → pointer_at m (number_of slot g) ≡ pointer_at m (number_of new g)
@@ -62,8 +61,8 @@ unfolding release_of
 releases_point [] m = refl
 releases_point (h ∷ hs) m = releases_point hs (release_of m h)
 
-module _ (slot new : Family → ℕ → ℕ → Found) (slots : Slots slot) (m : List ℕ) (ok : valid m ≡ true) (f : Family) (a b i : ℕ)
-    (at_i : slot f a b ≡ At i) (gone : new f a b ≡ Nothing) (others : (g : Family) (x y : ℕ) → is_record_lem f a b g x y ≡ false → new g x y ≡ slot g x y) where
+module _ (slot new : Family → ℕ → ℕ → Option ℕ) (slots : Slots slot) (m : List ℕ) (ok : valid m ≡ true) (f : Family) (a b i : ℕ)
+    (at_i : slot f a b ≡ Some i) (gone : new f a b ≡ None) (others : (g : Family) (x y : ℕ) → is_record_lem f a b g x y ≡ false → new g x y ≡ slot g x y) where
   abbrev num : Holder → ℕ
   num = number_of slot
 
@@ -127,7 +126,7 @@ module _ (slot new : Family → ℕ → ℕ → Found) (slots : Slots slot) (m :
 
 -- ---- desktop none
 
-pub none_means : (slot : Family → ℕ → ℕ → Found) → Slots slot → (m : List ℕ) → valid m ≡ true
+pub none_means : (slot : Family → ℕ → ℕ → Option ℕ) → Slots slot → (m : List ℕ) → valid m ≡ true
     → keyed (number_of no_slot) (decode (release_records_of m)) ≡ cells_only is_cell_holder cell (keyed (number_of slot) (decode m))
 unfolding number_of
 none_means slot slots m ok =

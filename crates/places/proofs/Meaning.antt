@@ -2,13 +2,12 @@
 use mathlib.Core.Path.{◌≡◌, refl, sym, ap, ◌∙◌, fun_ext}
 use mathlib.Core.Bool.{Bool, true, false}
 use mathlib.Core.List.{List, [], ◌∷◌}
-use Prim.Native.Nat.{ℕ, ◌+◌, ◌-◌, ◌≤◌, ◌<◌}
+use Prim.Native.Nat.{ℕ, ◌+◌, ◌≤◌, ◌<◌}
 use native.Mathlib.Omega.{arith}
 use lib.Dec.{eqb, leb}
 use borrow.Author.Tests.{eqb-true, ne_eqb, leb-true, leb-false}
+use Rattle.std.specs.Prelude.{Option, Some, None}
 use Rattle.wire.specs.Tests.{pick, either}
-use Rattle.places.specs.declared.Found.{Found}
-use Rattle.places.specs.declared.Found.TheVariants.{At, Nothing}
 use Rattle.places.specs.Counts.{on_found}
 use Rattle.places.specs.Sharing.{Sharing, is_one, drop, drop_all, join, fresh, cells_only, full, taken}
 use Rattle.places.specs.Memory.{is_cell, places_of, pointer_at, is_free, used_of, shares_of, sharing_of, decode, valid}
@@ -74,7 +73,7 @@ pub record Free (b hs : List ℕ) (p : ℕ) : Type 0 where
   pub low : p < places_of b
   pub free : is_free 156 (let_go hs (pointer_at b)) p ≡ true
 
-pub found_free : (b hs : List ℕ) (p : ℕ) → free_place b hs ≡ At p → Free b hs p
+pub found_free : (b hs : List ℕ) (p : ℕ) → free_place b hs ≡ Some p → Free b hs p
 unfolding free_place
 found_free b hs p e =
     let r = found (places_of b) 0 (is_free 156 (let_go hs (pointer_at b))) p e in
@@ -114,10 +113,10 @@ module _ (b : List ℕ) (ok : valid b ≡ true) (h : ℕ) (below : h < 156) wher
   unfolding take_of taken
   take_one_means = rw (← full_means b ok (h ∷ []) (holder h below)) (go (free_place b (h ∷ [])) refl)
     where
-      go : (w : Found) → free_place b (h ∷ []) ≡ w → decode (on_found w b (λ p. point_all b (h ∷ []) (p + 1)))
+      go : (w : Option ℕ) → free_place b (h ∷ []) ≡ w → decode (on_found w b (λ p. point_all b (h ∷ []) (p + 1)))
           ≡ pick (on_found w true (λ p. false)) (decode b) (fresh eqb (h ∷ []) (drop_all eqb (h ∷ []) (decode b)))
-      go (At p) e = one_at p (found_free b (h ∷ []) p e)
-      go Nothing e = refl
+      go (Some p) e = one_at p (found_free b (h ∷ []) p e)
+      go None e = refl
 
 -- a cell and a pointer
 module _ (b : List ℕ) (ok : valid b ≡ true) (c q : ℕ) (belowc : c < 156) (belowq : q < 156) (apart : c ≡ q → ⊥) where
@@ -158,10 +157,10 @@ module _ (b : List ℕ) (ok : valid b ≡ true) (c q : ℕ) (belowc : c < 156) (
   unfolding take_of taken
   take_means = rw (← full_means b ok two (holders c q belowc belowq)) (go (free_place b two) refl)
     where
-      go : (w : Found) → free_place b two ≡ w → decode (on_found w b (λ p. point_all b two (p + 1)))
+      go : (w : Option ℕ) → free_place b two ≡ w → decode (on_found w b (λ p. point_all b two (p + 1)))
           ≡ pick (on_found w true (λ p. false)) (decode b) (fresh eqb two (drop_all eqb two (decode b)))
-      go (At p) e = two_at p (found_free b two p e)
-      go Nothing e = refl
+      go (Some p) e = two_at p (found_free b two p e)
+      go None e = refl
 
 -- ---- a cached icon
 
@@ -201,9 +200,9 @@ take_valid b ok c q lc hq lq = go (free_place b (c ∷ q ∷ [])) refl
     others : (d : ℕ) → (d ≡ c → ⊥) → (d ≡ q → ⊥) → is_one eqb (c ∷ q ∷ []) d ≡ false
     others d x y = rw (ne_eqb d c x, ne_eqb d q y)
 
-    go : (w : Found) → free_place b (c ∷ q ∷ []) ≡ w → valid (on_found w b (λ p. point_all b (c ∷ q ∷ []) (p + 1))) ≡ true
-    go Nothing e = ok
-    go (At p) e =
+    go : (w : Option ℕ) → free_place b (c ∷ q ∷ []) ≡ w → valid (on_found w b (λ p. point_all b (c ∷ q ∷ []) (p + 1))) ≡ true
+    go None e = ok
+    go (Some p) e =
         let f = found_free b (c ∷ q ∷ []) p e in
         let e1 = places_point b c (p + 1) in
         let v1 : Valid (point_to b c (p + 1)) =
@@ -216,9 +215,9 @@ pub take_one_valid : (b : List ℕ) → valid b ≡ true → (q : ℕ) → 12 �
 unfolding take_of
 take_one_valid b ok q hq lq = go (free_place b (q ∷ [])) refl
   where
-    go : (w : Found) → free_place b (q ∷ []) ≡ w → valid (on_found w b (λ p. point_all b (q ∷ []) (p + 1))) ≡ true
-    go Nothing e = ok
-    go (At p) e =
+    go : (w : Option ℕ) → free_place b (q ∷ []) ≡ w → valid (on_found w b (λ p. point_all b (q ∷ []) (p + 1))) ≡ true
+    go None e = ok
+    go (Some p) e =
         let f = found_free b (q ∷ []) p e in
         valid_is (point_to b q (p + 1)) (valid_point b q (p + 1) (valid_has b ok) lq (omega (arith, f.low)) (λ d ld lh ne pos x. omega arith))
 

@@ -3,14 +3,13 @@ use mathlib.Core.Path.{◌≡◌, refl, sym, ap, ◌∙◌}
 use mathlib.Core.Bool.{Bool, true, false}
 use mathlib.Core.List.{List, [], ◌∷◌, map}
 use mathlib.Core.Option.{some}
-use Prim.Native.Nat.{ℕ, ◌+◌, ◌*◌, ◌-◌, ◌≤◌, ◌<◌}
+use Prim.Native.Nat.{ℕ, ◌+◌, ◌*◌, ◌≤◌, ◌<◌}
 use native.Mathlib.Omega.{arith}
 use lib.Dec.{eqb, ltb}
 use borrow.Author.Tests.{eqb-true, eq-eqb, ne_eqb, lt-ltb, ltb-true}
+use Rattle.std.specs.Prelude.{Option, Some, None}
 use Rattle.wire.specs.Tests.{pick, both}
 use Rattle.wire.proofs.Tests.{both_left, both_right}
-use Rattle.places.specs.declared.Found.{Found}
-use Rattle.places.specs.declared.Found.TheVariants.{At, Nothing}
 use Rattle.places.specs.Counts.{on_found}
 use Rattle.places.specs.Sharing.{is_one, drop, join, full, taken}
 use Rattle.places.specs.Memory.{decode, valid, shown, with_picture}
@@ -60,12 +59,12 @@ same_holder_lem (icon f a b w) (icon g x y v) e =
 -- ---- numbers
 
 -- what the search for a record's slot says
-pub record Slots (slot : Family → ℕ → ℕ → Found) : Type 0 where
-  pub below : (f : Family) (a b i : ℕ) → slot f a b ≡ At i → i < 48
+pub record Slots (slot : Family → ℕ → ℕ → Option ℕ) : Type 0 where
+  pub below : (f : Family) (a b i : ℕ) → slot f a b ≡ Some i → i < 48
   -- a slot lists one record
-  pub one_record : (f g : Family) (a b x y i : ℕ) → slot f a b ≡ At i → slot g x y ≡ At i → (f ≡ g) × (a ≡ x) × (b ≡ y)
+  pub one_record : (f g : Family) (a b x y i : ℕ) → slot f a b ≡ Some i → slot g x y ≡ Some i → (f ≡ g) × (a ≡ x) × (b ≡ y)
 
-module _ (slot : Family → ℕ → ℕ → Found) (slots : Slots slot) where
+module _ (slot : Family → ℕ → ℕ → Option ℕ) (slots : Slots slot) where
   -- a holder that no other has the number of
   own_by : (h : Holder) → ((g : Holder) → number_of slot g ≡ number_of slot h → g ≡ h) → Own same_holder (number_of slot) h
   own_by h one-to-one g = go (same_holder g h) refl
@@ -83,7 +82,7 @@ module _ (slot : Family → ℕ → ℕ → Found) (slots : Slots slot) where
   unfolding number_of
   cell_number_lem c l = rw (lt-ltb c 12 l)
 
-  pub icon_number_lem : (f : Family) (a b w i : ℕ) → slot f a b ≡ At i → w < 3 → number_of slot (icon f a b w) ≡ 12 + 3 * i + w
+  pub icon_number_lem : (f : Family) (a b w i : ℕ) → slot f a b ≡ Some i → w < 3 → number_of slot (icon f a b w) ≡ 12 + 3 * i + w
   unfolding number_of
   icon_number_lem f a b w i e l = rw (e, lt-ltb w 3 l)
 
@@ -96,15 +95,15 @@ module _ (slot : Family → ℕ → ℕ → Found) (slots : Slots slot) where
       go true x y = let k = ltb-true c 12 x in (y, omega arith)
       go false x y = absurd (omega arith)
 
-  from_icon : (f : Family) (a b w n : ℕ) → number_of slot (icon f a b w) ≡ n → n < 156 → (i : ℕ) × (slot f a b ≡ At i) × (w < 3) × (n ≡ 12 + 3 * i + w)
+  from_icon : (f : Family) (a b w n : ℕ) → number_of slot (icon f a b w) ≡ n → n < 156 → (i : ℕ) × (slot f a b ≡ Some i) × (w < 3) × (n ≡ 12 + 3 * i + w)
   unfolding number_of
   from_icon f a b w n e l = go (slot f a b) (ltb w 3) refl refl e
     where
-      go : (s : Found) (t : Bool) → slot f a b ≡ s → ltb w 3 ≡ t → on_found s 156 (λ i. pick t (12 + 3 * i + w) 156) ≡ n
-          → (i : ℕ) × (slot f a b ≡ At i) × (w < 3) × (n ≡ 12 + 3 * i + w)
-      go (At i) true x y z = (i, x, ltb-true w 3 y, sym z)
-      go (At i) false x y z = absurd (omega arith)
-      go Nothing t x y z = absurd (omega arith)
+      go : (s : Option ℕ) (t : Bool) → slot f a b ≡ s → ltb w 3 ≡ t → on_found s 156 (λ i. pick t (12 + 3 * i + w) 156) ≡ n
+          → (i : ℕ) × (slot f a b ≡ Some i) × (w < 3) × (n ≡ 12 + 3 * i + w)
+      go (Some i) true x y z = (i, x, ltb-true w 3 y, sym z)
+      go (Some i) false x y z = absurd (omega arith)
+      go None t x y z = absurd (omega arith)
 
   pub own_cell : (c : ℕ) → c < 12 → Own same_holder (number_of slot) (cell c)
   own_cell c l = own_by (cell c) go
@@ -115,7 +114,7 @@ module _ (slot : Family → ℕ → ℕ → Found) (slots : Slots slot) where
           let r = from_icon f a b w c (e ∙ cell_number_lem c l) (omega arith) in
           absurd (omega (arith, r.3))
 
-  pub own_icon : (f : Family) (a b w i : ℕ) → slot f a b ≡ At i → w < 3 → Own same_holder (number_of slot) (icon f a b w)
+  pub own_icon : (f : Family) (a b w i : ℕ) → slot f a b ≡ Some i → w < 3 → Own same_holder (number_of slot) (icon f a b w)
   own_icon f a b w i at_i l = own_by (icon f a b w) go
     where
       n : number_of slot (icon f a b w) ≡ 12 + 3 * i + w
@@ -130,13 +129,13 @@ module _ (slot : Family → ℕ → ℕ → Found) (slots : Slots slot) where
           let r = from_icon g x y v (12 + 3 * i + w) (e ∙ n) small in
           let ij : r.0 ≡ i = omega (arith, r.2, r.3) in
           let ev : v ≡ w = omega (arith, r.2, r.3) in
-          let s : slot g x y ≡ At i = r.1 ∙ ap At ij in
+          let s : slot g x y ≡ Some i = r.1 ∙ ap Some ij in
           let o = slots.one_record g f x y a b i s at_i in
           rw (o.0, o.1, o.2, ev)
 
   -- ---- the changes of a memory, by ids
 
-  module _ (m : List ℕ) (ok : valid m ≡ true) (f : Family) (a b w i : ℕ) (at_i : slot f a b ≡ At i) (lw : w < 3) where
+  module _ (m : List ℕ) (ok : valid m ≡ true) (f : Family) (a b w i : ℕ) (at_i : slot f a b ≡ Some i) (lw : w < 3) where
     abbrev num : Holder → ℕ
     num = number_of slot
 
@@ -187,7 +186,7 @@ module _ (slot : Family → ℕ → ℕ → Found) (slots : Slots slot) where
       icon_full = full_means m ok (map num hs) (holders (num (cell c)) (num own) low-holder high.1) ∙ keyed_full same_holder num hs owns (decode m)
 
       -- it changes what no other holder shows
-      pub icon_shown : (p : ℕ) → free_place m (map num hs) ≡ At p → (pictures : ℕ → List ℕ) (x : List ℕ) (g : Holder)
+      pub icon_shown : (p : ℕ) → free_place m (map num hs) ≡ Some p → (pictures : ℕ → List ℕ) (x : List ℕ) (g : Holder)
           → shown (take_of m (map num hs)) (with_picture pictures p x) (num g) ≡ pick (is_one same_holder hs g) (some x) (shown m pictures (num g))
       icon_shown p at_p pictures x g =
           take_shown m ok (map num hs) (holders (num (cell c)) (num own) low-holder high.1) p at_p pictures x (num g)

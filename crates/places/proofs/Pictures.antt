@@ -7,8 +7,8 @@ use Prim.Native.Nat.{ℕ, ◌+◌, ◌-◌, ◌<◌}
 use native.Mathlib.Omega.{arith}
 use lib.Dec.{eqb}
 use borrow.Author.Tests.{eqb-false, eq-eqb, ne_eqb}
+use Rattle.std.specs.Prelude.{Some}
 use Rattle.wire.specs.Tests.{pick}
-use Rattle.places.specs.declared.Found.TheVariants.{At}
 use Rattle.places.specs.Sharing.{is_one}
 use Rattle.places.specs.Memory.{is_cell, pointer_at, valid, shown_of, shown, with_picture}
 use Rattle.places.specs.Changes.{point_all, free_place, take_of, share_of, release_of, release_records_of}
@@ -17,7 +17,7 @@ use Rattle.places.proofs.Validity.{valid_has}
 use Rattle.places.proofs.Meaning.{Free, found_free, found_alone}
 
 -- a new picture at a place that only its holders have changes what no other holder shows
-module _ (b : List ℕ) (ok : valid b ≡ true) (hs : List ℕ) (all : Holders hs) (p : ℕ) (at_p : free_place b hs ≡ At p) (pictures : ℕ → List ℕ) (x : List ℕ) where
+module _ (b : List ℕ) (ok : valid b ≡ true) (hs : List ℕ) (all : Holders hs) (p : ℕ) (at_p : free_place b hs ≡ Some p) (pictures : ℕ → List ℕ) (x : List ℕ) where
   free : Free b hs p
   free = found_free b hs p at_p
 

@@ -8,14 +8,13 @@ use lib.Dec.{eqb, ltb}
 use lib.ListN.{length, get_or, set, take, drop, replicate, length-set, length-replicate, get_or-eq_default}
 use lib.Seq.{get_or-set_same, get_or-set_other, drop-length}
 use borrow.Author.Tests.{eqb-true, eqb-false, eq-eqb, ne_eqb, ltb-true, ltb-false}
+use Rattle.std.specs.Prelude.{Option, Some, None}
 use Rattle.wire.specs.Tests.{pick, both}
 use Rattle.wire.specs.Numbers.{num_at}
 use Rattle.wire.specs.Parts.{slice, splice}
 use Rattle.wire.proofs.Parts.{length_slice, splice_start}
 use Rattle.wire.proofs.Tests.{both_left, both_right}
 use Rattle.wire.proofs.Numbers.{num1_is, num4_is, num_slice, num_zeros}
-use Rattle.places.specs.declared.Found.{Found}
-use Rattle.places.specs.declared.Found.TheVariants.{At, Nothing}
 use Rattle.places.specs.Counts.{one, count_below, first_from}
 use Rattle.places.specs.Sharing.{is_one}
 use Rattle.places.specs.Memory.{places_of, pointer_at, count_at, is_free, valid}
@@ -95,7 +94,7 @@ first_start test n = let e : n - 0 ≡ n = omega arith in rw e
 
 module _ (test : ℕ → Bool) (end i : ℕ) where
   module _ (more : i < end) where
-    pub first_here : test i ≡ true → first_from (end - i) i test ≡ At i
+    pub first_here : test i ≡ true → first_from (end - i) i test ≡ Some i
     unfolding first_from
     first_here t = let n : end - i ≡ suc (end - (i + 1)) = omega arith in rw (n, t)
 
@@ -103,7 +102,7 @@ module _ (test : ℕ → Bool) (end i : ℕ) where
     unfolding first_from
     first_next t = let n : end - i ≡ suc (end - (i + 1)) = omega arith in rw (n, t)
 
-  pub first_none : end ≤ i → first_from (end - i) i test ≡ Nothing
+  pub first_none : end ≤ i → first_from (end - i) i test ≡ None
   unfolding first_from
   first_none over = let n : end - i ≡ 0 = omega arith in rw n
 
@@ -178,7 +177,7 @@ module _ (b : List ℕ) (long : 157 ≤ length b) where
         go v false = omega (arith, v.within h, v.many)
 
     -- the search over the marks is the search for a free place
-    pub free_found : valid b ≡ true → (ms : List ℕ) → Marked (λ h. get_or (set (set x c 0) q 0) h 0) 156 ms → {r : Found}
+    pub free_found : valid b ≡ true → (ms : List ℕ) → Marked (λ h. get_or (set (set x c 0) q 0) h 0) 156 ms → {r : Option ℕ}
         → r ≡ first_from (get_or b 0 0) 0 (λ p. eqb (get_or ms (p + 1) 0) 0) → r ≡ free_place b (c ∷ q ∷ [])
     unfolding free_place places_of is_free
     free_found ok ms marked s =
@@ -190,7 +189,7 @@ module _ (b : List ℕ) (long : 157 ≤ length b) where
 -- ---- an icon
 
 -- one holder lets go once
-pub free_once : (b : List ℕ) (q : ℕ) {f : Found} → f ≡ free_place b (q ∷ q ∷ []) → f ≡ free_place b (q ∷ [])
+pub free_once : (b : List ℕ) (q : ℕ) {f : Option ℕ} → f ≡ free_place b (q ∷ q ∷ []) → f ≡ free_place b (q ∷ [])
 unfolding free_place
 free_once b q e = e ∙ ap (λ (r : ℕ → ℕ). first_from (places_of b) 0 (is_free 156 r)) (put_put (pointer_at b) q 0 0)
 

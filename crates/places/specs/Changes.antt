@@ -1,8 +1,7 @@
 -- What orders change in the memory of the holders. Assumes nothing.
-use Rattle.std.specs.Prelude.{ℕ, ◌+◌, List, [], ◌∷◌, eqb, set, replicate}
+use Rattle.std.specs.Prelude.{ℕ, ◌+◌, List, [], ◌∷◌, eqb, set, replicate, Option}
 use Rattle.wire.specs.Tests.{pick}
 use Rattle.wire.specs.Parts.{splice}
-use Rattle.places.specs.declared.Found.{Found}
 use Rattle.places.specs.Counts.{first_from, on_found}
 use Rattle.places.specs.Sizes.{holder_count, icon_count, icons_at}
 use Rattle.places.specs.Memory.{places_of, pointer_at, is_free}
@@ -23,7 +22,7 @@ point_all b [] v = b
 point_all b (h ∷ hs) v = point_all (point_to b h v) hs v
 
 -- the first place that nobody but these holders points at
-unfoldable pub free_place : List ℕ → List ℕ → Found
+unfoldable pub free_place : List ℕ → List ℕ → Option ℕ
 free_place b hs = first_from (places_of b) 0 (is_free holder_count (let_go hs (pointer_at b)))
 
 -- an icon: its holders, its cell and its pointer or the pointer alone, take that place; where there is none, nothing changes

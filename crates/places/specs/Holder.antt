@@ -1,10 +1,8 @@
 -- The holders of a table by their ids, and the numbers under which its memory keeps them. Assumes nothing.
-use Rattle.std.specs.Prelude.{ℕ, ◌+◌, ◌*◌, Bool, true, false, List, [], ◌∷◌, eqb, ltb}
+use Rattle.std.specs.Prelude.{ℕ, ◌+◌, ◌*◌, Bool, true, false, List, [], ◌∷◌, eqb, ltb, Option, None}
 use Rattle.wire.specs.Tests.{pick, both}
-use Rattle.places.specs.declared.Found.{Found}
 use Rattle.places.specs.declared.Family.{Family}
 use Rattle.places.specs.declared.Family.TheVariants.{Windows, Notifications}
-use Rattle.places.specs.declared.Found.TheVariants.{Nothing}
 use Rattle.places.specs.Counts.{on_found}
 use Rattle.places.specs.Sizes.{cell_count, icons_each, holder_count}
 
@@ -30,7 +28,7 @@ abbrev pub icon_number : ℕ → ℕ → ℕ
 icon_number i w = cell_count + icons_each * i + w
 
 -- by the slot in which a record is listed; a holder that is not kept has a number that is no holder's
-unfoldable pub number_of : (Family → ℕ → ℕ → Found) → Holder → ℕ
+unfoldable pub number_of : (Family → ℕ → ℕ → Option ℕ) → Holder → ℕ
 number_of slot (cell c) = pick (ltb c cell_count) c holder_count
 number_of slot (icon f a b w) = on_found (slot f a b) holder_count (λ i. pick (ltb w icons_each) (icon_number i w) holder_count)
 
@@ -43,5 +41,5 @@ abbrev pub icons_of : Family → ℕ → ℕ → List Holder
 icons_of f a b = icon f a b 0 ∷ icon f a b 1 ∷ icon f a b 2 ∷ []
 
 -- no record is listed
-abbrev pub no_slot : Family → ℕ → ℕ → Found
-no_slot f a b = Nothing
+abbrev pub no_slot : Family → ℕ → ℕ → Option ℕ
+no_slot f a b = None

@@ -32,9 +32,3 @@ pub enum Family {
     Windows,
     Notifications,
 }
-
-#[derive(Clone, Copy)]
-pub enum Found {
-    At(usize),
-    Nothing,
-}

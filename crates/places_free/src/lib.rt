@@ -8,8 +8,6 @@ ghost use Rattle.places.specs.Memory.{pointer_at, valid};
 ghost use Rattle.places.specs.Marks.{none_of, Marked};
 ghost use Rattle.places.specs.Changes.{free_place};
 
-use places::Found;
-
 // Pointers are marked by groups, the cells and the icons of four records each: where all of a group are none, one test passes them.
 const GROUP: usize = 12;
 
@@ -67,7 +65,7 @@ pub fn marks(bytes: &[u8]) -> [u8; places::POINTERS]
 }
 
 // The first of n places whose pointer has no mark.
-fn first_unmarked(marks: &[u8; places::POINTERS], n: u8) -> Found
+fn first_unmarked(marks: &[u8; places::POINTERS], n: u8) -> Option<usize>
     requires { n ≤ most_places }
     ensures { result ≡ first_from n 0 (λ p. eqb (get_or marks.now (p + 1) 0) 0) }
 {
@@ -75,15 +73,15 @@ fn first_unmarked(marks: &[u8; places::POINTERS], n: u8) -> Found
     let mut p = 0;
     while p < end {
         if marks[p + 1] == 0 {
-            return Found::At(p);
+            return Some(p);
         }
         p += 1;
     }
-    Found::Nothing
+    None
 }
 
 // The first place that nobody but these two points at.
-pub fn free_place(bytes: &[u8], cell: usize, pointer: usize) -> Found
+pub fn free_place(bytes: &[u8], cell: usize, pointer: usize) -> Option<usize>
     requires { (valid bytes.now ≡ true) × (cell < holder_count) × (pointer < holder_count) }
     ensures { result ≡ free_place bytes.now (cell ∷ pointer ∷ []) }
 {

@@ -8,8 +8,6 @@ ghost use Rattle.places.specs.Memory.{pointer_at, count_at, is_free, valid};
 ghost use Rattle.places.specs.Held.{HeldBelow};
 ghost use Rattle.places.specs.Changes.{let_go, free_place};
 
-use places::Found;
-
 fn smaller(a: u8, b: u8) -> u8
     ensures { result ≡ pick (ltb a b) a b }
 {
@@ -42,7 +40,7 @@ fn is_theirs(bytes: &[u8], cell: usize, pointer: usize, v: u8) -> bool
 
 // The first place that nobody but these two points at, where the first `held` places are all pointed at: of those only the
 // two's own are looked at, the lower one first, then the next place; all pointers are marked only where none of these is free.
-pub fn free_place_from(bytes: &[u8], cell: usize, pointer: usize, held: u8) -> Found
+pub fn free_place_from(bytes: &[u8], cell: usize, pointer: usize, held: u8) -> Option<usize>
     requires bytes_value { (valid bytes.now ≡ true) × (cell < holder_count) × (pointer < holder_count) }
     requires held_below { HeldBelow bytes.now held }
     ensures { result ≡ free_place bytes.now (cell ∷ pointer ∷ []) }
@@ -56,17 +54,17 @@ pub fn free_place_from(bytes: &[u8], cell: usize, pointer: usize, held: u8) -> F
     let y = places_valid::larger(a, b);
     if (x != 0) & (x <= held) {
         if is_theirs(bytes, cell, pointer, x) {
-            return Found::At(x as usize - 1);
+            return Some(x as usize - 1);
         }
     }
     if (x != y) & (y <= held) {
         if is_theirs(bytes, cell, pointer, y) {
-            return Found::At(y as usize - 1);
+            return Some(y as usize - 1);
         }
     }
     if held < bytes[0] {
         if is_theirs(bytes, cell, pointer, held + 1) {
-            return Found::At(held as usize);
+            return Some(held as usize);
         }
     }
     places_free::free_place(bytes, cell, pointer)

@@ -8,13 +8,12 @@ use native.Mathlib.Omega.{arith}
 use mir.Val.{bool_byte}
 use lib.ListN.{replicate}
 use borrow.Author.Tests.{eq-eqb, ne_eqb}
+use Rattle.std.specs.Prelude.{Option, Some, None}
 use Rattle.wire.specs.Tests.{pick}
 use Rattle.wire.specs.Numbers.{num_at, Bytes}
 use Rattle.wire.proofs.Parts.{length_zeros}
 use Rattle.protocol.specs.declared.WindowId.{WindowId}
 use Rattle.places.specs.declared.Family.TheVariants as family
-use Rattle.places.specs.declared.Found.{Found}
-use Rattle.places.specs.declared.Found.TheVariants.{At, Nothing}
 use Rattle.places.specs.Counts.{on_found}
 use Rattle.places.proofs.Counting.{found}
 use Rattle.slots.specs.Families.{index_length, slot_at}
@@ -32,7 +31,6 @@ use Rattle.figure.specs.Figure.{is_shown, pixels_of, id_end, of_window, figure_b
 use Rattle.figure.proofs.FigureSums.{counts}
 use Rattle.figure.proofs.FigureIds.{ids_slots}
 use Rattle.table.specs.Table.{Table}
-use Rattle.std.specs.Prelude.{Some}
 use Rattle.follow.specs.declared.Want.TheVariants as want
 use Rattle.follow.specs.Follow.{record_room, held_slot, Holds}
 use Rattle.journal.specs.State.{present}
@@ -80,11 +78,11 @@ module _ (m : Memory) (x : List ℕ) (journal : Bytes m.journal) (met : meets_ru
     by_id : (id : ℕ) → on_found (slot_of x family.Windows id 0) 0 (λ i. f (held (first_id x i))) ≡ of_window f (window_in table id)
     by_id id = go (slot_of x family.Windows id 0) refl
       where
-        go : (r : Found) → slot_of x family.Windows id 0 ≡ r → on_found r 0 (λ i. f (held (first_id x i))) ≡ of_window f (window_in table id)
-        go Nothing e =
+        go : (r : Option ℕ) → slot_of x family.Windows id 0 ≡ r → on_found r 0 (λ i. f (held (first_id x i))) ≡ of_window f (window_in table id)
+        go None e =
             let l : table.index.listed family.Windows id 0 ≡ false = listed_is id ∙ rw e in
             rw l
-        go (At i) e =
+        go (Some i) e =
             let l : table.index.listed family.Windows id 0 ≡ true = listed_is id ∙ rw e in
             ap (λ (k : ℕ). f (held k)) (at_has x id 0 i (found 32 0 (is_at x id 0) i e).2).first ∙ some-held id l
 

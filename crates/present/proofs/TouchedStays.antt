@@ -7,7 +7,7 @@ use native.Mathlib.Omega.{arith}
 use lib.Dec.{eqb, ltb}
 use lib.ListN.{length, replicate, take, drop}
 use borrow.Author.Tests.{eq-eqb, ne_eqb, lt-ltb, le-ltb}
-use Rattle.std.specs.Prelude.{Ok, Err}
+use Rattle.std.specs.Prelude.{Ok, Err, Option, Some, None}
 use Rattle.wire.specs.Tests.{pick}
 use Rattle.wire.specs.Numbers.{num_at, Bytes}
 use Rattle.wire.specs.Parts.{slice, splice}
@@ -19,8 +19,6 @@ use Rattle.order.specs.Judge.{Judged, flags_of, judge_of}
 use Rattle.order.proofs.Accepted.{a_window}
 use Rattle.protocol.specs.declared.WindowId.{WindowId}
 use Rattle.places.specs.declared.Family.TheVariants as family
-use Rattle.places.specs.declared.Found.{Found}
-use Rattle.places.specs.declared.Found.TheVariants.{At, Nothing}
 use Rattle.places.specs.Counts.{on_found}
 use Rattle.slots.specs.declared.Searched.{Searched}
 use Rattle.slots.specs.Families.{index_length, same_record}
@@ -42,7 +40,6 @@ use Rattle.figure.specs.declared.Figure.{Figure}
 use Rattle.figure.specs.Figure.{pixels_of}
 use Rattle.table.specs.Changes.{Follows}
 use Rattle.table.proofs.Able.{plan_follows}
-use Rattle.std.specs.Prelude.{Some}
 use Rattle.follow.specs.declared.Want.TheVariants as want
 use Rattle.follow.specs.Follow.{slot_room, record_room, held_slot, is_for, slot_followed, origins_followed, record_followed, followed_of, begin_record, begin_of}
 use Rattle.follow.proofs.Origins.{followed_before}
@@ -70,11 +67,11 @@ module _ (id : ℕ) (d s : List ℕ) where
   unfolding plan_record plan_at Other
   record_other o e = placed (slot_for d o)
     where
-      at_place : (i : ℕ) (f : Found) → Other id (on_found f (Refuse 17) (λ p. ChangeRecord (change_of s o i p)))
-      at_place i (At p) = e
-      at_place i Nothing = tt
+      at_place : (i : ℕ) (f : Option ℕ) → Other id (on_found f (Refuse 17) (λ p. ChangeRecord (change_of s o i p)))
+      at_place i (Some p) = e
+      at_place i None = tt
 
-      at_slot : (i : ℕ) (t : Bool) (f : Found) → Other id (pick t (on_found f (Refuse 17) (λ p. ChangeRecord (change_of s o i p))) (ChangeRecord (change_of s o i 0)))
+      at_slot : (i : ℕ) (t : Bool) (f : Option ℕ) → Other id (pick t (on_found f (Refuse 17) (λ p. ChangeRecord (change_of s o i p))) (ChangeRecord (change_of s o i 0)))
       at_slot i true f = at_place i f
       at_slot i false f = e
 
@@ -207,7 +204,7 @@ module _ (id : ℕ) (j : List ℕ) {count p i : ℕ} (g : TouchInv id j count p 
 
 -- no order is for the window that slot i of the mark has: its figure is that of the slot
 pub marked_figure : (index bodies journal : List ℕ) (n : ℕ) (w : WindowId) (i : ℕ) {r : Figure} → sound_index index ≡ true → 61012 ≤ length bodies → Bytes journal
-    → touched_from w.id n log_start journal ≡ false → slots.slot_of index family.Windows w.id 0 ≡ At i
+    → touched_from w.id n log_start journal ≡ false → slots.slot_of index family.Windows w.id 0 ≡ Some i
     → FigureIs r (shown_one (body_of window_fields (slot_of bodies i))) (pixels_of (body_of window_fields (slot_of bodies i)))
     → FigureIs r (shown_one (window_held index bodies journal n w)) (pixels_of (window_held index bodies journal n w))
 unfolding window_held from_mark begin_of
@@ -218,7 +215,7 @@ marked_figure index bodies journal n w i sound big bytes t at f =
     let whole : sound_index copy ≡ true = copy_sound index (replicate index_length 0) sound (length_zeros index_length) refl in
     let e =
     stays w n log_start journal copy (begin_of (Some (want.Window w)) index bodies zeros) bytes whole (record_length family.Windows bodies zeros long (slots.slot_of index family.Windows w.id 0)) t
-    ∙ ap (λ (x : Found). held_slot family.Windows (begin_record family.Windows x bodies zeros)) at
+    ∙ ap (λ (x : Option ℕ). held_slot family.Windows (begin_record family.Windows x bodies zeros)) at
     ∙ slot_begun family.Windows bodies zeros long i (found_within family.Windows index w.id 0 i at) big in
     record {
       windows = f.windows ∙ ap (λ (x : List ℕ). shown_one (body_of window_fields x)) (sym e);
@@ -239,8 +236,8 @@ slot_part bodies i {from} below big is =
     )
 
 -- what the search in the mark's index finds
-pub found_slot : (x : List ℕ) (id i : ℕ) {s : Searched} → s ≡ slots.search_of x family.Windows id 0 → s.found ≡ At i
-    → (i < 32) × (slots.slot_of x family.Windows id 0 ≡ At i)
+pub found_slot : (x : List ℕ) (id i : ℕ) {s : Searched} → s ≡ slots.search_of x family.Windows id 0 → s.found ≡ Some i
+    → (i < 32) × (slots.slot_of x family.Windows id 0 ≡ Some i)
 found_slot x id i h e =
     let k = found_is (slots.is_at x id 0) 0 32 h e in
     (omega (arith, (found_within family.Windows x id 0 i k).high), k)

@@ -13,7 +13,7 @@ ghost use Rattle.present.specs.Touched.{is_order_for, touched_from};
 
 use figure::Figure;
 use follow::Want;
-use places::{Family, Found};
+use places::Family;
 use protocol::{NotifyIconId, WindowId};
 
 // An order for the window of an id.
@@ -96,9 +96,7 @@ fn window_held(index: &[u8], bodies: &[u8], journal: &[u8], count: usize, w: Win
     if is_touched(journal, count, w) {
         return window_followed(index, bodies, journal, count, w);
     }
-    let search = slots::find(index, Family::Windows, w, NotifyIconId { id: 0 });
-    let found = search.found;
-    let Found::At(i) = found else {
+    let Some(i) = slots::find(index, Family::Windows, w, NotifyIconId { id: 0 }).found else {
         return window_followed(index, bodies, journal, count, w);
     };
     window_marked(bodies, i)

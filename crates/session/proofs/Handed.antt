@@ -10,6 +10,7 @@ use lib.Dec.{eqb, ltb}
 use lib.ListN.{length, take, drop, length-append}
 use lib.Seq.{drop-drop}
 use borrow.Author.Tests.{lt-ltb, ltb-true, not-true}
+use Rattle.std.specs.Prelude.{Option as StdOption, None, Some}
 use Rattle.wire.specs.Tests.{pick}
 use Rattle.wire.specs.Numbers.{bytes_of}
 use Rattle.wire.specs.Parts.{slice, splice}
@@ -20,8 +21,6 @@ use Rattle.protocol.specs.declared.WindowId.{WindowId}
 use Rattle.protocol.specs.declared.NotifyIconId.{NotifyIconId}
 use Rattle.places.specs.declared.Family.{Family}
 use Rattle.places.specs.declared.Family.TheVariants as family
-use Rattle.places.specs.declared.Found.{Found}
-use Rattle.places.specs.declared.Found.TheVariants.{Nothing, At}
 use Rattle.places.specs.Counts.{on_found}
 use Rattle.places.specs.Sizes.{cell_count, holder_count}
 use Rattle.places.specs.Memory.{pointer_at, shown_of, shown}
@@ -216,19 +215,19 @@ pub icon_in : (x : List ℕ) (f : Family) (a b w : ℕ) → (index_of x).listed 
 unfolding index_of number_of
 icon_in x f a b w e l is = omega (arith, is, go (slot_of x f a b) refl e)
   where
-    go : (r : Found) → slot_of x f a b ≡ r → on_found r false (λ i. true) ≡ true → on_found r holder_count (λ i. pick (ltb w 3) (icon_number i w) holder_count) < holder_count
-    go Nothing s e = never e
-    go (At i) s e = let h = slot_below x f a b i s in rw (lt-ltb w 3 l) (omega arith)
+    go : (r : StdOption ℕ) → slot_of x f a b ≡ r → on_found r false (λ i. true) ≡ true → on_found r holder_count (λ i. pick (ltb w 3) (icon_number i w) holder_count) < holder_count
+    go None s e = never e
+    go (Some i) s e = let h = slot_below x f a b i s in rw (lt-ltb w 3 l) (omega arith)
 
 -- the icons of a record follow each other
 icon_after : (x : List ℕ) (f : Family) (a b k : ℕ) → (index_of x).listed f a b ≡ true → k < 3 → {n : ℕ} → n ≡ number_of (slot_of x) (icon f a b 0) → n + k ≡ number_of (slot_of x) (icon f a b k)
 unfolding index_of number_of
 icon_after x f a b k e l is = ap (λ (n : ℕ). n + k) is ∙ go (slot_of x f a b) e
   where
-    go : (r : Found) → on_found r false (λ i. true) ≡ true
+    go : (r : StdOption ℕ) → on_found r false (λ i. true) ≡ true
         → on_found r holder_count (λ i. pick (ltb 0 3) (icon_number i 0) holder_count) + k ≡ on_found r holder_count (λ i. pick (ltb k 3) (icon_number i k) holder_count)
-    go Nothing e = never e
-    go (At i) e = rw (lt-ltb k 3 l) (omega arith)
+    go None e = never e
+    go (Some i) e = rw (lt-ltb k 3 l) (omega arith)
 
 module _ (x : List ℕ) (c : ℕ) (listed : (index_of x).sharing.shares (cell c) (cell c) ≡ true) where
   abbrev pointer : ℕ

@@ -11,13 +11,12 @@ use types.Run.{OneOf}
 use lib.Dec.{eqb}
 use lib.ListN.{get_or}
 use borrow.Author.Tests.{lt-ltb, le-ltb}
+use Rattle.std.specs.Prelude.{Option, Some, None, is_some}
 use Rattle.wire.specs.Tests.{both}
 use Rattle.protocol.specs.declared.WindowId.{WindowId}
 use Rattle.protocol.specs.declared.NotifyIconId.{NotifyIconId}
 use Rattle.places.specs.declared.Family.{Family}
 use Rattle.places.specs.declared.Family.TheVariants as family
-use Rattle.places.specs.declared.Found.{Found}
-use Rattle.places.specs.declared.Found.TheVariants.{At}
 use Rattle.places.specs.Counts.{on_found}
 use Rattle.places.specs.Sizes.{cell_count, holder_count}
 use Rattle.places.specs.Memory.{pointer_at, shares_of, sharing_of, decode}
@@ -84,23 +83,27 @@ figure_other x index bodies journal n (Shares g h) k = refl
 -- ---- holders by their numbers
 
 module _ (d : List ℕ) where
-  module _ (f : Family) (a b : ℕ) {s : Searched} {h : Found} (searched : s ≡ search_of d f a b) (found : s.found ≡ h) where
+  module _ (f : Family) (a b : ℕ) {s : Searched} {h : Option ℕ} (searched : s ≡ search_of d f a b) (found : s.found ≡ h) where
     slot_is : slot_of d f a b ≡ h
     slot_is = found_is (is_at d a b) (start f) (capacity f) searched found
 
-    pub listed_found : on_found h false (λ i. true) ≡ (index_of d).listed f a b
+    pub listed_found : is_some h ≡ (index_of d).listed f a b
     unfolding index_of
-    listed_found = ap (λ (r : Found). on_found r false (λ i. true)) (sym slot_is)
+    listed_found = go h ∙ ap (λ (r : Option ℕ). on_found r false (λ i. true)) (sym slot_is)
+      where
+        go : (r : Option ℕ) → is_some r ≡ on_found r false (λ i. true)
+        go (Some i) = refl
+        go None = refl
 
     pub icon_found : (w : ℕ) → w < 3 → on_found h holder_count (λ i. icon_number i w) ≡ number_of (slot_of d) (icon f a b w)
     unfolding number_of
-    icon_found w l = rw (lt-ltb w 3 l) (ap (λ (r : Found). on_found r holder_count (λ i. icon_number i w)) (sym slot_is))
+    icon_found w l = rw (lt-ltb w 3 l) (ap (λ (r : Option ℕ). on_found r holder_count (λ i. icon_number i w)) (sym slot_is))
 
-  pub slot_below : (f : Family) (a b i : ℕ) → slot_of d f a b ≡ At i → i < 48
+  pub slot_below : (f : Family) (a b i : ℕ) → slot_of d f a b ≡ Some i → i < 48
   slot_below family.Windows a b i e = omega (arith, (found_within family.Windows d a b i e).high)
   slot_below family.Notifications a b i e = omega (arith, (found_within family.Notifications d a b i e).high)
 
-  pub icon_below : (f : Family) (a b : ℕ) {s : Searched} {i : ℕ} → s ≡ search_of d f a b → s.found ≡ At i → i < 48
+  pub icon_below : (f : Family) (a b : ℕ) {s : Searched} {i : ℕ} → s ≡ search_of d f a b → s.found ≡ Some i → i < 48
   icon_below f a b {i = i} e g = slot_below f a b i (slot_is f a b e g)
 
   cell_kept : (c : ℕ) → c < cell_count → c ≡ number_of (slot_of d) (cell c)

@@ -6,7 +6,7 @@ use mathlib.Core.List.{List, [], ◌∷◌}
 use native.Mathlib.Omega.{arith}
 use lib.Dec.{eqb}
 use borrow.Author.Tests.{eqb-true, eqb-false, eq-eqb}
-use Rattle.std.specs.Prelude.{Ok, Err}
+use Rattle.std.specs.Prelude.{Ok, Err, Option, Some, None}
 use Rattle.wire.specs.Tests.{pick, both, either, has}
 use Rattle.order.specs.declared.WindowOrder.{WindowOrder}
 use Rattle.order.specs.declared.NotificationOrder.{NotificationOrder}
@@ -15,8 +15,6 @@ use Rattle.order.specs.Judge.{Judged, flags_of, judge_of}
 use Rattle.order.proofs.Accepted.{a_window}
 use Rattle.protocol.specs.Flags.{desktop_none}
 use Rattle.places.specs.declared.Family.TheVariants.{Windows, Notifications}
-use Rattle.places.specs.declared.Found.{Found}
-use Rattle.places.specs.declared.Found.TheVariants.{At, Nothing}
 use Rattle.places.specs.Counts.{count_below, first_from, on_found}
 use Rattle.places.proofs.Counting.{found, none_passes}
 use Rattle.places.proofs.Pointers.{eqb_sym}
@@ -225,9 +223,9 @@ met_some (suc n) test k l e = go (test n) refl (λ m. met_some n test k m e)
 first_met : (n i : ℕ) (test : ℕ → Bool) → on_found (first_from n i test) false (λ k. true) ≡ met n (λ k. test (i + k))
 first_met n i test = go (first_from n i test) refl
   where
-    go : (w : Found) → first_from n i test ≡ w → on_found w false (λ k. true) ≡ met n (λ k. test (i + k))
-    go Nothing f = sym (met_none n (λ k. test (i + k)) (λ k l. none_passes n i test f (i + k) (omega arith) (omega arith)))
-    go (At j) f =
+    go : (w : Option ℕ) → first_from n i test ≡ w → on_found w false (λ k. true) ≡ met n (λ k. test (i + k))
+    go None f = sym (met_none n (λ k. test (i + k)) (λ k l. none_passes n i test f (i + k) (omega arith) (omega arith)))
+    go (Some j) f =
         let h = found n i test j f in
         let l = h.0 in
         let u = h.1 in
@@ -256,7 +254,7 @@ module _ (x : List ℕ) (s : Sound x) where
       go true f =
           let a = one_slot x s Windows (first_id x i) 0 i w (at_id i w e (first_id x i) ∙ eq-eqb (first_id x i) (first_id x i) refl) in
           let b = one_slot x s Windows (first_id x i) 0 j v f in
-          let c : At i ≡ At j = sym a ∙ b in
+          let c : Some i ≡ Some j = sym a ∙ b in
           let d : i ≡ j = cc in
           absurd (omega (arith, d))
 

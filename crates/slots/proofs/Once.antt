@@ -8,13 +8,12 @@ use lib.Dec.{eqb, leb}
 use lib.ListN.{length, get_or, set, take, drop, replicate, length-set, length-replicate}
 use lib.Seq.{get_or-set_same, get_or-set_other}
 use borrow.Author.Tests.{eqb-true, eqb-false, eq-eqb, ne_eqb, leb-true, leb-false, le-ltb, lt-ltb}
+use Rattle.std.specs.Prelude.{Option, Some, None, is_some, not}
 use Rattle.wire.specs.Tests.{both}
 use Rattle.wire.proofs.Tests.{both_left, never}
 use Rattle.wire.specs.Numbers.{num_at}
 use Rattle.wire.specs.Parts.{slice}
 use Rattle.wire.proofs.Numbers.{num1_is, num_slice, num_zeros}
-use Rattle.places.specs.declared.Found.{Found}
-use Rattle.places.specs.declared.Found.TheVariants.{At, Nothing}
 use Rattle.places.specs.Counts.{first_from, on_found}
 use Rattle.places.proofs.Counting.{found, none_passes, found_first, first_is}
 use Rattle.slots.specs.Slots.{used_at, first_id, second_id, is_used, is_at}
@@ -155,7 +154,7 @@ module _ (seen x : List ℕ) (first i : ℕ) (s : Seen seen x first i) where
 
       -- where the slots from the first with the mark on have other ids
       pub later_seen : (count top : ℕ) → i < first + count → b ≤ top
-          → first_from (i - (get_or seen mk 0 - 1)) (get_or seen mk 0 - 1) (is_at x a b) ≡ Nothing → true ≡ slot_ok x first count top i
+          → first_from (i - (get_or seen mk 0 - 1)) (get_or seen mk 0 - 1) (is_at x a b) ≡ None → true ≡ slot_ok x first count top i
       later_seen count top high small e = sym (good count top high small (λ j p q. go j p q (leb (get_or seen mk 0 - 1) j) refl))
         where
           early : (j : ℕ) → first ≤ j → j < i → j < get_or seen mk 0 - 1 → (t : Bool) → is_at x (first_id x i) (second_id x i) j ≡ t
@@ -171,7 +170,7 @@ module _ (seen x : List ℕ) (first i : ℕ) (s : Seen seen x first i) where
 
       -- where one of them has these
       pub stood_twice : (count top : ℕ) → b ≤ top → {n : ℕ}
-          → first_from (i - (get_or seen mk 0 - 1)) (get_or seen mk 0 - 1) (is_at x a b) ≡ At n → false ≡ slot_ok x first count top i
+          → first_from (i - (get_or seen mk 0 - 1)) (get_or seen mk 0 - 1) (is_at x a b) ≡ Some n → false ≡ slot_ok x first count top i
       unfolding slot_ok
       stood_twice count top small {n} e =
           let r = found (i - (get_or seen mk 0 - 1)) (get_or seen mk 0 - 1) (is_at x a b) n e in
@@ -181,9 +180,18 @@ module _ (seen x : List ℕ) (first i : ℕ) (s : Seen seen x first i) where
           let small-second : second_id x i ≤ top = rw (← l) small in
           rw (u, le-ltb top (second_id x i) small-second, ← k, ← l) (go (first_from count first (is_at x a b)) refl lo hi r.2)
         where
-          go : (w : Found) → first_from count first (is_at x a b) ≡ w → first ≤ n → n < i → is_at x a b n ≡ true → false ≡ on_found w false (λ j. eqb j i)
-          go Nothing m lo hi t = refl
-          go (At j) m lo hi t = sym (ne_eqb j i (λ z. never (sym (found_first count first (is_at x a b) j m n lo (omega arith)) ∙ t)))
+          go : (w : Option ℕ) → first_from count first (is_at x a b) ≡ w → first ≤ n → n < i → is_at x a b n ≡ true → false ≡ on_found w false (λ j. eqb j i)
+          go None m lo hi t = refl
+          go (Some j) m lo hi t = sym (ne_eqb j i (λ z. never (sym (found_first count first (is_at x a b) j m n lo (omega arith)) ∙ t)))
+
+      -- what the search among them found tells, and the marks stay
+      pub told_by_search : (count top : ℕ) → i < first + count → b ≤ top → (w : Option ℕ) {r : Bool}
+          → first_from (i - (get_or seen mk 0 - 1)) (get_or seen mk 0 - 1) (is_at x a b) ≡ w → is_some w ≡ not r
+          → (r ≡ slot_ok x first count top i) × (r ≡ true → Seen seen x first (i + 1))
+      told_by_search count top high small None {r = true} e t = (later_seen count top high small e, λ z. seen_kept)
+      told_by_search count top high small None {r = false} e t = never t
+      told_by_search count top high small (Some n) {r = true} e t = never (sym t)
+      told_by_search count top high small (Some n) {r = false} e t = (stood_twice count top small e, λ z. never z)
 
 -- ---- the other ways through a slot
 

@@ -5,14 +5,14 @@ use Prim.Native.Nat.{ℕ, zero, suc, ◌+◌, ◌≤◌, ◌<◌}
 use native.Mathlib.Omega.{arith}
 use lib.Dec.{eqb}
 use borrow.Author.Tests.{eqb-true, eqb-false}
+use Rattle.std.specs.Prelude.{Some, None}
 use Rattle.wire.specs.Tests.{pick}
 use Rattle.wire.proofs.Tests.{both_left, both_right}
-use Rattle.places.specs.declared.Found.TheVariants.{At, Nothing}
 use Rattle.places.specs.Counts.{first_from, on_found}
 use Rattle.slots.specs.Sound.{each_from}
 
 -- where each in the range fails, nothing is found
-pub first_none : (n i : ℕ) (test : ℕ → Bool) → ((j : ℕ) → i ≤ j → j < i + n → test j ≡ false) → first_from n i test ≡ Nothing
+pub first_none : (n i : ℕ) (test : ℕ → Bool) → ((j : ℕ) → i ≤ j → j < i + n → test j ≡ false) → first_from n i test ≡ None
 unfolding first_from
 first_none zero i test f = refl
 first_none (suc n) i test f =
@@ -20,7 +20,7 @@ first_none (suc n) i test f =
     rw (h, first_none n (i + 1) test (λ j l u. f j (omega arith) (omega arith)))
 
 -- a search of m + n is one of m and, where that finds nothing, one of the n after them
-pub first_parts : (m n i : ℕ) (test : ℕ → Bool) → first_from (m + n) i test ≡ on_found (first_from m i test) (first_from n (i + m) test) At
+pub first_parts : (m n i : ℕ) (test : ℕ → Bool) → first_from (m + n) i test ≡ on_found (first_from m i test) (first_from n (i + m) test) Some
 unfolding first_from
 first_parts zero n i test = let e : i + 0 ≡ i = omega arith in let f : 0 + n ≡ n = omega arith in rw (e, f)
 first_parts (suc m) n i test =
@@ -28,7 +28,7 @@ first_parts (suc m) n i test =
     let f : i + suc m ≡ i + 1 + m = omega arith in
     rw (e, f, first_parts m n (i + 1) test) (go (test i))
   where
-    go : (t : Bool) → pick t (At i) (on_found (first_from m (i + 1) test) (first_from n (i + 1 + m) test) At) ≡ on_found (pick t (At i) (first_from m (i + 1) test)) (first_from n (i + 1 + m) test) At
+    go : (t : Bool) → pick t (Some i) (on_found (first_from m (i + 1) test) (first_from n (i + 1 + m) test) Some) ≡ on_found (pick t (Some i) (first_from m (i + 1) test)) (first_from n (i + 1 + m) test) Some
     go true = refl
     go false = refl
 

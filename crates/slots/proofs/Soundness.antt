@@ -7,12 +7,11 @@ use native.Mathlib.Omega.{arith}
 use lib.Dec.{eqb, ltb}
 use lib.ListN.{length}
 use borrow.Author.Tests.{eq-eqb, eqb-true, le-ltb, ltb-false}
+use Rattle.std.specs.Prelude.{Option, Some, None}
 use Rattle.wire.specs.Tests.{pick, both}
 use Rattle.wire.proofs.Tests.{both_left, both_right, never}
 use Rattle.places.specs.declared.Family.{Family}
 use Rattle.places.specs.declared.Family.TheVariants.{Windows, Notifications}
-use Rattle.places.specs.declared.Found.{Found}
-use Rattle.places.specs.declared.Found.TheVariants.{At, Nothing}
 use Rattle.places.specs.Counts.{first_from, on_found}
 use Rattle.places.specs.Memory.{pointer_at, valid}
 use Rattle.places.specs.Holder.{same_family}
@@ -46,10 +45,10 @@ apart f g i e v w =
     let y : same_family f f ≡ false = rw x at e in
     never (sym y ∙ family_same f)
 
-pub found_within : (f : Family) (x : List ℕ) (a b i : ℕ) → slot_of x f a b ≡ At i → Within f i
+pub found_within : (f : Family) (x : List ℕ) (a b i : ℕ) → slot_of x f a b ≡ Some i → Within f i
 found_within f x a b i e = let r = found (capacity f) (start f) (is_at x a b) i e in record { low = r.0; high = r.1 }
 
-pub free_within : (f : Family) (x : List ℕ) (i : ℕ) → free_of x f ≡ At i → Within f i
+pub free_within : (f : Family) (x : List ℕ) (i : ℕ) → free_of x f ≡ Some i → Within f i
 free_within f x i e = let r = found (capacity f) (start f) (is_free x) i e in record { low = r.0; high = r.1 }
 
 -- ---- a slot with a record
@@ -99,7 +98,7 @@ free_is x i e = rw e
 
 pub record Own (x : List ℕ) (first count top i : ℕ) : Type 0 where
   pub second : second_id x i ≤ top
-  pub first_is : first_from count first (is_at x (first_id x i) (second_id x i)) ≡ At i
+  pub first_is : first_from count first (is_at x (first_id x i) (second_id x i)) ≡ Some i
 
 module _ (x : List ℕ) (first count top i : ℕ) where
   pub slot_free : used_at x i ≡ 0 → no_pointers x i ≡ true → slot_ok x first count top i ≡ true
@@ -118,11 +117,11 @@ module _ (x : List ℕ) (first count top i : ℕ) where
       let r : pick (ltb top b) false (on_found (first_from count first (is_at x a b)) false (λ j. eqb j i)) ≡ true = rw e at t in
       go (ltb top b) (first_from count first (is_at x a b)) refl refl r
     where
-      go : (u : Bool) (w : Found) → ltb top (second_id x i) ≡ u → first_from count first (is_at x (first_id x i) (second_id x i)) ≡ w
+      go : (u : Bool) (w : Option ℕ) → ltb top (second_id x i) ≡ u → first_from count first (is_at x (first_id x i) (second_id x i)) ≡ w
           → pick u false (on_found w false (λ j. eqb j i)) ≡ true → Own x first count top i
       go true w m n r = never r
-      go false Nothing m n r = never r
-      go false (At j) m n r = record { second = ltb-false top (second_id x i) m; first_is = n ∙ ap At (eqb-true j i r) }
+      go false None m n r = never r
+      go false (Some j) m n r = record { second = ltb-false top (second_id x i) m; first_is = n ∙ ap Some (eqb-true j i r) }
 
   -- used is 0 or 1
   pub slot_cases : {A : Type 0} → slot_ok x first count top i ≡ true → (used_at x i ≡ 0 → no_pointers x i ≡ true → A) → (used_at x i ≡ 1 → A) → A
@@ -200,11 +199,11 @@ sound_is x s =
     rw (le-ltb (length x) 589 s.long, s.holders, a, b)
 
 -- ids stand in one slot of a family only
-pub one_slot : (x : List ℕ) → Sound x → (f : Family) (a b i : ℕ) → Within f i → is_at x a b i ≡ true → slot_of x f a b ≡ At i
+pub one_slot : (x : List ℕ) → Sound x → (f : Family) (a b i : ℕ) → Within f i → is_at x a b i ≡ true → slot_of x f a b ≡ Some i
 one_slot x s f a b i w t =
     let h = at_has x a b i t in
     let o = slot_own x (start f) (capacity f) (highest f) i (s.slots f i w) h.used in
-    let e : first_from (capacity f) (start f) (is_at x (first_id x i) (second_id x i)) ≡ At i = o.first_is in
+    let e : first_from (capacity f) (start f) (is_at x (first_id x i) (second_id x i)) ≡ Some i = o.first_is in
     rw (h.first, h.second) at e
 
 -- a slot without a record has no pointers

@@ -7,6 +7,7 @@ use native.Mathlib.Omega.{arith}
 use lib.Dec.{eqb, leb, ltb}
 use lib.ListN.{length, get_or, take, drop}
 use borrow.Author.Tests.{eq-eqb, ne_eqb, leb-true, le-leb, ltb-true, le-ltb, lt-ltb}
+use Rattle.std.specs.Prelude.{Option, Some, None}
 use Rattle.wire.specs.Tests.{both}
 use Rattle.wire.specs.Numbers.{num_at}
 use Rattle.wire.specs.Parts.{slice}
@@ -14,8 +15,6 @@ use Rattle.wire.proofs.Tests.{both_left, both_right}
 use Rattle.wire.proofs.Numbers.{num1_is, num_slice}
 use Rattle.places.specs.declared.Family.{Family}
 use Rattle.places.specs.declared.Family.TheVariants.{Windows, Notifications}
-use Rattle.places.specs.declared.Found.{Found}
-use Rattle.places.specs.declared.Found.TheVariants.{At, Nothing}
 use Rattle.places.specs.Counts.{first_from, on_found}
 use Rattle.places.specs.Memory.{pointer_at, valid}
 use Rattle.places.proofs.Bytes.{inside}
@@ -75,7 +74,7 @@ ok_start test first count = let e : first + count - first ≡ count = omega arit
 
 module _ (test : ℕ → Bool) (end i : ℕ) where
   module _ (more : i < end) {u : Bool} (e : u ≡ test i) where
-    pub first_here : u ≡ true → first_from (end - i) i test ≡ At i
+    pub first_here : u ≡ true → first_from (end - i) i test ≡ Some i
     unfolding first_from
     first_here t = let n : end - i ≡ suc (end - (i + 1)) = omega arith in rw (n, ← e, t)
 
@@ -92,7 +91,7 @@ module _ (test : ℕ → Bool) (end i : ℕ) where
     ok_next t = let n : end - i ≡ suc (end - (i + 1)) = omega arith in rw (n, ← e, t)
 
   module _ (over : end ≤ i) where
-    pub first_none : first_from (end - i) i test ≡ Nothing
+    pub first_none : first_from (end - i) i test ≡ None
     unfolding first_from
     first_none = let n : end - i ≡ 0 = omega arith in rw n
 
@@ -102,7 +101,7 @@ module _ (test : ℕ → Bool) (end i : ℕ) where
 
 -- ---- the search
 
-pub search_is : (test : ℕ → Bool) (first count : ℕ) (w : Found) → first_from count first test ≡ w
+pub search_is : (test : ℕ → Bool) (first count : ℕ) (w : Option ℕ) → first_from count first test ≡ w
     → record { found = w; looked = on_found w count (λ i. i - first + 1) } ≡ search_from count first test
 unfolding search_from
 search_is test first count w e = rw e
@@ -110,10 +109,10 @@ search_is test first count w e = rw e
 pub find_family : (x : List ℕ) (f g : Family) (a b : ℕ) {r : Searched} → f ≡ g → r ≡ search_of x g a b → r ≡ search_of x f a b
 find_family x f g a b e h = rw e h
 
-pub free_family : (x : List ℕ) (f g : Family) {r : Found} → f ≡ g → r ≡ free_of x g → r ≡ free_of x f
+pub free_family : (x : List ℕ) (f g : Family) {r : Option ℕ} → f ≡ g → r ≡ free_of x g → r ≡ free_of x f
 free_family x f g e h = rw e h
 
-pub found_is : (test : ℕ → Bool) (first count : ℕ) {r : Searched} {w : Found} → r ≡ search_from count first test → r.found ≡ w → first_from count first test ≡ w
+pub found_is : (test : ℕ → Bool) (first count : ℕ) {r : Searched} {w : Option ℕ} → r ≡ search_from count first test → r.found ≡ w → first_from count first test ≡ w
 unfolding search_from
 found_is test first count e g = sym (ap (λ (r : Searched). r.found) e) ∙ g
 
@@ -122,33 +121,33 @@ pub looked_most : (test : ℕ → Bool) (first count : ℕ) {r : Searched} → r
 unfolding search_from
 looked_most test first count e = rw e (go (first_from count first test) refl)
   where
-    go : (w : Found) → first_from count first test ≡ w → on_found w count (λ j. j - first + 1) ≤ count
-    go (At j) u = let s = found count first test j u in omega (arith, s.0, s.1)
-    go Nothing u = omega arith
+    go : (w : Option ℕ) → first_from count first test ≡ w → on_found w count (λ j. j - first + 1) ≤ count
+    go (Some j) u = let s = found count first test j u in omega (arith, s.0, s.1)
+    go None u = omega arith
 
 -- in two halves
 module _ (test : ℕ → Bool) {f : Searched} (e : f ≡ search_from 16 0 test) where
-  pub half_found : {j : ℕ} → f.found ≡ At j → f ≡ search_from 32 0 test
+  pub half_found : {j : ℕ} → f.found ≡ Some j → f ≡ search_from 32 0 test
   unfolding search_from
   half_found {j} h =
-      let k : first_from 16 0 test ≡ At j = found_is test 0 16 e h in
-      let w : first_from 32 0 test ≡ At j = first_parts 16 16 0 test ∙ ap (λ (v : Found). on_found v (first_from 16 16 test) At) k in
+      let k : first_from 16 0 test ≡ Some j = found_is test 0 16 e h in
+      let w : first_from 32 0 test ≡ Some j = first_parts 16 16 0 test ∙ ap (λ (v : Option ℕ). on_found v (first_from 16 16 test) Some) k in
       e ∙ rw (k, w)
 
-  pub half_none : {g : Searched} → f.found ≡ Nothing → g ≡ search_from 16 16 test → record { found = g.found; looked = 16 + g.looked } ≡ search_from 32 0 test
+  pub half_none : {g : Searched} → f.found ≡ None → g ≡ search_from 16 16 test → record { found = g.found; looked = 16 + g.looked } ≡ search_from 32 0 test
   unfolding search_from
   half_none {g} h d =
-      let k : first_from 16 0 test ≡ Nothing = found_is test 0 16 e h in
-      let w : first_from 32 0 test ≡ first_from 16 16 test = first_parts 16 16 0 test ∙ ap (λ (v : Found). on_found v (first_from 16 16 test) At) k in
+      let k : first_from 16 0 test ≡ None = found_is test 0 16 e h in
+      let w : first_from 32 0 test ≡ first_from 16 16 test = first_parts 16 16 0 test ∙ ap (λ (v : Option ℕ). on_found v (first_from 16 16 test) Some) k in
       rw (d, w) (go (first_from 16 16 test) refl)
     where
-      go : (v : Found) → first_from 16 16 test ≡ v
+      go : (v : Option ℕ) → first_from 16 16 test ≡ v
           → ◌≡◌ {A = Searched} (record { found = v; looked = 16 + on_found v 16 (λ j. j - 16 + 1) }) (record { found = v; looked = on_found v 32 (λ j. j - 0 + 1) })
-      go (At j) u =
+      go (Some j) u =
           let r = found 16 16 test j u in
           let n : 16 + (j - 16 + 1) ≡ j - 0 + 1 = omega (arith, r.0) in
           rw n
-      go Nothing u = refl
+      go None u = refl
 
 -- ---- a slot that is looked at first
 
@@ -164,7 +163,7 @@ record_outside f i t e h = rw (← e, h)
 pub record_inside : (f : Family) (i : ℕ) (t : Bool) {w u : Bool} → w ≡ is_within f i → w ≡ true → u ≡ t → u ≡ both (is_within f i) t
 record_inside f i t e h k = rw (← e, h) k
 
-pub near_is : (x : List ℕ) → sound_index x ≡ true → (f : Family) (a b i : ℕ) {t : Bool} → t ≡ both (is_within f i) (is_at x a b i) → t ≡ true → At i ≡ slot_of x f a b
+pub near_is : (x : List ℕ) → sound_index x ≡ true → (f : Family) (a b i : ℕ) {t : Bool} → t ≡ both (is_within f i) (is_at x a b i) → t ≡ true → Some i ≡ slot_of x f a b
 near_is x s f a b i e h =
     let l = leb (start f) i in
     let u = ltb i (start f + capacity f) in

@@ -1,10 +1,9 @@
 -- The slots of the index, behind the bytes of `places`: used 1, window id 4, notify-icon id 4; 32 of windows, then 16 of
 -- notification icons. Assumes nothing.
-use Rattle.std.specs.Prelude.{ℕ, ◌+◌, ◌-◌, Bool, not, List, eqb}
+use Rattle.std.specs.Prelude.{ℕ, ◌+◌, ◌-◌, Bool, not, List, eqb, Option}
 use Rattle.wire.specs.Tests.{both}
 use Rattle.wire.specs.Numbers.{num_at}
 use Rattle.places.specs.declared.Family.{Family}
-use Rattle.places.specs.declared.Found.{Found}
 use Rattle.places.specs.Counts.{first_from, on_found, count_below}
 use Rattle.slots.specs.declared.Searched.{Searched}
 use Rattle.slots.specs.Families.{start, capacity, slot_at}
@@ -30,11 +29,11 @@ unfoldable pub is_at : List ℕ → ℕ → ℕ → ℕ → Bool
 is_at x a b i = both (is_used x i) (both (eqb (first_id x i) a) (eqb (second_id x i) b))
 
 -- the slot of a record
-abbrev pub slot_of : List ℕ → Family → ℕ → ℕ → Found
+abbrev pub slot_of : List ℕ → Family → ℕ → ℕ → Option ℕ
 slot_of x f a b = first_from (capacity f) (start f) (is_at x a b)
 
 -- the first slot of a family that has no record
-abbrev pub free_of : List ℕ → Family → Found
+abbrev pub free_of : List ℕ → Family → Option ℕ
 free_of x f = first_from (capacity f) (start f) (is_free x)
 
 -- the records of a family

@@ -9,7 +9,7 @@ ghost use Rattle.slots.specs.Families.{index_length, is_within};
 ghost use Rattle.places.specs.Counts.{first_from};
 ghost use Rattle.slots.specs.Slots.{is_free, is_at, slot_has, free_of, search_from, search_of};
 
-use places::{Family, Found};
+use places::Family;
 use protocol::{NotifyIconId, WindowId};
 
 pub mod sound;
@@ -32,7 +32,7 @@ pub const LENGTH: usize = 589;
 // What a search for a record found, and how many slots it looked at.
 #[derive(Clone, Copy)]
 pub struct Searched {
-    pub found: Found,
+    pub found: Option<usize>,
     pub looked: usize,
 }
 
@@ -69,20 +69,20 @@ pub fn search(index: &[u8], first: usize, count: usize, a: u32, b: u32) -> Searc
     while i < end {
         if is_at(index, i, a, b) {
             return Searched {
-                found: Found::At(i),
+                found: Some(i),
                 looked: i - first + 1,
             };
         }
         i += 1;
     }
     Searched {
-        found: Found::Nothing,
+        found: None,
         looked: count,
     }
 }
 
 // The first of count slots that has no record.
-fn unused(index: &[u8], first: usize, count: usize) -> Found
+fn unused(index: &[u8], first: usize, count: usize) -> Option<usize>
     requires { (first + count ≤ slot_count) × (index_length ≤ length index.now) }
     ensures { result ≡ first_from count first (is_free index.now) }
 {
@@ -90,11 +90,11 @@ fn unused(index: &[u8], first: usize, count: usize) -> Found
     let mut i = first;
     while i < end {
         if index[places::LENGTH + SLOT * i] != 1 {
-            return Found::At(i);
+            return Some(i);
         }
         i += 1;
     }
-    Found::Nothing
+    None
 }
 
 // The same of the slots of windows, in two halves: a search of 16 slots from one that is known takes two instructions a slot, as
@@ -104,14 +104,12 @@ fn search_windows(index: &[u8], a: u32, b: u32) -> Searched
     ensures { result ≡ search_from 32 0 (is_at index.now a b) }
 {
     let f = search(index, 0, HALF, a, b);
-    let w = f.found;
-    match w {
-        Found::At(_) => f,
-        Found::Nothing => {
+    match f.found {
+        Some(_) => f,
+        None => {
             let g = search(index, HALF, HALF, a, b);
-            let found = g.found;
             Searched {
-                found,
+                found: g.found,
                 looked: HALF + g.looked,
             }
         }
@@ -157,7 +155,7 @@ pub fn has_record(
 }
 
 // The first slot of a family that has no record.
-pub fn free(index: &[u8], family: Family) -> Found
+pub fn free(index: &[u8], family: Family) -> Option<usize>
     requires { index_length ≤ length index.now }
     ensures { result ≡ free_of index.now family }
 {

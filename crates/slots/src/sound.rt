@@ -6,8 +6,6 @@ ghost use Rattle.places.specs.Sizes.{slot_count};
 ghost use Rattle.slots.specs.Families.{index_length};
 ghost use Rattle.slots.specs.Sound.{no_pointers, slot_ok, each_from, sound_index, mark_of, Seen};
 
-use places::Found;
-
 // One of 256 marks of a pair of ids, their bytes mixed.
 fn mark(a: u32, b: u32) -> usize
     ensures { (result ≡ mark_of a b) × (result < 256) }
@@ -67,12 +65,7 @@ fn slot_ok(
         return true;
     }
     let from = seen[m] as usize - 1;
-    let f = crate::search(index, from, i - from, a, b);
-    let w = f.found;
-    match w {
-        Found::At(_) => false,
-        Found::Nothing => true,
-    }
+    crate::search(index, from, i - from, a, b).found.is_none()
 }
 
 // Each of the slots of a family is.

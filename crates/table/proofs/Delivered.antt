@@ -7,11 +7,11 @@ use native.Mathlib.Omega.{arith}
 use lib.Dec.{ltb}
 use lib.ListN.{length, take, drop}
 use borrow.Author.Tests.{ltb-true, ltb-false}
+use Rattle.std.specs.Prelude.{Option}
 use Rattle.wire.specs.Tests.{pick}
 use Rattle.wire.specs.Parts.{splice}
 use Rattle.wire.proofs.Numbers.{Bytes}
 use Rattle.places.specs.declared.Family.{Family}
-use Rattle.places.specs.declared.Found.{Found}
 use Rattle.places.specs.Counts.{on_found}
 use Rattle.places.specs.Memory.{places_of, shown_of, shown}
 use Rattle.places.proofs.Meaning.{found_free}
@@ -206,7 +206,7 @@ module _ (x b : List ℕ) (lent : ℕ) (long : 589 ≤ length x) (big : 61012 �
       let r = desktop_room in
       same_table (decode (emptied_of x n) (splice b (slot_start 48) bare) p) (emptied n)
       (emptied_index x n long small)
-      (λ f m k. ap (λ (w : Found). on_found w [] (λ j. fields_of (field_rows f) 2 (slot_of (splice b (slot_start 48) bare) j))) (none_find (emptied_of x n) (slots_emptied x n long small) f m k))
+      (λ f m k. ap (λ (w : Option ℕ). on_found w [] (λ j. fields_of (field_rows f) 2 (slot_of (splice b (slot_start 48) bare) j))) (none_find (emptied_of x n) (slots_emptied x n long small) f m k))
       (λ h. rw (pointer_emptied x n long small))
       (ap (body_of desktop_fields) at_desk ∙ prepared_body desktop_fields (slot_of b 48) (omega (arith, e, r)))
 

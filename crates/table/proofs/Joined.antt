@@ -7,12 +7,11 @@ use native.Mathlib.Omega.{arith}
 use lib.Dec.{eqb}
 use lib.ListN.{length}
 use borrow.Author.Tests.{eq-eqb, ne_eqb}
+use Rattle.std.specs.Prelude.{Option, Some, None}
 use Rattle.wire.specs.Tests.{pick, has}
 use Rattle.wire.proofs.Numbers.{Bytes}
 use Rattle.protocol.specs.Flags.{desktop_none}
 use Rattle.places.specs.declared.Family.{Family}
-use Rattle.places.specs.declared.Found.{Found}
-use Rattle.places.specs.declared.Found.TheVariants.{At, Nothing}
 use Rattle.places.specs.Counts.{on_found}
 use Rattle.places.specs.Holder.{Holder}
 use Rattle.slots.specs.Families.{same_record}
@@ -115,20 +114,20 @@ module _ (x b s : List ℕ) (store : List (List ℕ)) (o : RecordOrder) (i place
   pub fields_after_lem : (g : Family) (m n : ℕ) → fields_in (changed_of x c) all g m n ≡ (change_record t s o).fields g m n
   unfolding change_record fields_after decode
   fields_after_lem g m n =
-      ap (λ (w : Found). on_found w [] (λ j. fields_of (field_rows g) 2 (slot_of all j))) (find_after x s o i place sound k.ordered p fits g m n)
+      ap (λ (w : Option ℕ). on_found w [] (λ j. fields_of (field_rows g) 2 (slot_of all j))) (find_after x s o i place sound k.ordered p fits g m n)
       ∙ go (same_record f o.window.id o.notify.id g m n) (is_delete o.flags) (slots.slot_of x g m n) refl refl refl
     where
-      go : (r d : Bool) (w : Found) → same_record f o.window.id o.notify.id g m n ≡ r → is_delete o.flags ≡ d → slots.slot_of x g m n ≡ w
-          → on_found (pick r (pick d Nothing (At i)) w) [] (λ j. fields_of (field_rows g) 2 (slot_of all j))
+      go : (r d : Bool) (w : Option ℕ) → same_record f o.window.id o.notify.id g m n ≡ r → is_delete o.flags ≡ d → slots.slot_of x g m n ≡ w
+          → on_found (pick r (pick d None (Some i)) w) [] (λ j. fields_of (field_rows g) 2 (slot_of all j))
           ≡ pick r (record_fields t s o) (on_found w [] (λ j. fields_of (field_rows g) 2 (slot_of b j)))
       go true true w r d e = sym (gone_fields d)
       go true false w r d e =
           let q = same_ids f g o.window.id o.notify.id m n r in
           ap (λ (h : Family). fields_of (field_rows h) 2 (slot_of all i)) (sym q.0) ∙ new_fields d
-      go false d (At j) r z e =
+      go false d (Some j) r z e =
           let l = within_slots g j (found_within g x m n j e) in
           ap (fields_of (field_rows g) 2) (kept_slot j (omega arith) (λ y. other_slot x s o i place sound k.ordered p fits g m n j e r))
-      go false d Nothing r z e = refl
+      go false d None r z e = refl
 
   pub desktop_kept : body_of desktop_fields (slot_of all 48) ≡ (change_record t s o).desktop
   unfolding change_record decode
@@ -144,13 +143,13 @@ module _ (x b s : List ℕ) (store : List (List ℕ)) (flags : ℕ) (sound : Sou
   records_kept : (g : Family) (m n : ℕ) → fields_in x now g m n ≡ fields_in x b g m n
   records_kept g m n = go (slots.slot_of x g m n) refl
     where
-      go : (w : Found) → slots.slot_of x g m n ≡ w
+      go : (w : Option ℕ) → slots.slot_of x g m n ≡ w
           → on_found w [] (λ j. fields_of (field_rows g) 2 (slot_of now j)) ≡ on_found w [] (λ j. fields_of (field_rows g) 2 (slot_of b j))
-      go (At j) e =
+      go (Some j) e =
           let l = within_slots g j (found_within g x m n j e) in
           let h : eqb 48 j ≡ false = ne_eqb 48 j (λ q. omega arith) in
           ap (fields_of (field_rows g) 2) ((desk_is s flags b big k.within k.fields).at j ∙ rw h)
-      go Nothing e = refl
+      go None e = refl
 
   pub desktop_fields_lem : (g : Family) (m n : ℕ) → fields_in (pick (has flags desktop_none) (cleared_of x) x) now g m n ≡ (change_desktop (decode x b store) s flags).fields g m n
   unfolding change_desktop decode
@@ -158,7 +157,7 @@ module _ (x b s : List ℕ) (store : List (List ℕ)) (flags : ℕ) (sound : Sou
     where
       go : (d : Bool) → fields_in (pick d (cleared_of x) x) now g m n ≡ pick d [] (fields_in x b g m n)
       go true =
-          ap (λ (w : Found). on_found w [] (λ j. fields_of (field_rows g) 2 (slot_of now j))) (none_find (cleared_of x) (cleared_is x sound.long).slots g m n)
+          ap (λ (w : Option ℕ). on_found w [] (λ j. fields_of (field_rows g) 2 (slot_of now j))) (none_find (cleared_of x) (cleared_is x sound.long).slots g m n)
       go false = records_kept g m n
 
   pub desktop_is : body_of desktop_fields (slot_of now 48) ≡ (change_desktop (decode x b store) s flags).desktop

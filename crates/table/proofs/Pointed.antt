@@ -7,10 +7,10 @@ use native.Mathlib.Omega.{arith}
 use lib.Dec.{eqb, ltb}
 use lib.ListN.{length}
 use borrow.Author.Tests.{eqb-true, eq-eqb}
+use Rattle.std.specs.Prelude.{Some, None}
 use Rattle.wire.specs.Tests.{pick, both}
 use Rattle.wire.proofs.Tests.{both_left, both_right, never}
 use Rattle.places.specs.declared.Family.{Family}
-use Rattle.places.specs.declared.Found.TheVariants.{At, Nothing}
 use Rattle.places.specs.Sharing.{is_one}
 use Rattle.places.specs.Memory.{pointer_at}
 use Rattle.places.specs.Holder.{same_family}
@@ -121,13 +121,13 @@ module _ (x s : List ℕ) (o : RecordOrder) (i place : ℕ) (sound : Sound x) (h
   record Readied (z : List ℕ) : Type 0 where
     pub long : length z ≡ length x
     pub pointers : pointer_at z ≡ pointer_at x
-    pub finds : (g : Family) (m n : ℕ) → slot_of z g m n ≡ pick (same_record f a b g m n) (At i) (slot_of x g m n)
+    pub finds : (g : Family) (m n : ℕ) → slot_of z g m n ≡ pick (same_record f a b g m n) (Some i) (slot_of x g m n)
     pub used : (j : ℕ) → (j ≡ i → ⊥) → is_used z j ≡ is_used x j
 
-  old_find : is_new f o.flags ≡ false → (g : Family) (m n : ℕ) → slot_of x g m n ≡ pick (same_record f a b g m n) (At i) (slot_of x g m n)
+  old_find : is_new f o.flags ≡ false → (g : Family) (m n : ℕ) → slot_of x g m n ≡ pick (same_record f a b g m n) (Some i) (slot_of x g m n)
   old_find t g m n = go (same_record f a b g m n) refl
     where
-      go : (u : Bool) → same_record f a b g m n ≡ u → slot_of x g m n ≡ pick u (At i) (slot_of x g m n)
+      go : (u : Bool) → same_record f a b g m n ≡ u → slot_of x g m n ≡ pick u (Some i) (slot_of x g m n)
       go true e =
           let k = same_ids f g a b m n e in
           rw (k.0, k.1, k.2) at (p.placed.old t)
@@ -154,16 +154,16 @@ module _ (x s : List ℕ) (o : RecordOrder) (i place : ℕ) (sound : Sound x) (h
   slotted : Slotted z (pictured_of z c)
   slotted = pictured_slotted z c fits long
 
-  at_i : is_delete o.flags ≡ true → slot_of x f a b ≡ At i
+  at_i : is_delete o.flags ≡ true → slot_of x f a b ≡ Some i
   at_i t = p.placed.old (deleted_old f o.flags h.agrees t)
 
   -- where records are found: the order's own in its slot, or nowhere
-  pub find_after : (g : Family) (m n : ℕ) → slot_of y g m n ≡ pick (same_record f a b g m n) (pick (is_delete o.flags) Nothing (At i)) (slot_of x g m n)
+  pub find_after : (g : Family) (m n : ℕ) → slot_of y g m n ≡ pick (same_record f a b g m n) (pick (is_delete o.flags) None (Some i)) (slot_of x g m n)
   unfolding changed_of
   find_after g m n = go (is_delete o.flags) refl
     where
       go : (t : Bool) → is_delete o.flags ≡ t
-          → slot_of (pick t (removed_of x i) (pictured_of z c)) g m n ≡ pick (same_record f a b g m n) (pick t Nothing (At i)) (slot_of x g m n)
+          → slot_of (pick t (removed_of x i) (pictured_of z c)) g m n ≡ pick (same_record f a b g m n) (pick t None (Some i)) (slot_of x g m n)
       go true t =
           find_freed f x (removed_of x i) i a b p.placed.within (removed_freed x i sound.long below) sound
           (found (capacity f) (start f) (is_at x a b) i (at_i t)).2 g m n
@@ -197,7 +197,7 @@ module _ (x s : List ℕ) (o : RecordOrder) (i place : ℕ) (sound : Sound x) (h
       go false n = pictured_pointers P z long none (λ k. subst P (sym (ap (λ (r : ℕ → ℕ). r k) readied_is.pointers)) (were k)) c fits n g
 
   -- another record is found in another slot
-  pub other_slot : (g : Family) (m n j : ℕ) → slot_of x g m n ≡ At j → same_record f a b g m n ≡ false → i ≡ j → ⊥
+  pub other_slot : (g : Family) (m n j : ℕ) → slot_of x g m n ≡ Some j → same_record f a b g m n ≡ false → i ≡ j → ⊥
   other_slot g m n j e ne q = go (is_new f o.flags) refl
     where
       w : (start g ≤ j) × (j < start g + capacity g) × (is_at x m n j ≡ true)

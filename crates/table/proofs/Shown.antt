@@ -7,7 +7,7 @@ use Prim.Native.Nat.{ℕ, ◌+◌, ◌*◌, ◌-◌, ◌<◌}
 use native.Mathlib.Omega.{arith}
 use lib.Dec.{eqb, ltb}
 use borrow.Author.Tests.{ne_eqb, ltb-true}
-use Rattle.std.specs.Prelude.{Ok, Err}
+use Rattle.std.specs.Prelude.{Ok, Err, Option as StdOption, Some, None}
 use Rattle.wire.specs.Tests.{pick, both, has}
 use Rattle.wire.specs.Numbers.{Bytes}
 use Rattle.protocol.specs.Flags.{desktop_none}
@@ -15,8 +15,6 @@ use Rattle.protocol.specs.Refusals as refusals
 use Rattle.order.specs.declared.Order.TheVariants.{Window, Notification, Desktop}
 use Rattle.order.specs.Judge.{Judged, judge_of}
 use Rattle.places.specs.declared.Family.{Family}
-use Rattle.places.specs.declared.Found.{Found}
-use Rattle.places.specs.declared.Found.TheVariants.{At, Nothing}
 use Rattle.places.specs.Sharing.{is_one}
 use Rattle.places.specs.Memory.{is_cell, pointer_at, shown_of, shown, with_picture}
 use Rattle.places.specs.Changes.{point_all, free_place, take_of, share_of, release_of, release_records_of}
@@ -59,18 +57,18 @@ by_pointer x y pictures g k e = rw e
 
 -- pointers alone changed: every holder keeps its number
 slotted_number : (x y : List ℕ) → Slotted x y → (g : Holder) → number_of (slot_of y) g ≡ number_of (slot_of x) g
-slotted_number x y k g = ap (λ (slot : Family → ℕ → ℕ → Found). number_of slot g) slots
+slotted_number x y k g = ap (λ (slot : Family → ℕ → ℕ → StdOption ℕ). number_of slot g) slots
   where
     slots : slot_of y ≡ slot_of x
     slots = λ i f a b. slotted_find x y k f a b i
 
-module _ (m : List ℕ) (slot : Family → ℕ → ℕ → Found) (f : Family) (a b : ℕ) where
+module _ (m : List ℕ) (slot : Family → ℕ → ℕ → StdOption ℕ) (f : Family) (a b : ℕ) where
   -- the icons of a record that is not listed, or whose slot has no pointers
-  unlisted_pointer : slot f a b ≡ Nothing → (w : ℕ) → pointer_at m (number_of slot (icon f a b w)) ≡ 0
+  unlisted_pointer : slot f a b ≡ None → (w : ℕ) → pointer_at m (number_of slot (icon f a b w)) ≡ 0
   unfolding number_of
   unlisted_pointer e w = rw e (outside m 156 (omega arith))
 
-  empty_pointer : (i : ℕ) → slot f a b ≡ At i → ((w : ℕ) → w < 3 → pointer_at m (12 + 3 * i + w) ≡ 0) → (w : ℕ) → pointer_at m (number_of slot (icon f a b w)) ≡ 0
+  empty_pointer : (i : ℕ) → slot f a b ≡ Some i → ((w : ℕ) → w < 3 → pointer_at m (12 + 3 * i + w) ≡ 0) → (w : ℕ) → pointer_at m (number_of slot (icon f a b w)) ≡ 0
   unfolding number_of
   empty_pointer i e empty w = rw e (go (ltb w 3) refl)
     where
@@ -79,7 +77,7 @@ module _ (m : List ℕ) (slot : Family → ℕ → ℕ → Found) (f : Family) (
       go false t = outside m 156 (omega arith)
 
   -- two searches that differ at a record whose icons point at nothing
-  alike : (new : Family → ℕ → ℕ → Found) → ((g : Family) (p q : ℕ) → same_record f a b g p q ≡ false → new g p q ≡ slot g p q)
+  alike : (new : Family → ℕ → ℕ → StdOption ℕ) → ((g : Family) (p q : ℕ) → same_record f a b g p q ≡ false → new g p q ≡ slot g p q)
       → ((w : ℕ) → pointer_at m (number_of slot (icon f a b w)) ≡ 0) → ((w : ℕ) → pointer_at m (number_of new (icon f a b w)) ≡ 0)
       → (g : Holder) → pointer_at m (number_of new g) ≡ pointer_at m (number_of slot g)
   unfolding number_of
@@ -170,10 +168,10 @@ module _ (x s : List ℕ) (o : RecordOrder) (i place : ℕ) (sound : Sound x) (h
         gone,
       ) (go (is_one same_holder (icons_of f a b) g))
     where
-      at_i : slot_of x f a b ≡ At i
+      at_i : slot_of x f a b ≡ Some i
       at_i = p.placed.old (deleted_old f o.flags h.agrees t)
 
-      find : (k : Family) (m q : ℕ) → slot_of y k m q ≡ pick (same_record f a b k m q) Nothing (slot_of x k m q)
+      find : (k : Family) (m q : ℕ) → slot_of y k m q ≡ pick (same_record f a b k m q) None (slot_of x k m q)
       find = find_freed f x y i a b p.placed.within (removed_freed x i sound.long below) sound (found (capacity f) (start f) (is_at x a b) i at_i).2
 
       empty : (w : ℕ) → w < 3 → pointer_at y (12 + 3 * i + w) ≡ 0
@@ -200,7 +198,7 @@ module _ (x s : List ℕ) (o : RecordOrder) (i place : ℕ) (sound : Sound x) (h
       go true = refl
       go false = refl
 
-  taken_is : free_place z ns ≡ At place → take_of z ns ≡ point_all z ns (place + 1)
+  taken_is : free_place z ns ≡ Some place → take_of z ns ≡ point_all z ns (place + 1)
   unfolding take_of
   taken_is e = rw e
 
@@ -208,7 +206,7 @@ module _ (x s : List ℕ) (o : RecordOrder) (i place : ℕ) (sound : Sound x) (h
   brought_shown : brings_icon o.flags ≡ true → (q : List ℕ) (g : Holder)
       → pick (is_one same_holder (holders_of s o) g) (some q) (shown_in x pictures g) ≡ shown_in (point_all z ns (place + 1)) (with_picture pictures place q) g
   brought_shown t q g =
-      let free : free_place z ns ≡ At place = r.free ns ∙ p.icon t in
+      let free : free_place z ns ≡ Some place = r.free ns ∙ p.icon t in
       let e = held z s o i r.sound h r.at_i t in
       let m = point_all z ns (place + 1) in
       let k = number_of (slot_of z) g in
@@ -309,7 +307,7 @@ module _ (x s : List ℕ) (sound : Sound x) (pictures : ℕ → List ℕ) (t : T
       let slots : slot_of m ≡ no_slot = λ i f a b. none_find m k.slots f a b i in
       sym
       (by_pointer m (release_records_of x) pictures (number_of (slot_of m) g) (number_of (slot_of m) g) (ap (λ (ptr : ℕ → ℕ). ptr (number_of (slot_of m) g)) k.still.pointers)
-      ∙ ap (λ (slot : Family → ℕ → ℕ → Found). shown (release_records_of x) pictures (number_of slot g)) slots
+      ∙ ap (λ (slot : Family → ℕ → ℕ → StdOption ℕ). shown (release_records_of x) pictures (number_of slot g)) slots
       ∙ records_shown x sound.holders pictures (number_of no_slot g)
       ∙ cells_number g)
 

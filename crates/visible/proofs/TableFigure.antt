@@ -4,10 +4,9 @@ use mathlib.Core.Bool.{true, false}
 use mathlib.Core.List.{List, []}
 use mathlib.Core.Option.{none, some}
 use Prim.Native.Nat.{ℕ}
+use Rattle.std.specs.Prelude.{Option, Some, None}
 use Rattle.wire.specs.Tests.{pick}
 use Rattle.places.specs.declared.Family.TheVariants.{Windows}
-use Rattle.places.specs.declared.Found.{Found}
-use Rattle.places.specs.declared.Found.TheVariants.{At, Nothing}
 use Rattle.places.specs.Counts.{on_found}
 use Rattle.slots.specs.Slots as slots
 use Rattle.index.specs.Memory.{index_of}
@@ -29,10 +28,10 @@ unfolding decode index_of body_of
 same_sum x b p f e =
     sum_cong id_end (λ id. of_window f (window_by x b id)) (λ id. of_window f (window_in (decode x b p) id)) (λ id. go (slots.slot_of x Windows id 0))
   where
-    go : (w : Found) → of_window f (on_found w none (λ i. some (window_at b i)))
+    go : (w : Option ℕ) → of_window f (on_found w none (λ i. some (window_at b i)))
         ≡ of_window f (pick (on_found w false (λ i. true)) (some (unmarked (on_found w [] (λ i. fields_of window_fields 2 (slot_of b i))))) none)
-    go Nothing = refl
-    go (At i) = e (window_at b i)
+    go None = refl
+    go (Some i) = e (window_at b i)
 
 pub memory_has_figure : MemoryHasFigure
 unfolding MemoryHasFigure figure_in figure_by

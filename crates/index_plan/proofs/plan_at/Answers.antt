@@ -17,17 +17,17 @@ returns-then-o-eq0 c =
     in_plain a.index.now a.s.now a.o a.i c.cell-c.ensures.0 c.lacks_picture.ensures c.if-lacks_picture.false c.pointer_of-pointer.ensures.0 c.beside-held.ensures.0 c.if-o-eq0.true
     c.change_at.ensures
 
-pub free_place-f-requires : goal.free_place-f-requires
-free_place-f-requires c = (sound_holders c.args.index.now c.requires.0, c.beside-held.ensures.1, c.pointer_of-pointer.ensures.1)
+pub free_place-requires : goal.free_place-requires
+free_place-requires c = (sound_holders c.args.index.now c.requires.0, c.beside-held.ensures.1, c.pointer_of-pointer.ensures.1)
 
 pub returns-in_default : goal.returns-in_default
 returns-in_default c =
     let a = c.args in
     in_full a.index.now a.s.now a.o a.i c.cell-c.ensures.0 c.lacks_picture.ensures c.if-lacks_picture.false c.pointer_of-pointer.ensures.0 c.beside-held.ensures.0
-    c.if-o-eq0.false c.free_place-f.ensures c.in_default.is
+    c.if-o-eq0.false c.free_place.ensures c.in_default.is
 
 pub returns : goal.returns
 returns c =
     let a = c.args in
     in_taken a.index.now a.s.now a.o a.i c.cell-c.ensures.0 c.lacks_picture.ensures c.if-lacks_picture.false c.pointer_of-pointer.ensures.0 c.beside-held.ensures.0
-    c.if-o-eq0.false c.free_place-f.ensures c.in-At.is c.change_at-2.ensures
+    c.if-o-eq0.false c.free_place.ensures c.in-Some.is c.change_at-2.ensures

@@ -35,8 +35,8 @@ returns-then-o-eq0-2 c =
     (in_plain a.index.now a.s.now a.o a.i c.cell-c.ensures.0 c.lacks_picture.ensures c.if-lacks_picture.false c.pointer_of-pointer.ensures.0 c.beside-beside.ensures.0
     c.if-o-eq0-2.true c.change_at.ensures) c.carry_out.ensures
 
-pub free_place_from-f-requires : goal.free_place_from-f-requires
-free_place_from-f-requires c =
+pub free_place_from-requires : goal.free_place_from-requires
+free_place_from-requires c =
     record {
       bytes_value = (sound_holders c.args.index.now c.requires.0, c.beside-beside.ensures.1, c.pointer_of-pointer.ensures.1);
       held_below = c.requires.3;
@@ -47,7 +47,7 @@ returns-in_default c =
     let a = c.args in
     steps_refused a.full a.index.now (λ e. omega (arith, e)) c.no_slot-in_default.ensures
     (in_full a.index.now a.s.now a.o a.i c.cell-c.ensures.0 c.lacks_picture.ensures c.if-lacks_picture.false c.pointer_of-pointer.ensures.0 c.beside-beside.ensures.0
-    c.if-o-eq0-2.false c.free_place_from-f.ensures c.in_default.is)
+    c.if-o-eq0-2.false c.free_place_from.ensures c.in_default.is)
 
 pub carry_out-requires-2 : goal.carry_out-requires-2
 carry_out-requires-2 c =
@@ -56,8 +56,8 @@ carry_out-requires-2 c =
     let held = c.beside-beside.result in
     let pointer = c.pointer_of-pointer.result in (
       sound_long x c.requires.0,
-      with_fits a.o a.i held pointer c.in-At.p c.change_at-2.ensures c.requires.1 c.beside-beside.ensures.1 c.pointer_of-pointer.ensures.1
-          (place_small x held pointer c.requires.0 c.free_place_from-f.ensures c.in-At.is),
+      with_fits a.o a.i held pointer c.in-Some.p c.change_at-2.ensures c.requires.1 c.beside-beside.ensures.1 c.pointer_of-pointer.ensures.1
+          (place_small x held pointer c.requires.0 c.free_place_from.ensures c.in-Some.is),
     )
 
 pub returns : goal.returns
@@ -65,4 +65,4 @@ returns c =
     let a = c.args in
     steps_as a.full a.index.now
     (in_taken a.index.now a.s.now a.o a.i c.cell-c.ensures.0 c.lacks_picture.ensures c.if-lacks_picture.false c.pointer_of-pointer.ensures.0 c.beside-beside.ensures.0
-    c.if-o-eq0-2.false c.free_place_from-f.ensures c.in-At.is c.change_at-2.ensures) c.carry_out-2.ensures
+    c.if-o-eq0-2.false c.free_place_from.ensures c.in-Some.is c.change_at-2.ensures) c.carry_out-2.ensures

@@ -11,21 +11,21 @@ is_touched-requires c = c.requires.long
 pub returns-then-is_touched : goal.returns-then-is_touched
 returns-then-is_touched c = c.window_followed.ensures
 
-pub find-search-requires : goal.find-search-requires
-find-search-requires c = sound_long c.args.index.now c.requires.sound
+pub find-requires : goal.find-requires
+find-requires c = sound_long c.args.index.now c.requires.sound
 
 pub returns-in_default : goal.returns-in_default
 returns-in_default c = c.window_followed-in_default.ensures
 
 pub window_marked-requires : goal.window_marked-requires
 window_marked-requires c =
-    let k = found_slot c.args.index.now c.args.w.id c.in-At.i c.find-search.ensures c.in-At.is in
+    let k = found_slot c.args.index.now c.args.w.id c.in-Some.i c.find.ensures c.in-Some.is in
     (k.0, c.requires.room)
 
 pub returns : goal.returns
 returns c =
     let a = c.args in
-    let k = found_slot a.index.now a.w.id c.in-At.i c.find-search.ensures c.in-At.is in
+    let k = found_slot a.index.now a.w.id c.in-Some.i c.find.ensures c.in-Some.is in
     let bytes : Bytes a.journal.now = record { small = λ i. omega (arith, c.shared_slice_known-3-1.given i) } in
-    marked_figure a.index.now a.bodies.now a.journal.now a.count a.w c.in-At.i c.requires.sound c.requires.room bytes
+    marked_figure a.index.now a.bodies.now a.journal.now a.count a.w c.in-Some.i c.requires.sound c.requires.room bytes
     (sym c.is_touched.ensures ∙ c.if-is_touched.false) k.1 c.window_marked.ensures

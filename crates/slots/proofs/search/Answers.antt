@@ -1,7 +1,7 @@
 -- The slots before i have other ids; those from i on are still to be searched.
+use Rattle.std.specs.Prelude.{Some, None}
 use Rattle.std.proofs.Common.{◌+◌, ◌-◌, ◌∙◌, rules}
 use Rattle.slots.proofs.Ways.{first_start, first_here, first_next, first_none, search_is}
-use Rattle.places.specs.declared.Found.TheVariants.{At, Nothing}
 use Rattle.slots.specs.Slots.{is_at}
 use Rattle.slots.proofs.search.Goals as goal
 
@@ -13,7 +13,7 @@ loop-i-init c =
 pub returns-then-is_at : goal.returns-then-is_at
 returns-then-is_at c =
     let a = c.args in
-    search_is (is_at a.index.now a.a a.b) a.first a.count (At c.loop-i.i)
+    search_is (is_at a.index.now a.a a.b) a.first a.count (Some c.loop-i.i)
     (c.loop-i.invariant.3 ∙ first_here (is_at a.index.now a.a a.b) (a.first + a.count) c.loop-i.i c.loop-i-test.true c.is_at.ensures c.if-is_at.true)
 
 pub loop-i-preserved : goal.loop-i-preserved
@@ -24,5 +24,5 @@ loop-i-preserved c =
 pub returns : goal.returns
 returns c =
     let a = c.args in
-    search_is (is_at a.index.now a.a a.b) a.first a.count Nothing
+    search_is (is_at a.index.now a.a a.b) a.first a.count None
     (c.loop-i.invariant.3 ∙ first_none (is_at a.index.now a.a a.b) (a.first + a.count) c.loop-i.i c.loop-i-test.false)

@@ -9,12 +9,12 @@ overflow_add-result c =
     let a = c.args in
     omega (arith, looked_most (is_at a.index.now a.a a.b) 16 16 c.search-g.ensures)
 
-pub returns-in-At : goal.returns-in-At
-returns-in-At c =
+pub returns-in-Some : goal.returns-in-Some
+returns-in-Some c =
     let a = c.args in
-    half_found (is_at a.index.now a.a a.b) c.search-f.ensures c.in-At.is
+    half_found (is_at a.index.now a.a a.b) c.search-f.ensures c.in-Some.is
 
-pub returns-in-Nothing : goal.returns-in-Nothing
-returns-in-Nothing c =
+pub returns-in-None : goal.returns-in-None
+returns-in-None c =
     let a = c.args in
-    half_none (is_at a.index.now a.a a.b) c.search-f.ensures c.in-Nothing.is c.search-g.ensures
+    half_none (is_at a.index.now a.a a.b) c.search-f.ensures c.in-None.is c.search-g.ensures

@@ -1,7 +1,7 @@
 -- Ids with a new mark have not stood; with a mark that is known they can only have stood from its first slot on.
-use Rattle.std.proofs.Common.{◌*◌, ◌+◌, ◌-◌, ◌∙◌, ◌≡◌, arith, get_or, sym}
+use Rattle.std.proofs.Common.{◌*◌, ◌+◌, ◌-◌, ◌∙◌, ◌≡◌, arith, get_or, refl, sym}
 use Rattle.slots.proofs.Ways.{found_is}
-use Rattle.slots.proofs.Once.{first_lent, second_lent, used_lent, slot_free, none_used, slot_high, first_seen, later_seen, stood_twice, seen_free, seen_set, seen_kept}
+use Rattle.slots.proofs.Once.{first_lent, second_lent, used_lent, slot_free, none_used, slot_high, first_seen, told_by_search, seen_free, seen_set}
 use Rattle.slots.specs.Slots.{used_at, first_id, second_id, is_at}
 use Rattle.wire.proofs.Tests.{never}
 use Rattle.slots.proofs.sound.slot_ok.Goals as goal
@@ -53,34 +53,20 @@ overflow_sub-i c =
     let w = c.requires.seen.within c.mark-m.result c.if-seen-m-eq0.false in
     omega (arith, w.1)
 
-pub search-f-requires : goal.search-f-requires
-search-f-requires c =
+pub search-requires : goal.search-requires
+search-requires c =
     let w = c.requires.seen.within c.mark-m.result c.if-seen-m-eq0.false in
     (omega (arith, w.1, c.requires.count_bound.0, c.requires.count_bound.2), c.requires.count_bound.3)
 
-pub returns-in-At : goal.returns-in-At
-returns-in-At c =
-    let first_id_lem : c.read_u32-a.result ≡ first_id c.args.index.now c.args.i = (let a = c.args in first_lent a.index.now a.i (157 + 9 * a.i + 9 - (157 + 9 * a.i)) (omega arith) c.read_u32-a.ensures) in
-    let second_id_lem : c.read_u32-b.result ≡ second_id c.args.index.now c.args.i = (let a = c.args in second_lent a.index.now a.i (157 + 9 * a.i + 9 - (157 + 9 * a.i)) (omega arith) c.read_u32-b.ensures) in
-    let listed : used_at c.args.index.now c.args.i ≡ 1 = (let a = c.args in sym (used_lent a.index.now a.i) ∙ c.if-used-ne1.false) in
+pub returns : goal.returns
+returns c =
     let a = c.args in
     let x = a.index.now in
     let q = c.requires.count_bound in
     let from = get_or a.seen.now c.mark-m.result 0 - 1 in
-    record {
-      value = stood_twice a.seen.now x a.first a.i c.requires.seen q.1 (listed) (first_id_lem) (second_id_lem) c.mark-m.ensures.0 c.if-seen-m-eq0.false a.count a.top c.if-top-b.false (found_is (is_at x c.read_u32-a.result c.read_u32-b.result) from (a.i - from) c.search-f.ensures c.in-At.is);
-      seen_2 = λ t. never t;
-    }
-
-pub returns-in-Nothing : goal.returns-in-Nothing
-returns-in-Nothing c =
-    let first_id_lem : c.read_u32-a.result ≡ first_id c.args.index.now c.args.i = (let a = c.args in first_lent a.index.now a.i (157 + 9 * a.i + 9 - (157 + 9 * a.i)) (omega arith) c.read_u32-a.ensures) in
-    let second_id_lem : c.read_u32-b.result ≡ second_id c.args.index.now c.args.i = (let a = c.args in second_lent a.index.now a.i (157 + 9 * a.i + 9 - (157 + 9 * a.i)) (omega arith) c.read_u32-b.ensures) in
-    let listed : used_at c.args.index.now c.args.i ≡ 1 = (let a = c.args in sym (used_lent a.index.now a.i) ∙ c.if-used-ne1.false) in
-    let a = c.args in
-    let x = a.index.now in
-    let q = c.requires.count_bound in
-    let from = get_or a.seen.now c.mark-m.result 0 - 1 in record {
-      value = later_seen a.seen.now x a.first a.i c.requires.seen q.1 (listed) (first_id_lem) (second_id_lem) c.mark-m.ensures.0 c.if-seen-m-eq0.false a.count a.top q.2 c.if-top-b.false (found_is (is_at x c.read_u32-a.result c.read_u32-b.result) from (a.i - from) c.search-f.ensures c.in-Nothing.is);
-      seen_2 = λ t. seen_kept a.seen.now x a.first a.i c.requires.seen q.1 (listed) (first_id_lem) (second_id_lem) c.mark-m.ensures.0 c.if-seen-m-eq0.false;
-    }
+    let first_id_lem : c.read_u32-a.result ≡ first_id x a.i = first_lent x a.i (157 + 9 * a.i + 9 - (157 + 9 * a.i)) (omega arith) c.read_u32-a.ensures in
+    let second_id_lem : c.read_u32-b.result ≡ second_id x a.i = second_lent x a.i (157 + 9 * a.i + 9 - (157 + 9 * a.i)) (omega arith) c.read_u32-b.ensures in
+    let listed : used_at x a.i ≡ 1 = sym (used_lent x a.i) ∙ c.if-used-ne1.false in
+    let r = told_by_search a.seen.now x a.first a.i c.requires.seen q.1 listed first_id_lem second_id_lem c.mark-m.ensures.0 c.if-seen-m-eq0.false a.count a.top q.2 c.if-top-b.false c.search.result.found
+    (found_is (is_at x c.read_u32-a.result c.read_u32-b.result) from (a.i - from) c.search.ensures refl) c.is_none.ensures in
+    record { value = r.0; seen_2 = r.1 }
