@@ -2,14 +2,11 @@
 // the second one with the order. Prints the number, its words and, where it is not 0, the offset of the field at fault.
 #![tactic(auto)]
 
-ghost use Rattle.std.specs.Prelude.{◌≤◌, length};
-
 use explain::Explanation;
+use protocol::Refusal;
 use std::fs::File;
 use std::io;
 use std::rt::{Env, Files};
-
-mod words;
 
 // What is read of the state: its parts, and the most places.
 const STATE: usize = explain_call::PLACES_AT + (places::MOST as usize) * store::PLACE;
@@ -20,92 +17,68 @@ const ORDER: usize = 65536;
 // The longest argument that is read.
 const ARGUMENT: usize = 4096;
 
-// The longest text: the longest words, two numbers of up to 20 digits, and the ends of three lines.
-const TEXT: usize = 160;
-
-// What was read of a file: whether it can be read, and how many of its bytes were.
-#[derive(Drop)]
-struct Content {
-    pub fit: bool,
-    pub len: usize,
+// Opens the file that argument i names. None where it cannot be opened, or its name is not UTF-8.
+fn open<R: Env + Files>(rt: &R, i: usize) -> Option<R::File> {
+    let mut argument = [0u8; ARGUMENT];
+    let len = rt.arg(i, &mut argument).ok()?;
+    let name = str::from_utf8(&argument[..len]).ok()?;
+    File::open(rt, name).ok()
 }
 
-fn unfit() -> Content
-    ensures { result.len ≤ 0 }
-{
-    Content { fit: false, len: 0 }
+// The file that argument i names, as much of it as so many bytes. None where nothing of it can be read.
+fn read(
+    rt: &(impl AllocGlobal + Env + Files),
+    i: usize,
+    most: usize,
+) -> io::Result<Option<Vec<u8>>> {
+    let Some(mut file) = open(rt, i) else {
+        return Ok(None);
+    };
+    let mut content = vec![in rt.alloc(); 0u8; most]?;
+    let (len, ended) = input::fill(&mut file, content.as_mut_slice());
+    content.truncate(len);
+    Ok(Some(content).filter(|content| !content.is_empty() || ended.is_ok()))
 }
 
-// Reads the file that argument i names, as much of it as out has room for. Nothing where it cannot be read, or its name is not UTF-8.
-fn read(rt: &(impl Env + Files), i: usize, out: &mut [u8]) -> Content
-    ensures { result.len ≤ length out.new }
-{
-    let mut path = [0u8; ARGUMENT];
-    let Ok(n) = rt.arg(i, &mut path) else {
-        return unfit();
-    };
-    let Ok(name) = str::from_utf8(&path[..n]) else {
-        return unfit();
-    };
-    let Ok(mut file) = File::open(rt, name) else {
-        return unfit();
-    };
-    let (len, ended) = input::fill(&mut file, out);
-    Content {
-        fit: (len > 0) | ended.is_ok(),
-        len,
+// Prints what is told of the order.
+fn tell(rt: &impl Print, told: Explanation) -> io::Result<()> {
+    match Refusal::try_from(u32::from(told.number)) {
+        Ok(refusal) => println!(rt; "{}\n{refusal}\n{}", told.number, told.at),
+        Err(_) => println!(rt; "0\ndone"),
     }
-}
-
-// Lays what the program prints without the end of the last line, and answers where it ends.
-fn lay(out: &mut [u8], e: Explanation) -> usize {
-    let n = print::decimal(out, 0, e.number as u64);
-    let n = print::byte(out, n, b'\n');
-    let n = words::lay(out, n, e.number);
-    if e.number != 0 {
-        let n = print::byte(out, n, b'\n');
-        return print::decimal(out, n, e.at as u64);
-    }
-    n
 }
 
 // Whether there is an argument after the two. An empty one counts as none, and so does one too long to be read.
 fn is_more(rt: &impl Env) -> bool {
-    let mut word = [0u8; ARGUMENT];
-    matches!(rt.arg(3, &mut word), Ok(n) if n > 0)
+    let mut argument = [0u8; ARGUMENT];
+    matches!(rt.arg(3, &mut argument), Ok(len) if len > 0)
 }
 
 // Says on standard error what is wrong with the arguments, and how the program is used.
-fn tell_unfit(rt: &(impl Env + Eprint), state: bool, order: bool) -> io::Result<()> {
-    if !state {
+fn tell_unfit(rt: &(impl Env + Eprint), has_state: bool, has_order: bool) -> io::Result<()> {
+    if !has_state {
         eprintln!(rt; "rail_explain: STATE cannot be read, and counts as empty")?;
     }
-    if !order {
+    if !has_order {
         eprintln!(rt; "rail_explain: ORDER cannot be read, and counts as empty")?;
     }
-    if !state | !order | is_more(rt) {
+    if !has_state || !has_order || is_more(rt) {
         eprintln!(rt; "usage: rail_explain STATE ORDER, the names of two files (docs/FORMATS.md)")?;
     }
     Ok(())
 }
 
-fn run(
-    rt: &(impl Env + Eprint + Files + Print),
-    state: &mut [u8],
-    order: &mut [u8],
-) -> io::Result<()> {
-    let s = read(rt, 1, state);
-    let o = read(rt, 2, order);
-    let n = s.len;
-    let k = o.len;
-    let mut out = [0u8; TEXT];
-    let end = lay(&mut out, explain_call::in_one(&state[0..n], &order[0..k]));
-    print::end_line(&mut io::writer(rt), &mut out, end)?;
-    tell_unfit(rt, s.fit, o.fit)
+fn run(rt: &(impl AllocGlobal + Env + Eprint + Files + Print)) -> io::Result<()> {
+    let state = read(rt, 1, STATE)?;
+    let order = read(rt, 2, ORDER)?;
+    let told = explain_call::in_one(
+        state.as_deref().unwrap_or(&[]),
+        order.as_deref().unwrap_or(&[]),
+    );
+    tell(rt, told)?;
+    tell_unfit(rt, state.is_some(), order.is_some())
 }
 
 fn main(rt: HostRuntime) -> io::Result<()> {
-    let mut state = [0u8; STATE];
-    let mut order = [0u8; ORDER];
-    run(&rt, &mut state, &mut order)
+    run(&rt)
 }

@@ -1,121 +1,174 @@
-// The fields of each type of message: a row for each type, and for each shape of system parameters. A row is a record as text. In it `.`,
-// `:` and `#` stand for a number of 1, 2 and 4 bytes as a decimal, `?` for a byte as 0 or 1, `~` for a number of 2 bytes as a signed
-// decimal, `%` for a number of 4 bytes as eight hex digits, and `$` for a string as its bytes in hex. Each of them is a word of the
-// record; a string is two, its place and its length, and a payload has its length, in 2 bytes.
-const ROWS: [u8; 589] = *b"0001 flags=: program=$ directory=$ arguments=$\n\
-    0002 window=# enabled=.\n\
-    0003 setting=% value=.\n\
-    0003 setting=% left=: top=: right=: bottom=:\n\
-    0003 setting=% flags=# string=$\n\
-    0004 window=# command=:\n\
-    0005 build=#\n\
-    0006 window=# icon=# message=#\n\
-    0008 window=# left=~ top=~ right=~ bottom=~\n\
-    0009 window=# start=? move_type=: x=~ y=~\n\
-    000a window=# max_width=: max_height=: max_x=~ max_y=~ min_track_width=: min_track_height=: max_track_width=: max_track_height=:\n\
-    000b flags=#\n\
-    000c window=# left=~ top=~\n\
-    000e window=#\n\
-    000f window=# string=$\n\
-    0013 build=# flags=#\n\
-    0080 flags=: result=: raw=# string=$\n";
+// The fields of each type of message, in carried order.
 
-// The number of the row after the last, which is empty.
-const NONE: usize = 17;
-
-// The row of system parameters with this setting.
-fn setting_row(setting: u32) -> usize {
-    if pdu_rule::is_byte_setting(setting) {
-        return 2;
-    }
-    if pdu_rule::is_area_setting(setting) {
-        return 3;
-    }
-    if setting == 0x43 { 4 } else { NONE }
+// How a field stands in an item, and how it is printed.
+#[derive(Clone, Copy, Debug, PartialEq, Eq)]
+pub(crate) enum Form {
+    // A number of 1, 2 or 4 bytes, as a decimal.
+    Byte,
+    Word,
+    Long,
+    // A byte that is 0 or another, as 0 or 1.
+    Flag,
+    // A number of 2 bytes, as a signed decimal.
+    Signed,
+    // A number of 4 bytes, as eight hex digits.
+    Setting,
+    // Bytes, in hex. Their length takes 2 bytes, and they stand behind the fields.
+    Text,
 }
 
-// The row of a type, of system parameters by their setting.
-fn row(kind: u32, setting: u32) -> usize {
-    match kind {
-        0x01 => 0,
-        0x02 => 1,
-        0x03 => setting_row(setting),
-        0x04 => 5,
-        0x05 => 6,
-        0x06 => 7,
-        0x08 => 8,
-        0x09 => 9,
-        0x0A => 10,
-        0x0B => 11,
-        0x0C => 12,
-        0x0E => 13,
-        0x0F => 14,
-        0x13 => 15,
-        0x80 => 16,
-        _ => NONE,
-    }
-}
-
-// Byte i of the rows; past them the end of a row.
-pub(crate) fn byte(i: usize) -> u8 {
-    if i < ROWS.len() { ROWS[i] } else { b'\n' }
-}
-
-// Where the row after so many others starts.
-fn row_start(rows: &[u8], others: usize) -> usize {
-    let mut left = others;
-    let mut i = 0;
-    while i < rows.len() {
-        if left == 0 {
-            return i;
+impl Form {
+    // Its bytes among the fields of an item.
+    pub(crate) fn width(self) -> usize {
+        match self {
+            Form::Byte | Form::Flag => 1,
+            Form::Word | Form::Signed | Form::Text => 2,
+            Form::Long | Form::Setting => 4,
         }
-        if rows[i] == b'\n' {
-            left -= 1;
+    }
+}
+
+// A field: its name, and its form.
+pub(crate) struct Field(pub &'static str, pub Form);
+
+// The records that differ in their fields: one for each type, and for each shape of system parameters.
+#[derive(Clone, Copy, Debug, PartialEq, Eq)]
+pub(crate) enum Shape {
+    Execute,
+    Activate,
+    ByteSetting,
+    AreaSetting,
+    HighContrast,
+    SystemCommand,
+    Handshake,
+    NotifyEvent,
+    WindowMove,
+    MoveSize,
+    MinMaxInfo,
+    ClientInformation,
+    SystemMenu,
+    GetApplicationId,
+    ApplicationIdResponse,
+    HandshakeEx,
+    ExecuteResult,
+}
+
+impl Shape {
+    // That of system parameters with this setting.
+    fn of_setting(setting: u32) -> Option<Shape> {
+        if pdu_rule::is_byte_setting(setting) {
+            return Some(Shape::ByteSetting);
         }
-        i += 1;
-    }
-    i
-}
-
-// Where the row that starts at index from ends.
-fn row_end(rows: &[u8], from: usize) -> usize {
-    let mut i = from;
-    while i < rows.len() {
-        if rows[i] == b'\n' {
-            return i;
+        if pdu_rule::is_area_setting(setting) {
+            return Some(Shape::AreaSetting);
         }
-        i += 1;
+        if setting == 0x43 {
+            return Some(Shape::HighContrast);
+        }
+        None
     }
-    i
-}
 
-// Where the row of a type starts, of system parameters by their setting.
-pub(crate) fn start(kind: u32, setting: u32) -> usize {
-    row_start(&ROWS, row(kind, setting))
-}
-
-// Where it ends.
-pub(crate) fn end(from: usize) -> usize {
-    row_end(&ROWS, from)
-}
-
-// How many bytes of a payload the byte b of a row stands for.
-pub(crate) fn width(b: u8) -> u32 {
-    match b {
-        b'.' | b'?' => 1,
-        b':' | b'~' | b'$' => 2,
-        b'#' | b'%' => 4,
-        _ => 0,
+    // That of a type, of system parameters by their setting.
+    pub(crate) fn of(kind: u32, setting: u32) -> Option<Shape> {
+        match kind {
+            0x01 => Some(Shape::Execute),
+            0x02 => Some(Shape::Activate),
+            0x03 => Shape::of_setting(setting),
+            0x04 => Some(Shape::SystemCommand),
+            0x05 => Some(Shape::Handshake),
+            0x06 => Some(Shape::NotifyEvent),
+            0x08 => Some(Shape::WindowMove),
+            0x09 => Some(Shape::MoveSize),
+            0x0A => Some(Shape::MinMaxInfo),
+            0x0B => Some(Shape::ClientInformation),
+            0x0C => Some(Shape::SystemMenu),
+            0x0E => Some(Shape::GetApplicationId),
+            0x0F => Some(Shape::ApplicationIdResponse),
+            0x13 => Some(Shape::HandshakeEx),
+            0x80 => Some(Shape::ExecuteResult),
+            _ => None,
+        }
     }
-}
 
-// The number of the word after those that the byte b of a row stands for.
-pub(crate) fn after(k: usize, b: u8) -> usize {
-    if k > 11 {
-        return k;
+    // The bytes of its fields in an item.
+    pub(crate) fn width(self) -> usize {
+        self.fields()
+            .iter()
+            .fold(0, |width, field| width.saturating_add(field.1.width()))
     }
-    if width(b) == 0 {
-        return k;
+
+    pub(crate) fn fields(self) -> &'static [Field] {
+        match self {
+            Shape::Execute => &[
+                Field("flags", Form::Word),
+                Field("program", Form::Text),
+                Field("directory", Form::Text),
+                Field("arguments", Form::Text),
+            ],
+            Shape::Activate => &[Field("window", Form::Long), Field("enabled", Form::Byte)],
+            Shape::ByteSetting => &[Field("setting", Form::Setting), Field("value", Form::Byte)],
+            Shape::AreaSetting => &[
+                Field("setting", Form::Setting),
+                Field("left", Form::Word),
+                Field("top", Form::Word),
+                Field("right", Form::Word),
+                Field("bottom", Form::Word),
+            ],
+            Shape::HighContrast => &[
+                Field("setting", Form::Setting),
+                Field("flags", Form::Long),
+                Field("string", Form::Text),
+            ],
+            Shape::SystemCommand => &[Field("window", Form::Long), Field("command", Form::Word)],
+            Shape::Handshake => &[Field("build", Form::Long)],
+            Shape::NotifyEvent => &[
+                Field("window", Form::Long),
+                Field("icon", Form::Long),
+                Field("message", Form::Long),
+            ],
+            Shape::WindowMove => &[
+                Field("window", Form::Long),
+                Field("left", Form::Signed),
+                Field("top", Form::Signed),
+                Field("right", Form::Signed),
+                Field("bottom", Form::Signed),
+            ],
+            Shape::MoveSize => &[
+                Field("window", Form::Long),
+                Field("start", Form::Flag),
+                Field("move_type", Form::Word),
+                Field("x", Form::Signed),
+                Field("y", Form::Signed),
+            ],
+            Shape::MinMaxInfo => &[
+                Field("window", Form::Long),
+                Field("max_width", Form::Word),
+                Field("max_height", Form::Word),
+                Field("max_x", Form::Signed),
+                Field("max_y", Form::Signed),
+                Field("min_track_width", Form::Word),
+                Field("min_track_height", Form::Word),
+                Field("max_track_width", Form::Word),
+                Field("max_track_height", Form::Word),
+            ],
+            Shape::ClientInformation => &[Field("flags", Form::Long)],
+            Shape::SystemMenu => &[
+                Field("window", Form::Long),
+                Field("left", Form::Signed),
+                Field("top", Form::Signed),
+            ],
+            Shape::GetApplicationId => &[Field("window", Form::Long)],
+            Shape::ApplicationIdResponse => &[
+                Field("window", Form::Long),
+                Field("string", Form::Text),
+            ],
+            Shape::HandshakeEx => &[Field("build", Form::Long), Field("flags", Form::Long)],
+            Shape::ExecuteResult => &[
+                Field("flags", Form::Word),
+                Field("result", Form::Word),
+                Field("raw", Form::Long),
+                Field("string", Form::Text),
+            ],
+        }
     }
-    if b == b'$' { k + 2 } else { k + 1 }
 }

@@ -1,39 +1,35 @@
-// Runs a call script of control messages and their chunks through the library and prints what each
-// call answers.
+// Runs a call script of control messages and their chunks through the library and prints what each call answers.
 #![tactic(auto)]
 
 mod channel;
 mod fields;
 mod item;
 mod record;
-mod show;
 
+use channel::ChunkMemory;
+use item::Item;
+use script::Stop;
 use std::io;
-use std::io::Read;
 
-// A proved loop has to end, and nothing says that the input does: the items are counted up to a
-// number that no run reaches.
-fn run(
-    rt: &(impl Print + Eprint),
-    input: &mut impl Read,
-    memory: &mut [u8],
-    payload: &mut [u8],
-    out: &mut [u8],
-) -> io::Result<()> {
-    chunk_join::reset(memory);
-    let mut lack = 0;
+const USAGE: &str =
+    "rail_pdu < SCRIPT, a call script of messages (docs/FORMATS.md); second pdu < SCRIPT tells which item is bad";
+
+// A proved loop has to end, and nothing says that the input does: the items are counted up to a number that no run reaches.
+fn run(rt: &(impl AllocGlobal + Input + Print)) -> Result<(), Stop> {
+    let mut memory = ChunkMemory::new(rt.alloc())?;
+    let mut input = rt.reader();
     for _ in 0..u64::MAX {
-        let Some(next) = item::next(rt, input, memory, payload, out, lack)? else {
+        let Some(head) = script::head::<3, _>(&mut input)? else {
             break;
         };
-        lack = next;
+        let [kind, low, high] = head;
+        let payload = script::payload(rt.alloc(), &mut input, u16::from_le_bytes([low, high]))?;
+        let item = Item::parse(kind, payload.as_slice()).ok_or(Stop::BadItem)?;
+        item.run(rt, char::from(kind), &mut memory)?;
     }
     Ok(())
 }
 
 fn main(rt: HostRuntime) -> io::Result<()> {
-    let mut memory = [0xEEu8; chunk::MEMORY];
-    let mut payload = [0u8; 65535];
-    let mut out = [0u8; 36864];
-    run(&rt, &mut rt.reader(), &mut memory, &mut payload, &mut out)
+    script::end(&rt, run(&rt), USAGE)
 }

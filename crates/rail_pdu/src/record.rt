@@ -1,99 +1,115 @@
-// The record of an item P or p, as words. Its payload s has the size of the output memory at 0, the type at 2 and the fields from 4 on;
-// the strings stand after the fields.
-use crate::fields;
-use std::num::wrapping_add_u32;
+// A record as its twelve words: its type, then a word for each field, and two for a string, its place and its length.
+use crate::fields::{Field, Form, Shape};
+use std::fmt;
 
-// Where the fields start.
-const FIELDS: u32 = 4;
+pub(crate) type Words = [u32; 12];
 
-// What is next: the number of a word, the index of a field, the place of a string.
+// The most output memory that an item can ask for.
+const SIZE_MAX: usize = 17408;
+
+// The bytes of an item before its fields: the size of the output memory, and the type.
+const FIELDS_AT: usize = 4;
+
+// What an item writes: the record, the bytes that have its strings, and the size of the output memory.
 #[derive(Clone, Copy)]
-struct Cursor {
-    word: usize,
-    field: u32,
-    place: u32,
+pub(crate) struct Draft<'a> {
+    pub words: Words,
+    pub strings: &'a [u8],
+    pub size: usize,
 }
 
-// Where the fields of the row from index from to end of the rows end.
-fn fields_end(from: usize, end: usize) -> u32 {
-    let mut n = FIELDS;
-    let mut i = from;
-    while i < end {
-        n = wrapping_add_u32(n, fields::width(fields::byte(i)));
-        i += 1;
-    }
-    n
-}
-
-fn yes_number(b: u8) -> u32 {
-    if b == 0 { 0 } else { 1 }
-}
-
-// The field at index at that the byte b of a row stands for.
-fn number(s: &[u8], at: usize, b: u8) -> u32 {
-    match b {
-        b'.' => wire::read_u8(s, at) as u32,
-        b'?' => yes_number(wire::read_u8(s, at)),
-        b':' | b'$' => wire::read_u16(s, at) as u32,
-        b'~' => signs::read_word(s, at),
-        _ => wire::read_u32(s, at),
+// The number that the bytes of a field are.
+fn number(field: &[u8], form: Form) -> u32 {
+    match form {
+        Form::Byte => u32::from(wire::read_u8(field, 0)),
+        Form::Flag => u32::from(wire::read_u8(field, 0) != 0),
+        Form::Word | Form::Text => u32::from(wire::read_u16(field, 0)),
+        Form::Signed => signs::read_word(field, 0),
+        Form::Long | Form::Setting => wire::read_u32(field, 0),
     }
 }
 
-fn set(words: &mut [u32; 12], k: usize, v: u32) {
-    if k < 12 {
-        words[k] = v;
+impl<'a> Draft<'a> {
+    // None where the type is not listed, fields and strings do not fill the payload, or the output memory is too large.
+    pub(crate) fn parse(payload: &'a [u8]) -> Option<Draft<'a>> {
+        let kind = u32::from(wire::read_u16(payload, 2));
+        let shape = Shape::of(kind, wire::read_u32(payload, 4))?;
+        let mut words = [kind, 0, 0, 0, 0, 0, 0, 0, 0, 0, 0, 0];
+        let mut next = words[1..].iter_mut();
+        let mut rest = payload.get(FIELDS_AT..)?;
+        let mut string_at = FIELDS_AT.saturating_add(shape.width());
+        for Field(_, form) in shape.fields() {
+            let (field, after) = rest.split_at_checked(form.width())?;
+            let value = number(field, *form);
+            rest = after;
+            if *form == Form::Text {
+                *next.next()? = u32::try_from(string_at).ok()?;
+                string_at = string_at.saturating_add(value as usize);
+            }
+            *next.next()? = value;
+        }
+        let size = usize::from(wire::read_u16(payload, 0));
+        if string_at != payload.len() || size > SIZE_MAX {
+            return None;
+        }
+        Some(Draft {
+            words,
+            strings: payload,
+            size,
+        })
     }
 }
 
-// Sets the words of a field, v in the payload, and answers where the next string stands.
-fn lay(words: &mut [u32; 12], c: Cursor, b: u8, v: u32) -> u32 {
-    if b != b'$' {
-        set(words, c.word, v);
-        return c.place;
-    }
-    set(words, c.word, c.place);
-    set(words, fields::after(c.word, b'#'), v);
-    wrapping_add_u32(c.place, v)
-}
+// Bytes in hex.
+#[derive(Clone, Copy)]
+pub(crate) struct Hex<'a>(pub &'a [u8]);
 
-// Takes the field that the byte b of a row stands for, if it stands for one.
-fn take(s: &[u8], words: &mut [u32; 12], c: Cursor, b: u8) -> Cursor {
-    let n = fields::width(b);
-    if n == 0 {
-        return c;
-    }
-    let place = lay(words, c, b, number(s, c.field as usize, b));
-    Cursor {
-        word: fields::after(c.word, b),
-        field: wrapping_add_u32(c.field, n),
-        place,
+impl fmt::Display for Hex<'_> {
+    fn fmt<W: fmt::Write>(&self, f: &mut fmt::Formatter<W>) -> fmt::Result {
+        for byte in self.0 {
+            write!(f, "{byte:02x}")?;
+        }
+        Ok(())
     }
 }
 
-// Takes the fields of a row, and answers where the last string ends.
-fn take_all(s: &[u8], words: &mut [u32; 12], from: usize, end: usize) -> u32 {
-    let mut c = Cursor {
-        word: 1,
-        field: FIELDS,
-        place: fields_end(from, end),
-    };
-    let mut i = from;
-    while i < end {
-        c = take(s, words, c, fields::byte(i));
-        i += 1;
-    }
-    c.place
+// A record as it is printed, its strings in the bytes of the message.
+#[derive(Clone, Copy)]
+pub(crate) struct Shown<'a> {
+    pub words: Words,
+    pub message: &'a [u8],
 }
 
-// Sets the words, 0 as they are lent, to the record. False where the type is not listed, or the fields and strings do not fill the payload.
-pub(crate) fn read(s: &[u8], words: &mut [u32; 12]) -> bool {
-    let kind = wire::read_u16(s, 2) as u32;
-    let from = fields::start(kind, wire::read_u32(s, 4));
-    let end = fields::end(from);
-    if from == end {
-        return false;
+impl Shown<'_> {
+    // The bytes of a string.
+    fn string(&self, at: u32, len: u32) -> Hex<'_> {
+        let Some(rest) = self.message.get(at as usize..) else {
+            return Hex(&[]);
+        };
+        Hex(&rest[..rest.len().min(len as usize)])
     }
-    words[0] = kind;
-    take_all(s, words, from, end) as usize == s.len()
+}
+
+impl fmt::Display for Shown<'_> {
+    fn fmt<W: fmt::Write>(&self, f: &mut fmt::Formatter<W>) -> fmt::Result {
+        let [kind, setting, ..] = self.words;
+        write!(f, "type={kind:04x}")?;
+        let Some(shape) = Shape::of(kind, setting) else {
+            return Ok(());
+        };
+        let mut words = self.words[1..].iter().copied();
+        for Field(name, form) in shape.fields() {
+            let word = words.next().unwrap_or(0);
+            match form {
+                Form::Byte | Form::Flag | Form::Word | Form::Long => write!(f, " {name}={word}")?,
+                Form::Signed => write!(f, " {name}={}", signs::signed32(word))?,
+                Form::Setting => write!(f, " {name}={word:08x}")?,
+                Form::Text => {
+                    let len = words.next().unwrap_or(0);
+                    write!(f, " {name}={}", self.string(word, len))?
+                }
+            }
+        }
+        Ok(())
+    }
 }
