@@ -14,6 +14,7 @@ use pdu_to_words::{
 };
 
 // The words of a setting, by its number.
+#[tactic(auto, unfolding(pdu::specs::Settings::number_of, pdu::specs::Settings::data_of))]
 fn setting_words(words: &mut [u32; 12], s: Setting)
     ensures { words.new ≡ setting_words (number_of s) (data_of s) }
 {
@@ -32,6 +33,7 @@ fn setting_words(words: &mut [u32; 12], s: Setting)
 }
 
 // The words of a record, by its kind.
+#[tactic(auto, unfolding(pdu_words::specs::Words::words_of))]
 pub fn words_of(words: &mut [u32; 12], p: Pdu)
     ensures { words.new ≡ words_of p }
 {
@@ -49,10 +51,7 @@ pub fn words_of(words: &mut [u32; 12], p: Pdu)
         Pdu::GetApplicationId(e) => get_application_id_words(words, e),
         Pdu::ApplicationIdResponse(e) => application_id_response_words(words, e),
         Pdu::ExecuteResult(e) => execute_result_words(words, e),
-        Pdu::SystemParameters(e) => {
-            let s = e.setting;
-            setting_words(words, s)
-        }
+        Pdu::SystemParameters(e) => setting_words(words, e.setting),
         Pdu::HandshakeEx(e) => handshake_ex_words(words, e),
     }
 }
