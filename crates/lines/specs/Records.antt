@@ -1,10 +1,9 @@
 -- The lines of the session record. Assumes nothing.
-use Rattle.std.specs.Prelude.{ℕ, List, [], ◌∷◌, ◌++◌, eqb, get_or}
+use Rattle.std.specs.Prelude.{ℕ, List, [], ◌∷◌, ◌++◌, eqb, length, get_or}
 use Rattle.wire.specs.Tests.{pick}
 use Rattle.print.specs.Texts.{hex_text, decimal_text, list_text}
 use Rattle.print.specs.Templates.{ascii, fill_text}
-use Rattle.record.specs.declared.Inspected.{Inspected}
-use Rattle.record.specs.Reading.{bodies_of, inspected_of}
+use Rattle.record.specs.Reading.{record_number, bodies_of}
 use Rattle.session.specs.declared.Reply.{Reply}
 use Rattle.lines.specs.Lines.{if_granted, reply_text}
 
@@ -16,11 +15,8 @@ written_text r s = reply_text 79 r ++ if_granted r (ascii " " ++ hex_text s)
 unfoldable pub bodies_text : List ℕ → ℕ → List ℕ
 bodies_text s k = list_text 44 (λ i. hex_text (get_or (bodies_of s) i [])) k
 
--- the number of a record, and where that is 0 its bodies
-unfoldable pub contents_text : List ℕ → Inspected → List ℕ
-contents_text s c =
-    ascii "V " ++ decimal_text c.number ++ pick (eqb c.number 0) (fill_text (ascii " # bodies=") (c.count ∷ []) [] ++ bodies_text s c.count) []
-
--- the line of a record read
+-- the line of a record read: its number, and where that is 0 its bodies
 unfoldable pub read_text : List ℕ → List ℕ
-read_text s = contents_text s (inspected_of s)
+read_text s =
+    ascii "V " ++ decimal_text (record_number s)
+    ++ pick (eqb (record_number s) 0) (fill_text (ascii " # bodies=") (length (bodies_of s) ∷ []) [] ++ bodies_text s (length (bodies_of s))) []

@@ -1,10 +1,9 @@
 // The lines of the session record: as it is written, and as it is read.
 ghost use Rattle.print.specs.Laid.{Laid};
-ghost use Rattle.lines.specs.Records.{written_text, bodies_text, contents_text, read_text};
+ghost use Rattle.lines.specs.Records.{written_text, bodies_text, read_text};
 
 use print::field;
 use print::fill::numbers;
-use record::Inspected;
 use session::Reply;
 
 // The line of a write: the answer, and of a granted one the record.
@@ -32,22 +31,15 @@ fn bodies(out: &mut [u8], at: usize, s: &[u8], k: usize) -> usize
     n
 }
 
-// The number of a record, and where that is 0 its bodies.
-fn contents(out: &mut [u8], s: &[u8], c: Inspected) -> usize
-    ensures { Laid out.old 0 (contents_text s.now c) out.new result }
-{
-    let n = field(out, 0, b"V ", c.number as u64);
-    if c.number != 0 {
-        return n;
-    }
-    let n = numbers(out, n, b" # bodies=", &[c.count as u64]);
-    bodies(out, n, s, c.count)
-}
-
-// The line of a record read.
+// The line of a record read: its number, and where that is 0 its bodies.
 pub fn read(out: &mut [u8], s: &[u8]) -> usize
     ensures { Laid out.old 0 (read_text s.now) out.new result }
 {
-    let c = record::inspect(s);
-    contents(out, s, c)
+    let contents = match record::inspect(s) {
+        Ok(contents) => contents,
+        Err(refusal) => return field(out, 0, b"V ", u64::from(u32::from(refusal))),
+    };
+    let n = field(out, 0, b"V ", 0);
+    let n = numbers(out, n, b" # bodies=", &[contents.count as u64]);
+    bodies(out, n, s, contents.count)
 }

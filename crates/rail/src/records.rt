@@ -33,14 +33,18 @@ pub extern "C" fn rail_record_write(
 pub extern "C" fn rail_record_check(bytes: &[u8]) -> u32
     ensures { CheckExport bytes.now result }
 {
-    let c = record::inspect(bytes);
-    let count = c.count as u32;
-    let size = c.bytes as u32;
-    packed(Reply {
-        number: c.number,
-        count,
-        bytes: size,
-    })
+    match record::inspect(bytes) {
+        Ok(contents) => packed(Reply {
+            number: 0,
+            count: contents.count as u32,
+            bytes: contents.bytes as u32,
+        }),
+        Err(refusal) => packed(Reply {
+            number: refusal.into(),
+            count: 0,
+            bytes: 0,
+        }),
+    }
 }
 
 // Where the body of that index lies in a record that passes the check: its offset, and 65,536 times its size. 0 where there is none.
@@ -48,6 +52,8 @@ pub extern "C" fn rail_record_check(bytes: &[u8]) -> u32
 pub extern "C" fn rail_record_body(bytes: &[u8], index: u32) -> u32
     ensures { BodyExport bytes.now index result }
 {
-    let e = record::place(bytes, index as usize);
+    let Some(e) = record::place(bytes, index as usize) else {
+        return 0;
+    };
     e.offset as u32 + 65536 * (e.size as u32)
 }

@@ -3,29 +3,31 @@ use mathlib.Core.Path.{◌≡◌, refl, sym, ap, ◌∙◌}
 use mathlib.Core.Bool.{Bool, true, false}
 use mathlib.Core.List.{List, [], ◌∷◌, map}
 use Prim.Native.Nat.{ℕ, ◌+◌, ◌*◌, ◌-◌, ◌≤◌, ◌<◌}
-use native.Mathlib.Nat.{add-zero}
+use native.Mathlib.Numerals.{add-one}
 use native.Mathlib.Omega.{arith}
 use lib.Dec.{eqb, ltb}
-use lib.ListN.{length, get_or, take, drop, length-drop, get_or-map, get_or-eq_default, drop_of_length-le}
-use lib.Seq.{get_or-drop, drop-drop}
-use borrow.Author.Tests.{lt-ltb, le-ltb, ltb-true, ltb-false, eq-eqb, ne_eqb, eqb-true}
+use lib.ListN.{length, get_or, take, drop, get_or-map, get_or-eq_default, drop_of_length-le}
+use lib.Seq.{drop-cons}
+use borrow.Author.Tests.{lt-ltb, le-ltb, ltb-true, ltb-false, eqb-true, eqb-false}
 use denote.Ref.{Bor}
+use Rattle.std.specs.Prelude.{Some, None, Result, Ok, Err, is_err, MatchOption}
+use Rattle.protocol.specs.declared.Refusal.{Refusal}
+use Rattle.protocol.specs.declared.Refusal.TheVariants as refusal
+use Rattle.protocol.specs.Refusals.{number_of, Answer, says, refused_by}
 use Rattle.wire.specs.Tests.{pick}
 use Rattle.wire.specs.Numbers.{num_at}
 use Rattle.wire.specs.Parts.{slice}
-use Rattle.journal.specs.Limits.{most_bytes}
 use Rattle.journal.specs.Limits.{most_orders, most_bytes}
 use Rattle.journal.specs.State.{bytes_in}
-use Rattle.record.specs.declared.Reader.{Reader}
-use Rattle.record.specs.declared.Handed.{Handed}
-use Rattle.record.specs.declared.Turn.{Turn}
-use Rattle.record.specs.declared.Inspected.{Inspected}
+use Rattle.record.specs.declared.Entry.{Entry}
+use Rattle.record.specs.declared.Contents.{Contents}
 use Rattle.record.specs.Layout.{entry, head_of, most_record}
 use Rattle.record.specs.Reading.{count_in, contents_of, past_end, cut_short, irregular, record_number, part_of, parts_of, bodies_of, inspected_of, place_of}
-use Rattle.record.specs.Handing.{start_of, turn_of, left_of, Opens, HandsOut}
+use Rattle.record.specs.Handing.{turn_of, left_of, Opens}
 use Rattle.record.specs.RoundTrip.{PlacesBodies}
-use Rattle.record.proofs.Entries.{entries_at, length_entries, length_parts, part_within, within_at}
+use Rattle.record.proofs.Entries.{entries_at, length_parts, part_within, within_at}
 use Rattle.record.proofs.Granted.{granted_facts}
+use Rattle.wire.proofs.Tests.{never}
 use Rattle.record.proofs.RoundTrip.{granted_bodies, limits_parts, bytes_parts}
 
 -- ---- the part at an index
@@ -68,13 +70,51 @@ parts_place r i w =
     ∙ get_or-map (part_of r) (contents_of r) i (entry 0 0)
     ∙ part_within r (get_or (contents_of r) i (entry 0 0)) (within_at (length r) (contents_of r) i w))
 
--- the bodies of a record: none where it is refused
-pub refused_body : (r : List ℕ) (n i : ℕ) → n ≡ record_number r → (n ≡ 0 → ⊥) → [] ≡ get_or (bodies_of r) i []
-unfolding bodies_of
-refused_body r n i e h = rw (← e, ne_eqb n 0 h)
+-- ---- refused and granted
 
-pub granted_body : (r : List ℕ) (n i : ℕ) (b : List ℕ) → n ≡ record_number r → n ≡ 0 → b ≡ get_or (parts_of r) i [] → b ≡ get_or (bodies_of r) i []
-granted_body r n i b e h eb = rw (granted_bodies r (sym e ∙ h)) eb
+-- no refusal has the number 0
+pub refusal_counts : (e : Refusal) → eqb (number_of e) 0 ≡ false
+refusal_counts refusal.UnfitMemory = refl
+refusal_counts refusal.TooShort = refl
+refusal_counts refusal.LengthDiffers = refl
+refusal_counts refusal.UnknownType = refl
+refusal_counts refusal.UnknownFlag = refl
+refusal_counts refusal.FlagsClash = refl
+refusal_counts refusal.NotFilled = refl
+refusal_counts refusal.OutsideSet = refl
+refusal_counts refusal.WrongId = refl
+refusal_counts refusal.TableFull = refl
+refusal_counts refusal.NoCell = refl
+refusal_counts refusal.HistoryFull = refl
+refusal_counts refusal.TooManySteps = refl
+refusal_counts refusal.OutputTooSmall = refl
+refusal_counts refusal.ChunkTooShort = refl
+refusal_counts refusal.BadChunk = refl
+refusal_counts refusal.NoPlace = refl
+refusal_counts refusal.RecordCut = refl
+refusal_counts refusal.RecordDiffers = refl
+refusal_counts refusal.WrongEnd = refl
+refusal_counts refusal.NotPermitted = refl
+
+refused : {A : Type 0} (x : Result A Refusal) → is_err x ≡ true → eqb (refused_by x) 0 ≡ false
+refused (Ok v) h = never h
+refused (Err e) h = refusal_counts e
+
+granted : {A : Type 0} (x : Result A Refusal) → is_err x ≡ false → refused_by x ≡ 0
+granted (Ok v) h = refl
+granted (Err e) h = never (sym h)
+
+-- the bodies of a record: none where it is refused
+none_of : (r : List ℕ) → eqb (record_number r) 0 ≡ false → bodies_of r ≡ []
+unfolding bodies_of
+none_of r e = rw e
+
+module _ (r : List ℕ) (i : ℕ) {A : Type 0} (x : Result A Refusal) (e : refused_by x ≡ record_number r) where
+  pub refused_body : is_err x ≡ true → [] ≡ get_or (bodies_of r) i []
+  refused_body h = rw (none_of r (ap (λ (n : ℕ). eqb n 0) (sym e) ∙ refused x h))
+
+  pub granted_body : (b : List ℕ) → is_err x ≡ false → b ≡ get_or (parts_of r) i [] → b ≡ get_or (bodies_of r) i []
+  granted_body b h eb = rw (granted_bodies r (sym e ∙ granted x h)) eb
 
 -- ---- a record inspected, and where a body lies
 
@@ -87,184 +127,154 @@ granted_bytes r e =
     let g = granted_facts r e in
     rw (granted_bodies r e) (bytes_parts r (contents_of r) g.within ∙ omega (arith, g.whole))
 
-pub head_fits : (r : List ℕ) {n c : ℕ} → n ≡ record_number r → n ≡ 0 → c ≡ count_in r → head_of c ≤ length r
-head_fits r e z is = let g = granted_facts r (sym e ∙ z) in omega (arith, g.head, is)
+pub head_fits : (r : List ℕ) {c : ℕ} → 0 ≡ record_number r → c ≡ count_in r → head_of c ≤ length r
+head_fits r e is = let g = granted_facts r (sym e) in omega (arith, g.head, is)
 
-pub inspect_refused : (r : List ℕ) {n : ℕ} → n ≡ record_number r → (n ≡ 0 → ⊥) → record { number = n; count = 0; bytes = 0 } ≡ inspected_of r
-unfolding inspected_of bodies_of bytes_in
-inspect_refused r {n = n} e h = rw (← e, ne_eqb n 0 h)
-
-pub inspect_granted : (r : List ℕ) {n c : ℕ} → n ≡ record_number r → n ≡ 0 → c ≡ count_in r → record { number = n; count = c; bytes = length r - head_of c } ≡ inspected_of r
+pub inspect_refused : (r : List ℕ) (e : Refusal) → number_of e ≡ record_number r → says (Err e) ≡ inspected_of r
 unfolding inspected_of
-inspect_granted r e z is = let g = sym e ∙ z in rw (granted_length r g, granted_bytes r g, e, is)
+inspect_refused r e h = rw (← h, refusal_counts e)
 
--- how many are handed out: none of a record that is refused
-count_of : (r : List ℕ) (t : Bool) → eqb (record_number r) 0 ≡ t → (inspected_of r).count ≡ pick t (count_in r) 0
-unfolding inspected_of bodies_of
-count_of r true e = rw e (length_parts r)
-count_of r false e = rw e
+pub inspect_granted : (r : List ℕ) {c : ℕ} → 0 ≡ record_number r → c ≡ count_in r → says (Ok (record { count = c; bytes = length r - head_of c })) ≡ inspected_of r
+unfolding inspected_of
+inspect_granted r e is = let g = sym e in rw (granted_length r g, granted_bytes r g, g, is)
 
-module _ (r : List ℕ) (i : ℕ) {c : Inspected} (is : c ≡ inspected_of r) where
-  count_is : (t : Bool) → eqb (record_number r) 0 ≡ t → c.count ≡ pick t (count_in r) 0
-  count_is t e = ap (λ (x : Inspected). x.count) is ∙ count_of r t e
+-- what is told of a granted record
+module _ (r : List ℕ) (c : Contents) (is : says (Ok c) ≡ inspected_of r) where
+  pub told_granted : record_number r ≡ 0
+  unfolding inspected_of
+  told_granted = sym (ap (λ (a : Answer Contents). a.number) is)
 
-  pub place_none : c.count ≤ i → entry 0 0 ≡ place_of r i
-  unfolding place_of
-  place_none h = go (eqb (record_number r) 0) refl
-    where
-      go : (t : Bool) → eqb (record_number r) 0 ≡ t → entry 0 0 ≡ pick t (get_or (contents_of r) i (entry 0 0)) (entry 0 0)
-      go true e = sym (get_or-eq_default (contents_of r) (entry 0 0) (omega (arith, length_entries (count_in r) 2 r, count_is true e)))
-      go false e = refl
+  -- its count and its bytes
+  pub told : c ≡ record { count = length (bodies_of r); bytes = bytes_in (bodies_of r) }
+  unfolding inspected_of
+  told = ap (λ (a : Answer Contents). get_or a.values 0 c) is ∙ rw told_granted
 
-  module _ (h : i < c.count) where
-    counted : i < count_in r
-    counted = go (eqb (record_number r) 0) refl
-      where
-        go : (t : Bool) → eqb (record_number r) 0 ≡ t → i < count_in r
-        go true e = omega (arith, count_is true e)
-        go false e = absurd (omega (arith, count_is false e))
+  pub count_is : c.count ≡ length (bodies_of r)
+  count_is = ap (λ (x : Contents). x.count) told
 
-    granted-is : record_number r ≡ 0
-    granted-is = go (eqb (record_number r) 0) refl
-      where
-        go : (t : Bool) → eqb (record_number r) 0 ≡ t → record_number r ≡ 0
-        go true e = eqb-true (record_number r) 0 e
-        go false e = absurd (omega (arith, count_is false e))
+  -- it is within its limits
+  pub told_small : (c.count ≤ most_orders) × (c.bytes ≤ most_bytes)
+  told_small = let l = limits_parts r (granted_facts r told_granted) in rw (told, granted_bodies r told_granted) (l.few, l.small)
 
-    -- its entry lies within
-    pub entry_fits : 2 + 8 * i + 8 ≤ length r
-    entry_fits = let g = granted_facts r granted-is in omega (arith, g.head, counted)
-
-    pub place_at_lem : {o s : ℕ} → o ≡ num_at 4 r (2 + 8 * i) → s ≡ num_at 4 r (2 + 8 * i + 4) → entry o s ≡ place_of r i
+  module _ (i : ℕ) where
+    pub place_past : c.count ≤ i → None ≡ place_of r i
     unfolding place_of
-    place_at_lem eo es = rw (granted-is, eo, es) (sym (entries_at (count_in r) i 2 r (entry 0 0) counted))
+    place_past h = rw (le-ltb i (length (bodies_of r)) (omega (arith, count_is)))
+
+    module _ (h : i < c.count) where
+      counted : i < count_in r
+      counted = omega (arith, count_is, granted_length r told_granted)
+
+      -- its entry lies within
+      pub entry_fits : 2 + 8 * i + 8 ≤ length r
+      entry_fits = let g = granted_facts r told_granted in omega (arith, g.head, counted)
+
+      pub place_at_lem : {o s : ℕ} → o ≡ num_at 4 r (2 + 8 * i) → s ≡ num_at 4 r (2 + 8 * i + 4) → Some (entry o s) ≡ place_of r i
+      unfolding place_of
+      place_at_lem eo es = rw (lt-ltb i (length (bodies_of r)) (omega (arith, count_is, h)), eo, es) (ap Some (sym (entries_at (count_in r) i 2 r (entry 0 0) counted)))
+
+-- and of a refused one
+pub told_refused : (r : List ℕ) (e : Refusal) → says (Err e) ≡ inspected_of r → number_of e ≡ record_number r
+unfolding inspected_of
+told_refused r e is = ap (λ (a : Answer Contents). a.number) is
+
+pub told_nonzero : (r : List ℕ) (e : Refusal) → says (Err e) ≡ inspected_of r → record_number r ≡ 0 → ⊥
+told_nonzero r e is z = eqb-false (number_of e) 0 (refusal_counts e) (told_refused r e is ∙ z)
+
+pub no_bodies : (r : List ℕ) (e : Refusal) → says (Err e) ≡ inspected_of r → bodies_of r ≡ []
+no_bodies r e is = none_of r (ap (λ (n : ℕ). eqb n 0) (sym (told_refused r e is)) ∙ refusal_counts e)
+
+pub place_refused : (r : List ℕ) (i : ℕ) (e : Refusal) → says (Err e) ≡ inspected_of r → None ≡ place_of r i
+unfolding place_of
+place_refused r i e is = rw (no_bodies r e is, le-ltb i 0 (omega arith))
+
+-- a record with a body is granted
+has_body : (r : List ℕ) (i : ℕ) → i < length (bodies_of r) → record_number r ≡ 0
+has_body r i h = go (eqb (record_number r) 0) refl
+  where
+    go : (t : Bool) → eqb (record_number r) 0 ≡ t → record_number r ≡ 0
+    go true e = eqb-true (record_number r) 0 e
+    go false e = absurd (omega (arith, h, ap length (none_of r e)))
 
 -- the part that lies there is the body
 pub place_body : PlacesBodies
-unfolding PlacesBodies place_of bodies_of
-place_body r i = go (eqb (record_number r) 0) refl
+unfolding PlacesBodies place_of
+place_body r i = go (ltb i (length (bodies_of r))) refl
   where
-    nothing-there : slice r 0 0 ≡ []
-    nothing-there = unfold slice in refl
-
-    go : (t : Bool) → eqb (record_number r) 0 ≡ t
-        → slice r (pick t (get_or (contents_of r) i (entry 0 0)) (entry 0 0)).offset (pick t (get_or (contents_of r) i (entry 0 0)) (entry 0 0)).size ≡ get_or (pick t (parts_of r) []) i []
-    go false e = nothing-there
-    go true e = parts_place r i (granted_facts r (eqb-true (record_number r) 0 e)).within
+    go : (t : Bool) → ltb i (length (bodies_of r)) ≡ t
+        → MatchOption (pick t (Some (get_or (contents_of r) i (entry 0 0))) None) (length (bodies_of r) ≤ i) (λ e. slice r e.offset e.size ≡ get_or (bodies_of r) i [])
+    go true e =
+        let z = has_body r i (ltb-true i (length (bodies_of r)) e) in
+        rw (granted_bodies r z) (parts_place r i (granted_facts r z).within)
+    go false e = ltb-false i (length (bodies_of r)) e
 
 -- ---- what is told of a record is small
 
--- a granted record is within its limits, and a refused one hands nothing out
+pub number_small : (r : List ℕ) → record_number r ≤ 19
+unfolding record_number
+number_small r = pick_small (cut_short r) (irregular r)
+  where
+    pick_small : (a b : Bool) → pick a 18 (pick b 19 0) ≤ 19
+    pick_small true b = omega arith
+    pick_small false true = omega arith
+    pick_small false false = omega arith
+
+-- a granted record is within its limits
 most_length : (r : List ℕ) → record_number r ≡ 0 → length r ≤ most_record
 most_length r e = let g = granted_facts r e in omega (arith, g.few, g.small, g.whole)
 
-pub inspected_small : (r : List ℕ) → ((inspected_of r).number ≤ 19) × ((inspected_of r).count ≤ most_orders) × ((inspected_of r).bytes ≤ most_bytes)
-unfolding inspected_of bodies_of bytes_in
-inspected_small r = (number_small, (go (eqb (record_number r) 0) refl).0, (go (eqb (record_number r) 0) refl).1)
-  where
-    number_small : record_number r ≤ 19
-    number_small = unfold record_number in pick_small (cut_short r) (irregular r)
-      where
-        pick_small : (a b : Bool) → pick a 18 (pick b 19 0) ≤ 19
-        pick_small true b = omega arith
-        pick_small false true = omega arith
-        pick_small false false = omega arith
-
-    go : (t : Bool) → eqb (record_number r) 0 ≡ t → (length (pick t (parts_of r) []) ≤ most_orders) × (bytes_in (pick t (parts_of r) []) ≤ most_bytes)
-    go true e = let l = limits_parts r (granted_facts r (eqb-true (record_number r) 0 e)) in (l.few, l.small)
-    go false e = (omega arith, omega arith)
-
-pub place_fits : (r : List ℕ) (i : ℕ) → (place_of r i).offset + (place_of r i).size ≤ most_record
+pub place_fits : (r : List ℕ) (i : ℕ) {e : Entry} → Some e ≡ place_of r i → e.offset + e.size ≤ most_record
 unfolding place_of
-place_fits r i = go (eqb (record_number r) 0) refl
+place_fits r i {e} is = go (ltb i (length (bodies_of r))) refl is
   where
-    go : (t : Bool) → eqb (record_number r) 0 ≡ t
-        → (pick t (get_or (contents_of r) i (entry 0 0)) (entry 0 0)).offset + (pick t (get_or (contents_of r) i (entry 0 0)) (entry 0 0)).size ≤ most_record
-    go false e = omega arith
-    go true e =
-        let z = eqb-true (record_number r) 0 e in
-        omega (arith, within_at (length r) (contents_of r) i (granted_facts r z).within, most_length r z)
+    go : (t : Bool) → ltb i (length (bodies_of r)) ≡ t → Some e ≡ pick t (Some (get_or (contents_of r) i (entry 0 0))) None → e.offset + e.size ≤ most_record
+    go true l k =
+        let z = has_body r i (ltb-true i (length (bodies_of r)) l) in
+        let same : e ≡ get_or (contents_of r) i (entry 0 0) = cc in
+        rw same (omega (arith, within_at (length r) (contents_of r) i (granted_facts r z).within, most_length r z))
+    go false l k = cc
 
 -- ---- what a reader has left
 
-pub start_first : (r : List ℕ) (n : ℕ) → n ≡ 0 → 0 ≡ start_of r n
-start_first r n e = rw (eq-eqb n 0 e)
-
-pub start_past : (r : List ℕ) (n c : ℕ) → (n ≡ 0 → ⊥) → c ≡ count_in r → c ≡ start_of r n
-start_past r n c h e = rw (ne_eqb n 0 h) e
-
-pub turn_found : (r : List ℕ) (i c : ℕ) → c ≡ count_in r → i < c → record { found = true; next = i + 1 } ≡ turn_of r i
+pub turn_found : (r : List ℕ) (i c : ℕ) → c ≡ count_in r → i < c → Some (i + 1) ≡ turn_of r i
 turn_found r i c e h = rw (← e, lt-ltb i c h)
 
-pub turn_none : (r : List ℕ) (i c : ℕ) → c ≡ count_in r → c ≤ i → record { found = false; next = i } ≡ turn_of r i
+pub turn_none : (r : List ℕ) (i c : ℕ) → c ≡ count_in r → c ≤ i → None ≡ turn_of r i
 turn_none r i c e h = rw (← e, le-ltb i c h)
 
-none_past : (r : List ℕ) (i : ℕ) → count_in r ≤ i → drop i (parts_of r) ≡ []
-none_past r i h = drop_of_length-le (parts_of r) {i = i} (omega (arith, length_parts r))
-
-start_left : (r : List ℕ) → drop (start_of r (record_number r)) (parts_of r) ≡ bodies_of r
-unfolding bodies_of
-start_left r = go (eqb (record_number r) 0)
-  where
-    go : (t : Bool) → drop (pick t 0 (count_in r)) (parts_of r) ≡ pick t (parts_of r) []
-    go true = refl
-    go false = none_past r (count_in r) (omega arith)
-
-pub opens : (s : Bor (List ℕ)) (n i : ℕ) → n ≡ record_number s.now → i ≡ start_of s.now n → Opens s (record { number = n; reader = record { «record» = s; next = i } })
+pub opened : (s : Bor (List ℕ)) → 0 ≡ record_number s.now → Opens s (Ok (record { «record» = s; next = 0 }))
 unfolding left_of
-opens s n i en ei = record { number = en; lent = refl; left = rw (ei, en) (start_left s.now) }
+opened s e = record { number = e; lent = refl; left = sym (granted_bodies s.now (sym e)) }
 
-found_left : (r : List ℕ) (i : ℕ) → (turn_of r i).found ≡ ltb 0 (length (drop i (parts_of r)))
-found_left r i = go (ltb i (count_in r)) refl
-  where
-    go : (t : Bool) → ltb i (count_in r) ≡ t → (turn_of r i).found ≡ ltb 0 (length (drop i (parts_of r)))
-    go true e =
-        let h = ltb-true i (count_in r) e in
-        let l : 0 < length (drop i (parts_of r)) = simp length-drop (omega (arith, length_parts r)) in
-        rw (e, lt-ltb 0 (length (drop i (parts_of r))) l)
-    go false e = rw (e, none_past r i (ltb-false i (count_in r) e))
+module _ (r : List ℕ) (i : ℕ) where
+  pub left_none : None ≡ turn_of r i → drop i (parts_of r) ≡ []
+  left_none e = go (ltb i (count_in r)) refl e
+    where
+      go : (t : Bool) → ltb i (count_in r) ≡ t → None ≡ pick t (Some (i + 1)) None → drop i (parts_of r) ≡ []
+      go true h k = cc
+      go false h k = drop_of_length-le (parts_of r) {i = i} (omega (arith, length_parts r, ltb-false i (count_in r) h))
 
-next_left : (r : List ℕ) (i : ℕ) → drop (turn_of r i).next (parts_of r) ≡ drop 1 (drop i (parts_of r))
-next_left r i = go (ltb i (count_in r)) refl
-  where
-    go : (t : Bool) → ltb i (count_in r) ≡ t → drop (turn_of r i).next (parts_of r) ≡ drop 1 (drop i (parts_of r))
-    go true e = rw e (sym (drop-drop 1 i (parts_of r)))
-    go false e = rw (e, none_past r i (ltb-false i (count_in r) e))
-
-pub hands : (r : Reader) (t : Turn) (b : Bor (List ℕ)) → t ≡ turn_of r.«record».now r.next → b.now ≡ get_or (parts_of r.«record».now) r.next []
-    → HandsOut r (record { found = t.found; body = b; reader = record { «record» = r.«record»; next = t.next } })
-unfolding left_of
-hands r t b et eb =
-    let s = r.«record».now in
-    record {
-      found = ap (λ (x : Turn). x.found) et ∙ found_left s r.next;
-      body = eb ∙ ap (λ (k : ℕ). get_or (parts_of s) k []) (sym (add-zero r.next)) ∙ sym (get_or-drop r.next (parts_of s) 0 []);
-      lent = refl;
-      left = ap (λ (x : Turn). drop x.next (parts_of s)) et ∙ next_left s r.next;
-    }
+  pub left_some : (n : ℕ) (b : List ℕ) → Some n ≡ turn_of r i → b ≡ get_or (parts_of r) i [] → drop i (parts_of r) ≡ b ∷ drop n (parts_of r)
+  left_some n b e eb = go (ltb i (count_in r)) refl e
+    where
+      go : (t : Bool) → ltb i (count_in r) ≡ t → Some n ≡ pick t (Some (i + 1)) None → drop i (parts_of r) ≡ b ∷ drop n (parts_of r)
+      go true h k =
+          let next : n ≡ i + 1 = cc in
+          rw (next, eb, add-one) (drop-cons (parts_of r) i [] (omega (arith, length_parts r, ltb-true i (count_in r) h)))
+      go false h k = cc
 
 -- ---- the bytes that are left
 
--- a body that is found is the first of those left
-left_found : (l : List (List ℕ)) → ltb 0 (length l) ≡ true → (length (drop 1 l) < length l) × (bytes_in l ≡ length (get_or l 0 []) + bytes_in (drop 1 l))
+pub bytes_first : (o : List ℕ) (os : List (List ℕ)) → bytes_in (o ∷ os) ≡ length o + bytes_in os
 unfolding bytes_in
-left_found [] h = let z : ◌≡◌ {A = ℕ} 0 1 = cc in absurd (omega arith)
-left_found (o ∷ os) h = (omega arith, refl)
+bytes_first o os = refl
 
-left_none : (l : List (List ℕ)) → ltb 0 (length l) ≡ false → bytes_in l ≡ 0
+pub bytes_past : bytes_in [] ≡ 0
 unfolding bytes_in
-left_none [] h = refl
-left_none (o ∷ os) h = absurd (omega (arith, ltb-false 0 (length (o ∷ os)) h))
+bytes_past = refl
 
-module _ (r : Reader) (d : Handed) (h : HandsOut r d) where
-  pub fewer_left : d.found ≡ true → length (left_of d.reader) < length (left_of r)
-  fewer_left f = rw h.left (left_found (left_of r) (sym h.found ∙ f)).0
-
-  pub bytes_left : d.found ≡ true → bytes_in (left_of r) ≡ length d.body.now + bytes_in (left_of d.reader)
-  bytes_left f = rw (h.left, h.body) (left_found (left_of r) (sym h.found ∙ f)).1
-
-  pub no_bytes_left : d.found ≡ false → bytes_in (left_of r) ≡ 0
-  no_bytes_left f = left_none (left_of r) (sym h.found ∙ f)
+pub refused_bytes : (r : List ℕ) (e : Refusal) → number_of e ≡ record_number r → 0 ≡ bytes_in (bodies_of r)
+refused_bytes r e h = rw (none_of r (ap (λ (n : ℕ). eqb n 0) (sym h) ∙ refusal_counts e)) (sym bytes_past)
 
 bytes_none : (r : List ℕ) → eqb (record_number r) 0 ≡ false → bytes_in (bodies_of r) ≤ most_bytes
 unfolding bodies_of bytes_in

@@ -1,13 +1,14 @@
 -- What any bytes say as a session record: its number (0; 18 where it is cut; 19 where it is no list's record), and the bodies that
 -- it hands out. Assumes nothing.
-use Rattle.std.specs.Prelude.{ℕ, zero, suc, ◌+◌, Bool, true, false, not, List, [], ◌∷◌, map, eqb, ltb, length, get_or}
+use Rattle.std.specs.Prelude.{Option, Some, None, ℕ, zero, suc, ◌+◌, Bool, true, false, not, List, [], ◌∷◌, map, eqb, ltb, length, get_or}
 use Rattle.wire.specs.Tests.{pick, both, either, any}
 use Rattle.wire.specs.Numbers.{num_at}
 use Rattle.wire.specs.Parts.{slice}
+use Rattle.protocol.specs.Refusals.{Answer, answers}
 use Rattle.journal.specs.Limits.{most_orders, most_bytes}
 use Rattle.journal.specs.State.{bytes_in}
 use Rattle.record.specs.declared.Entry.{Entry}
-use Rattle.record.specs.declared.Inspected.{Inspected}
+use Rattle.record.specs.declared.Contents.{Contents}
 use Rattle.record.specs.Layout.{entry, head_of}
 
 -- how many orders it counts
@@ -67,10 +68,10 @@ parts_of r = map (part_of r) (contents_of r)
 unfoldable pub bodies_of : List ℕ → List (List ℕ)
 bodies_of r = pick (eqb (record_number r) 0) (parts_of r) []
 
--- the number with how many they are, and their bytes in all
-unfoldable pub inspected_of : List ℕ → Inspected
-inspected_of r = record { number = record_number r; count = length (bodies_of r); bytes = bytes_in (bodies_of r) }
+-- the number, and where it is 0 how many they are and their bytes in all
+unfoldable pub inspected_of : List ℕ → Answer Contents
+inspected_of r = answers (record_number r) (record { count = length (bodies_of r); bytes = bytes_in (bodies_of r) })
 
--- where the i-th of them lies
-unfoldable pub place_of : List ℕ → ℕ → Entry
-place_of r i = pick (eqb (record_number r) 0) (get_or (contents_of r) i (entry 0 0)) (entry 0 0)
+-- where the i-th of them lies: none past the last
+unfoldable pub place_of : List ℕ → ℕ → Option Entry
+place_of r i = pick (ltb i (length (bodies_of r))) (Some (get_or (contents_of r) i (entry 0 0))) None

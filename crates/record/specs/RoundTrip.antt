@@ -1,5 +1,5 @@
 -- One list has one record: what is written reads back, and what is read is written back. Assumes nothing.
-use Rattle.std.specs.Prelude.{ℕ, ◌≡◌, List, [], get_or}
+use Rattle.std.specs.Prelude.{ℕ, ◌≤◌, ◌≡◌, List, [], length, get_or, MatchOption}
 use Rattle.wire.specs.Parts.{slice}
 use Rattle.wire.proofs.Numbers.{Bytes}
 use Rattle.record.specs.Layout.{Limits, record_of}
@@ -21,6 +21,6 @@ pub record OneRecord : Type 0 where
   pub read : (r : List ℕ) → Bytes r → record_number r ≡ 0 → WritesBack r
   pub one : (r r' : List ℕ) → Bytes r → Bytes r' → record_number r ≡ 0 → record_number r' ≡ 0 → bodies_of r ≡ bodies_of r' → r ≡ r'
 
--- the part of a record where a body is said to lie is that body; empty where there is none
+-- where a body is said to lie is that body, and nothing is said of one that there is none of
 unfoldable pub PlacesBodies : Type 0
-PlacesBodies = (r : List ℕ) (i : ℕ) → slice r (place_of r i).offset (place_of r i).size ≡ get_or (bodies_of r) i []
+PlacesBodies = (r : List ℕ) (i : ℕ) → MatchOption (place_of r i) (length (bodies_of r) ≤ i) (λ e. slice r e.offset e.size ≡ get_or (bodies_of r) i [])

@@ -3,6 +3,8 @@
 #![tactic(auto)]
 
 ghost use Rattle.std.specs.Prelude.{◌≡◌, true, [], ◌<◌, ◌≤◌, length, get_or};
+ghost use Rattle.std.specs.Iterator.{item_count};
+ghost use Rattle.protocol.specs.Refusals.{refused_by, says};
 ghost use Rattle.wire.specs.Parts.{splice};
 ghost use Rattle.journal.specs.State.{bytes_in};
 ghost use Rattle.journal.specs.Limits.{most_orders, log_start, journal_length};
@@ -10,7 +12,9 @@ ghost use Rattle.journal.specs.Journal.{orders_from, within_from};
 ghost use Rattle.record.specs.Layout.{head_of, layout_from, table_of, record_of};
 ghost use Rattle.record.specs.Reading.{count_in, record_number, parts_of, bodies_of, inspected_of, place_of};
 ghost use Rattle.record.specs.Writing.{Within, fits_in, out_after_of};
-ghost use Rattle.record.specs.Handing.{start_of, turn_of, Opens, HandsOut};
+ghost use Rattle.record.specs.Handing.{turn_of, Opens};
+
+use protocol::Refusal;
 
 // The bytes of the count, and of an entry of the table of contents: offset 4, size 4.
 const COUNT: usize = 2;
@@ -22,46 +26,45 @@ pub const MOST: usize = COUNT + ENTRY * journal::MOST_ORDERS + journal::MOST_BYT
 
 // ---- reading, on a slice and a number
 
-// The number of a record whose table of contents of count entries lies within.
-fn scan(record: &[u8], count: usize) -> u8
+// Checks a record whose table of contents of count entries lies within.
+fn scan(record: &[u8], count: usize) -> Result<(), Refusal>
     requires { (count ≡ count_in «record».now) × (count < 65536) × (head_of count ≤ length «record».now) }
-    ensures { result ≡ record_number «record».now }
+    ensures { refused_by result ≡ record_number «record».now }
 {
     let head = COUNT + ENTRY * count;
     let mut end = head;
     let mut placed = true;
-    let mut i = 0;
-    while i < count {
+    for i in 0..count {
         let at = COUNT + ENTRY * i;
         let offset = wire::read_u32(record, at) as usize;
         let size = wire::read_u32(record, at + 4) as usize;
         if record.len() < offset + size {
-            return 18;
+            return Err(Refusal::RecordCut);
         }
         placed = placed & (offset == end);
         end += size;
-        i += 1;
     }
     if (journal::MOST_ORDERS < count)
         | (journal::MOST_BYTES < end - head)
         | !placed
         | (end < record.len())
     {
-        return 19;
+        return Err(Refusal::RecordDiffers);
     }
-    0
+    Ok(())
 }
 
-// The number of a record: 0, 18 or 19.
-pub fn check(record: &[u8]) -> u8
-    ensures { result ≡ record_number «record».now }
+// Checks a whole record: refused where it is cut, or where it is no list's record.
+#[tactic(auto, using(crate::proofs::Scanning::short_count, crate::proofs::Scanning::short_table))]
+pub fn check(record: &[u8]) -> Result<(), Refusal>
+    ensures { refused_by result ≡ record_number «record».now }
 {
     if record.len() < COUNT {
-        return 18;
+        return Err(Refusal::RecordCut);
     }
     let count = wire::read_u16(record, 0) as usize;
     if record.len() < COUNT + ENTRY * count {
-        return 18;
+        return Err(Refusal::RecordCut);
     }
     scan(record, count)
 }
@@ -83,59 +86,55 @@ fn part(record: &[u8], i: usize) -> &[u8]
     &record[offset..end]
 }
 
-// A record's number and, where that is 0, how many bodies it hands out and their bytes in all.
-#[derive(Clone, Copy)]
-pub struct Inspected {
-    pub number: u8,
+// How many bodies a record hands out, and their bytes in all.
+#[derive(Clone, Copy, Debug, PartialEq, Eq)]
+pub struct Contents {
     pub count: usize,
     pub bytes: usize,
 }
 
-pub fn inspect(record: &[u8]) -> Inspected
-    ensures { result ≡ inspected_of «record».now }
+// Checks a whole record, and tells what it hands out.
+#[tactic(auto, using(crate::proofs::Handing::inspect_refused, crate::proofs::Handing::inspect_granted, crate::proofs::Handing::head_fits))]
+pub fn inspect(record: &[u8]) -> Result<Contents, Refusal>
+    ensures { says result ≡ inspected_of «record».now }
 {
-    let number = check(record);
-    if number != 0 {
-        return Inspected {
-            number,
-            count: 0,
-            bytes: 0,
-        };
-    }
+    check(record)?;
     let count = wire::read_u16(record, 0) as usize;
-    Inspected {
-        number,
+    Ok(Contents {
         count,
         bytes: record.len() - (COUNT + ENTRY * count),
-    }
+    })
 }
 
 // An entry of the table of contents: where a body lies.
-#[derive(Clone, Copy)]
+#[derive(Clone, Copy, Debug, PartialEq, Eq)]
 pub struct Entry {
     pub offset: usize,
     pub size: usize,
 }
 
-// Where the i-th body lies, for callers that take no slices. 0 and 0 where there is none.
-pub fn place(record: &[u8], i: usize) -> Entry
+// Where the i-th body lies, for callers that take no slices.
+pub fn place(record: &[u8], i: usize) -> Option<Entry>
     ensures { result ≡ place_of «record».now i }
 {
-    let c = inspect(record);
-    if c.count <= i {
-        return Entry { offset: 0, size: 0 };
+    let Ok(contents) = inspect(record) else {
+        return None;
+    };
+    if contents.count <= i {
+        return None;
     }
     let at = COUNT + ENTRY * i;
     let offset = wire::read_u32(record, at) as usize;
     let size = wire::read_u32(record, at + 4) as usize;
-    Entry { offset, size }
+    Some(Entry { offset, size })
 }
 
 // The i-th body, as the part of the record where it lies. Empty where there is none.
+#[tactic(auto, using(crate::proofs::Handing::refused_body, crate::proofs::Handing::granted_body))]
 pub fn body(record: &[u8], i: usize) -> &[u8]
     ensures { result.now ≡ get_or (bodies_of «record».now) i [] }
 {
-    if check(record) != 0 {
+    if check(record).is_err() {
         return &record[0..0];
     }
     part(record, i)
@@ -143,102 +142,66 @@ pub fn body(record: &[u8], i: usize) -> &[u8]
 
 // ---- a reader that keeps its place in the lent record
 
-#[derive(Clone, Copy)]
+#[derive(Clone, Copy, Debug)]
 pub struct Reader<'a> {
     record: &'a [u8],
     next: usize,
 }
 
-// A record's number, and a reader of its bodies.
-#[derive(Clone, Copy)]
-pub struct Opened<'a> {
-    pub number: u8,
-    pub reader: Reader<'a>,
-}
-
-// The next body, with the reader of those after it. Where found is false none was left, and the body is empty.
-#[derive(Clone, Copy)]
-pub struct Handed<'a> {
-    pub found: bool,
-    pub body: &'a [u8],
-    pub reader: Reader<'a>,
-}
-
-// Whether a body is left, and the next index.
-#[derive(Drop)]
-struct Turn {
-    found: bool,
-    next: usize,
-}
-
-// Where reading begins: past the last body where the number is not 0.
-fn start(record: &[u8], number: u8) -> usize
-    ensures { result ≡ start_of «record».now number }
-{
-    if number == 0 {
-        return 0;
-    }
-    wire::read_u16(record, 0) as usize
-}
-
-fn advance(record: &[u8], next: usize) -> Turn
+// The next index, where a body is left.
+#[tactic(auto, using(crate::proofs::Handing::turn_found, crate::proofs::Handing::turn_none))]
+fn advance(record: &[u8], next: usize) -> Option<usize>
     ensures { result ≡ turn_of «record».now next }
 {
     let count = wire::read_u16(record, 0) as usize;
     if next < count {
-        return Turn {
-            found: true,
-            next: next + 1,
-        };
+        return Some(next + 1);
     }
-    Turn { found: false, next }
+    None
 }
 
 impl<'a> Reader<'a> {
-    // The whole record is checked first. The reader of a refused one has nothing left.
-    pub fn new(record: &'a [u8]) -> Opened<'a>
+    // The whole record is checked first.
+    #[tactic(auto, using(crate::proofs::Handing::opened))]
+    pub fn new(record: &'a [u8]) -> Result<Reader<'a>, Refusal>
         ensures { Opens «record».entry result }
     {
-        let number = check(record);
-        let next = start(record, number);
-        Opened {
-            number,
-            reader: Reader { record, next },
-        }
+        check(record)?;
+        Ok(Reader { record, next: 0 })
     }
+}
 
-    pub fn next(self) -> Handed<'a>
-        ensures { HandsOut self.entry result }
-    {
+// Its bodies, each as the part of the record where it lies.
+impl<'a> Iterator for Reader<'a> {
+    type Item = &'a [u8];
+
+    ghost use Rattle.record.specs.Handing.{left_of, HandsOut};
+
+    ghost next_gives = { HandsOut };
+
+    ghost remaining = { item_count left_of };
+
+    #[tactic(auto, using(crate::proofs::Handing::left_none, crate::proofs::Handing::left_some), unfolding(crate::specs::Handing::left_of))]
+    fn next(&mut self) -> Option<&'a [u8]> {
         let record = self.record;
-        let next = self.next;
-        let t = advance(record, next);
-        let body = part(record, next);
-        Handed {
-            found: t.found,
-            body,
-            reader: Reader {
-                record,
-                next: t.next,
-            },
-        }
+        let next = advance(record, self.next)?;
+        let body = part(record, self.next);
+        self.next = next;
+        Some(body)
     }
 }
 
 // The bytes of all bodies. Its parameter is plain, so whoever calls it needs no walk.
+#[tactic(auto, using(crate::proofs::Handing::bytes_first, crate::proofs::Handing::bytes_past, crate::proofs::Handing::bytes_bodies))]
 pub fn total(record: &[u8]) -> usize
     ensures { result ≡ bytes_in (bodies_of «record».now) }
 {
-    let opened = Reader::new(record);
-    let mut reader = opened.reader;
+    let Ok(reader) = Reader::new(record) else {
+        return 0;
+    };
     let mut sum = 0;
-    loop {
-        let handed = reader.next();
-        if !handed.found {
-            break;
-        }
-        sum += handed.body.len();
-        reader = handed.reader;
+    for body in reader {
+        sum += body.len();
     }
     sum
 }
@@ -252,15 +215,13 @@ fn write_table(journal: &[u8], count: usize, out: &mut [u8])
 {
     let mut p = journal::START;
     let mut offset = COUNT + ENTRY * count;
-    let mut i = 0;
-    while i < count {
+    for i in 0..count {
         let size = wire::read_u16(journal, p + 1) as usize;
         let at = COUNT + ENTRY * i;
         wire::write_u32(out, at, offset as u32);
         wire::write_u32(out, at + 4, size as u32);
         p += size;
         offset += size;
-        i += 1;
     }
 }
 
