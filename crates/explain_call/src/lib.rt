@@ -57,10 +57,9 @@ pub fn explain(index: &[u8], bodies: &[u8], lent: usize, journal: &[u8], s: &[u8
     ensures { InEachStore lent (λ store. result ≡ explain s.now (memory index.now bodies.now store journal.now)) }
 {
     let mut d = [0u8; slots::LENGTH];
-    let w = journal_replay::extent(index, bodies, lent, journal, &mut d);
-    if w.end == 0 {
+    let Some(w) = journal_replay::extent(index, bodies, lent, journal, &mut d) else {
         return Explanation { number: 1, at: 0 };
-    }
+    };
     on_state(&d, s, w)
 }
 

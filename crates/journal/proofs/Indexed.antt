@@ -1,10 +1,9 @@
 -- What a validation establishes for the calls that go on from it: the log of the memory, and an index of its present table.
 -- Assumes nothing.
-use mathlib.Core.Path.{◌≡◌, refl, sym, ap, subst, ◌∙◌}
-use mathlib.Core.Bool.{Bool, true, false}
+use mathlib.Core.Path.{◌≡◌, sym, ap, subst, ◌∙◌}
+use mathlib.Core.Bool.{true, false}
 use mathlib.Core.List.{List, [], ◌∷◌, ◌++◌}
 use Prim.Native.Nat.{ℕ, ◌+◌, ◌≤◌}
-use native.Mathlib.Omega.{arith}
 use lib.ListN.{length}
 use Rattle.wire.specs.Numbers.{bytes_of}
 use Rattle.wire.specs.Parts.{splice}
@@ -16,7 +15,7 @@ use Rattle.index.specs.Memory.{index_of}
 use Rattle.index.proofs.After.{plan_sound}
 use Rattle.table.specs.Table.{Table}
 use Rattle.table.proofs.Decoded.{places_kept}
-use Rattle.std.specs.Prelude.{Option}
+use Rattle.std.specs.Prelude.{Option, Some, None}
 use Rattle.follow.specs.declared.Want.{Want}
 use Rattle.follow.specs.Follow.{held_origins, origin_at, Holds}
 use Rattle.journal.specs.declared.JournalExtent.{JournalExtent}
@@ -24,9 +23,9 @@ use Rattle.journal.specs.Limits.{journal_length}
 use Rattle.journal.specs.State.{run}
 use Rattle.journal.specs.Journal.{size_at, log_of}
 use Rattle.journal.specs.View.{Memory, meets_rule, state_of}
-use Rattle.journal.specs.Replay.{index_after, extent_of, marked_pictures, since_pictures, head_is_ok, Validation}
+use Rattle.journal.specs.Replay.{index_after, marked_pictures, since_pictures, head_is_ok, Validation}
 use Rattle.journal.proofs.Runs.{run_append}
-use Rattle.journal.proofs.Logged.{Logged, marked_in, with_journal, extent_formed, logged_more, logged_low}
+use Rattle.journal.proofs.Logged.{Logged, marked_in, with_journal, extent_formed, extent_met, extent_unmet, logged_more}
 use Rattle.journal.proofs.Replays.{number_on_lem, index_on}
 
 pub record Indexed (m : Memory) (w : JournalExtent) (d : List ℕ) (os : List (List ℕ)) : Type 0 where
@@ -42,41 +41,27 @@ pub record Followed (want : Option Want) (m : Memory) (d : List ℕ) (os : List 
       → origin_at (held_origins want f) k + size_at m.journal (origin_at (held_origins want f) k) ≤ journal_length
 
 -- with the target as the code made it
-pub validated_as : {want want' : Option Want} {m : Memory} {d f : List ℕ} {w : JournalExtent} {d' f' : List ℕ} → want ≡ want' → Validation want m d f w d' f'
+pub validated_as : {want want' : Option Want} {m : Memory} {d f : List ℕ} {w : Option JournalExtent} {d' f' : List ℕ} → want ≡ want' → Validation want m d f w d' f'
     → Validation want' m d f w d' f'
 validated_as {m = m} {d = d} {f = f} {w = w} {d' = d'} {f' = f'} e v = subst (λ (want : Option Want). Validation want m d f w d' f') e v
 
-module _ {want : Option Want} {m : Memory} {d f : List ℕ} {w : JournalExtent} {d' f' : List ℕ} (v : Validation want m d f w d' f') where
-  -- 1
-  pub unmet : w.end ≡ 0 → meets_rule m ≡ false
-  unfolding extent_of
-  unmet z = go (meets_rule m) refl
-    where
-      go : (b : Bool) → meets_rule m ≡ b → meets_rule m ≡ false
-      go false e = e
-      go true e =
-          let low = logged_low (extent_formed m e) in
-          let x : w.end ≡ (extent_of m).end = ap (λ (x : JournalExtent). x.end) v.extent in
-          absurd (omega (arith, low, x, z))
+-- 1
+pub unmet : {want : Option Want} {m : Memory} {d f d' f' : List ℕ} → Validation want m d f None d' f' → meets_rule m ≡ false
+unmet {m = m} v = extent_unmet m v.extent
 
-  module _ (some : w.end ≡ 0 → ⊥) where
-    met : meets_rule m ≡ true
-    unfolding extent_of
-    met = go (meets_rule m) refl
-      where
-        go : (b : Bool) → meets_rule m ≡ b → meets_rule m ≡ true
-        go true e = e
-        go false e = absurd (some (ap (λ (x : JournalExtent). x.end) v.extent ∙ rw e))
+module _ {want : Option Want} {m : Memory} {d f : List ℕ} {w : JournalExtent} {d' f' : List ℕ} (v : Validation want m d f (Some w) d' f') where
+  met : meets_rule m ≡ true
+  met = (extent_met m v.extent).0
 
-    pub indexed : Indexed m w d' (log_of m.journal)
-    unfolding state_of
-    indexed =
-        let i = v.means met in
-        record { logged = rw v.extent (extent_formed m met); sound = i.sound; index = i.index; places = i.places }
+  pub indexed : Indexed m w d' (log_of m.journal)
+  unfolding state_of
+  indexed =
+      let i = v.means met in
+      record { logged = extent_formed m v.extent; sound = i.sound; index = i.index; places = i.places }
 
-    pub followed : Followed want m d' (log_of m.journal) f'
-    unfolding state_of
-    followed = let i = v.means met in record { holds = i.holds; origins = i.origins }
+  pub followed : Followed want m d' (log_of m.journal) f'
+  unfolding state_of
+  followed = let i = v.means met in record { holds = i.holds; origins = i.origins }
 
 -- ---- the next order
 

@@ -22,12 +22,13 @@ use Rattle.store.specs.Store.{places_in}
 use Rattle.table.specs.Table.{Table, number}
 use Rattle.table.specs.Memory.{bodies_length, decode, sound_table}
 use Rattle.table.proofs.Past.{same_store}
+use Rattle.std.specs.Prelude.{Bool, Some, None}
 use Rattle.journal.specs.declared.JournalExtent.{JournalExtent}
 use Rattle.journal.specs.Limits.{journal_length, most_orders, log_start}
 use Rattle.journal.specs.State.{run, bytes_in, all_accepted}
 use Rattle.journal.specs.Journal.{count_of, size_at, orders_from, end_from, within_from, log_of}
 use Rattle.journal.specs.View.{Memory, memory, Past, short_of, too_short, well_formed, meets_rule, state_of, formed, view_of}
-use Rattle.journal.specs.Replay.{extent_of}
+use Rattle.journal.specs.Replay.{extent_of, extent_in}
 use Rattle.journal.proofs.Runs.{accepted_more, accepted_take, accepted_order}
 use Rattle.journal.proofs.Stored.{Stored, none, stored, stored_end, stored_room, stored_take, stored_reads, fails, counted_count, counted_length, counted_stored, put_length, put_two, put_stored}
 
@@ -129,7 +130,7 @@ meets m r =
 
 -- a memory that passes the tests
 pub formed_logged : (m : Memory) → too_short m ≡ false → well_formed m ≡ true
-    → Logged m (record { count = count_of m.journal; end = end_from (count_of m.journal) log_start m.journal }) (log_of m.journal)
+    → Logged m (extent_in m) (log_of m.journal)
 unfolding well_formed log_of
 formed_logged m t f =
     let a = fails (not (sound_table m.index m.bodies (places_in m.store))) (pick (not (figures_ok m.index m.bodies)) false (pick (ltb most_orders (count_of m.journal)) false (pick (not (within_from (count_of m.journal) log_start m.journal)) false (all_accepted (marked_in m) (log_of m.journal))))) f in
@@ -151,9 +152,25 @@ formed_logged m t f =
     }
 
 -- the same by the extent that validation answers
-pub extent_formed : (m : Memory) → meets_rule m ≡ true → Logged m (extent_of m) (log_of m.journal)
+pub extent_met : (m : Memory) {w : JournalExtent} → Some w ≡ extent_of m → (meets_rule m ≡ true) × (w ≡ extent_in m)
 unfolding extent_of
-extent_formed m r = rw r (formed_logged m (meets m r).0 (meets m r).1)
+extent_met m {w} e = go (meets_rule m) refl e
+  where
+    go : (b : Bool) → meets_rule m ≡ b → Some w ≡ pick b (Some (extent_in m)) None → (meets_rule m ≡ true) × (w ≡ extent_in m)
+    go true h k = let same : w ≡ extent_in m = cc in (h, same)
+    go false h k = cc
+
+pub extent_formed : (m : Memory) {w : JournalExtent} → Some w ≡ extent_of m → Logged m w (log_of m.journal)
+extent_formed m e = let r = extent_met m e in rw r.1 (formed_logged m (meets m r.0).0 (meets m r.0).1)
+
+-- 1
+pub extent_unmet : (m : Memory) → None ≡ extent_of m → meets_rule m ≡ false
+unfolding extent_of
+extent_unmet m e = go (meets_rule m) refl e
+  where
+    go : (b : Bool) → meets_rule m ≡ b → None ≡ pick b (Some (extent_in m)) None → meets_rule m ≡ false
+    go true h k = cc
+    go false h k = h
 
 -- ---- journals that change
 

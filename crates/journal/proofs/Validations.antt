@@ -4,9 +4,9 @@ use mathlib.Core.Bool.{Bool, true, false, not}
 use mathlib.Core.List.{List, [], ◌∷◌}
 use Prim.Native.Nat.{ℕ, ◌≤◌}
 use native.Mathlib.Omega.{arith}
-use lib.Dec.{eqb, ltb}
+use lib.Dec.{ltb}
 use lib.ListN.{length}
-use borrow.Author.Tests.{not-true, ne_eqb}
+use borrow.Author.Tests.{not-true}
 use Rattle.wire.specs.Tests.{pick, both}
 use Rattle.wire.specs.Parts.{slice, splice}
 use Rattle.wire.proofs.Numbers.{Bytes}
@@ -21,7 +21,7 @@ use Rattle.store.specs.Store.{places_in}
 use Rattle.table.specs.Memory.{decode, sound_table}
 use Rattle.table.proofs.Rule.{table_has}
 use Rattle.follow.specs.declared.Want.{Want}
-use Rattle.std.specs.Prelude.{Option, None}
+use Rattle.std.specs.Prelude.{Option, Some, None, is_some}
 use Rattle.follow.specs.Follow.{room_for, begin_of}
 use Rattle.follow.proofs.Following.{begin_holds, begin_length, begin_origins}
 use Rattle.journal.specs.declared.JournalExtent.{JournalExtent}
@@ -29,14 +29,11 @@ use Rattle.journal.specs.Limits.{most_orders, log_start}
 use Rattle.journal.specs.State.{all_accepted}
 use Rattle.journal.specs.Journal.{count_of, orders_from, end_from, within_from, log_of}
 use Rattle.journal.specs.View.{Memory, memory, InEachStore, short_of, too_short, well_formed, meets_rule, state_of}
-use Rattle.journal.specs.Replay.{Replay, replay_from, Replayed, from_mark, extent_of, replayable, validation_of, marked_pictures, since_pictures, head_is_ok, Validated, Validation}
+use Rattle.journal.specs.Replay.{Replay, replay_from, Replayed, from_mark, extent_in, extent_of, replayable, validation_of, marked_pictures, since_pictures, head_is_ok, Validated, Validation}
 use Rattle.journal.proofs.Copies.{copied_index, copied_places, copied_sound, copied_holds}
-use Rattle.journal.proofs.Logged.{Long, long_has, long_is, marked_in, extent_formed, logged_low}
+use Rattle.journal.proofs.Logged.{Long, long_has, long_is, marked_in, meets, formed_logged, logged_low}
 use Rattle.journal.proofs.Replays.{Ready, Through, Ran, stops, through, replay_ran}
 use Rattle.wire.proofs.Tests.{never}
-
-abbrev pub no_extent : JournalExtent
-no_extent = record { count = 0; end = 0 }
 
 -- ---- what can be replayed
 
@@ -104,7 +101,7 @@ rule_replayable m h = go (replayable_in m) refl
 -- ---- the way out
 
 pub not_validated : (want : Option Want) (x b : List ℕ) (lent : ℕ) (j d f : List ℕ) → replayable x b lent j ≡ false
-    → InEachStore lent (λ store. Validation want (memory x b store j) d f no_extent d f)
+    → InEachStore lent (λ store. Validation want (memory x b store j) d f None d f)
 unfolding extent_of validation_of
 not_validated want x b lent j d f e store same =
     let r : replayable x b (places_in store) j ≡ false = ap (λ (n : ℕ). replayable x b n j) same ∙ e in
@@ -179,7 +176,7 @@ module _ (want : Option Want) (m : Memory) (bytes : Bytes m.journal) (d f : List
       joined false b = refl
 
   module _ {e : ℕ} {d' f' : List ℕ} (r : Replayed replay e d' f') where
-    memories : {w : JournalExtent} → w ≡ extent_of m → (meets_rule m ≡ true → Validated want m d' f') → Validation want m d f w d' f'
+    memories : {w : Option JournalExtent} → w ≡ extent_of m → (meets_rule m ≡ true → Validated want m d' f') → Validation want m d f w d' f'
     unfolding validation_of
     memories x y = record { extent = x; index = r.index ∙ rw ready; followed = r.followed ∙ rw ready; means = y }
 
@@ -189,11 +186,9 @@ module _ (want : Option Want) (m : Memory) (bytes : Bytes m.journal) (d f : List
       met = meets_is ∙ rw (g.within, g.accepted)
 
       some_end : e ≡ 0 → ⊥
-      unfolding extent_of
       some_end z =
-          let low : 2 ≤ (extent_of m).end = logged_low (extent_formed m met) in
-          let is : (extent_of m).end ≡ end_from (count_of m.journal) log_start m.journal = rw met in
-          omega (arith, low, is, r.end, g.end, z)
+          let low : 2 ≤ end_from (count_of m.journal) log_start m.journal = logged_low (formed_logged m (meets m met).0 (meets m met).1) in
+          omega (arith, low, r.end, g.end, z)
 
       means-that : Validated want m d' f'
       unfolding state_of log_of
@@ -208,21 +203,21 @@ module _ (want : Option Want) (m : Memory) (bytes : Bytes m.journal) (d f : List
           }
 
     -- one is not
-    none_here : e ≡ 0 → Validation want m d f no_extent d' f'
+    none_here : e ≡ 0 → Validation want m d f None d' f'
     unfolding extent_of
     none_here z = go ran
       where
-        go : Runs → Validation want m d f no_extent d' f'
+        go : Runs → Validation want m d f None d' f'
         go (stops x y) =
             let n : meets_rule m ≡ false = meets_is ∙ y in
             memories (rw n) (λ s. never (sym n ∙ s))
         go (through g) = absurd (some_end g z)
 
-    some-here : (e ≡ 0 → ⊥) → Validation want m d f (record { count = count_of m.journal; end = e }) d' f'
+    some-here : (e ≡ 0 → ⊥) → Validation want m d f (Some (record { count = count_of m.journal; end = e })) d' f'
     unfolding extent_of
     some-here n = go ran
       where
-        go : Runs → Validation want m d f (record { count = count_of m.journal; end = e }) d' f'
+        go : Runs → Validation want m d f (Some (record { count = count_of m.journal; end = e })) d' f'
         go (stops x y) = absurd (n (r.end ∙ x))
         go (through g) =
             let h : meets_rule m ≡ true = met g in
@@ -249,10 +244,10 @@ module _ (want : Option Want) (x b : List ℕ) (lent : ℕ) (j : List ℕ) (byte
   replayed : Replayed (from_mark want x b j (count_of j) d f) e d' f'
   replayed = rw (← is) r
 
-  pub validated_none : e ≡ 0 → InEachStore lent (λ store. Validation want (memory x b store j) d f no_extent d' f')
+  pub validated_none : e ≡ 0 → InEachStore lent (λ store. Validation want (memory x b store j) d f None d' f')
   validated_none z store same = none_here want (memory x b store j) bytes d f room place (ap (λ (n : ℕ). replayable x b n j) same ∙ ready) replayed z
 
-  pub validated_some : (e ≡ 0 → ⊥) → InEachStore lent (λ store. Validation want (memory x b store j) d f (record { count = k; end = e }) d' f')
+  pub validated_some : (e ≡ 0 → ⊥) → InEachStore lent (λ store. Validation want (memory x b store j) d f (Some (record { count = k; end = e })) d' f')
   validated_some n store same =
       rw is (some-here want (memory x b store j) bytes d f room place (ap (λ (n : ℕ). replayable x b n j) same ∙ ready) replayed n)
 
@@ -262,23 +257,21 @@ no_bytes : (f : List ℕ) → length f ≡ 0 → f ≡ []
 no_bytes [] e = refl
 no_bytes (x ∷ f) e = absurd (omega (arith, e))
 
-pub validated_nothing : {x b : List ℕ} {lent : ℕ} {j d : List ℕ} {w : JournalExtent} {d' f' : List ℕ} → length f' ≡ 0
+pub validated_nothing : {x b : List ℕ} {lent : ℕ} {j d : List ℕ} {w : Option JournalExtent} {d' f' : List ℕ} → length f' ≡ 0
     → InEachStore lent (λ store. Validation None (memory x b store j) d [] w d' f') → InEachStore lent (λ store. Validation None (memory x b store j) d [] w d' [])
 validated_nothing {x = x} {b = b} {lent = lent} {j = j} {d = d} {w = w} {d' = d'} {f' = f'} e v =
     subst (λ (f : List ℕ). InEachStore lent (λ store. Validation None (memory x b store j) d [] w d' f)) (no_bytes f' e) v
 
 -- ---- the rule decided
 
-decides : {want : Option Want} {m : Memory} {d f : List ℕ} {w : JournalExtent} {d' f' : List ℕ} → Validation want m d f w d' f' → not (eqb w.end 0) ≡ meets_rule m
+decides : {want : Option Want} {m : Memory} {d f : List ℕ} {w : Option JournalExtent} {d' f' : List ℕ} → Validation want m d f w d' f' → is_some w ≡ meets_rule m
 unfolding extent_of
-decides {m = m} v = ap (λ (w : JournalExtent). not (eqb w.end 0)) v.extent ∙ go (meets_rule m) refl
+decides {m = m} v = ap is_some v.extent ∙ go (meets_rule m)
   where
-    go : (b : Bool) → meets_rule m ≡ b → not (eqb (extent_of m).end 0) ≡ meets_rule m
-    go true e =
-        let low = logged_low (extent_formed m e) in
-        rw (ne_eqb (extent_of m).end 0 (λ z. omega (arith, low, z)), e)
-    go false e = rw e
+    go : (b : Bool) → is_some (pick b (Some (extent_in m)) None) ≡ b
+    go true = refl
+    go false = refl
 
-pub rule_decided : {want : Option Want} {x b : List ℕ} {lent : ℕ} {j d f : List ℕ} {w : JournalExtent} {d' f' : List ℕ}
-    → InEachStore lent (λ store. Validation want (memory x b store j) d f w d' f') → InEachStore lent (λ store. not (eqb w.end 0) ≡ meets_rule (memory x b store j))
+pub rule_decided : {want : Option Want} {x b : List ℕ} {lent : ℕ} {j d f : List ℕ} {w : Option JournalExtent} {d' f' : List ℕ}
+    → InEachStore lent (λ store. Validation want (memory x b store j) d f w d' f') → InEachStore lent (λ store. is_some w ≡ meets_rule (memory x b store j))
 rule_decided v store same = decides (v store same)

@@ -1,6 +1,6 @@
 -- What the functions over a journal leave: the replay of its orders on the memory of an index, with what is looked up followed
 -- beside it; the validation of any memory; its orders applied to a table. Assumes nothing.
-use Rattle.std.specs.Prelude.{Option, ℕ, zero, suc, ◌+◌, ◌-◌, ◌≤◌, ◌≡◌, Bool, true, false, not, List, eqb, ltb}
+use Rattle.std.specs.Prelude.{Option, Some, None, ℕ, zero, suc, ◌+◌, ◌-◌, ◌≤◌, ◌≡◌, Bool, true, false, not, List, eqb, ltb}
 use Rattle.wire.specs.Tests.{pick, both}
 use Rattle.wire.specs.Parts.{slice, splice}
 use Rattle.places.specs.Memory.{places_of}
@@ -61,11 +61,12 @@ from_mark want index bodies journal n d f =
 
 -- ---- any memory validated
 
--- how many orders stand and where they end; nothing where the rule is not met
-unfoldable pub extent_of : Memory → JournalExtent
-extent_of m =
-    pick (meets_rule m) (record { count = count_of m.journal; end = end_from (count_of m.journal) log_start m.journal })
-    (record { count = 0; end = 0 })
+-- how many orders stand and where they end, where the rule is met
+abbrev pub extent_in : Memory → JournalExtent
+extent_in m = record { count = count_of m.journal; end = end_from (count_of m.journal) log_start m.journal }
+
+unfoldable pub extent_of : Memory → Option JournalExtent
+extent_of m = pick (meets_rule m) (Some (extent_in m)) None
 
 -- the orders can be replayed: long enough, a table at the mark with its figures, and a count within the room; so many places are lent
 unfoldable pub replayable : List ℕ → List ℕ → ℕ → List ℕ → Bool
@@ -98,7 +99,7 @@ pub record Validated (want : Option Want) (m : Memory) (d' f' : List ℕ) : Type
   pub holds : Holds want (present (state_of m)) d' f' (marked_pictures m) (since_pictures m) (head_is_ok m)
   pub origins : (p : ℕ) → (origin_at (held_origins want f') p ≡ 0 → ⊥) → origin_at (held_origins want f') p + size_at m.journal (origin_at (held_origins want f') p) ≤ journal_length
 
-pub record Validation (want : Option Want) (m : Memory) (d f : List ℕ) (w : JournalExtent) (d' f' : List ℕ) : Type 0 where
+pub record Validation (want : Option Want) (m : Memory) (d f : List ℕ) (w : Option JournalExtent) (d' f' : List ℕ) : Type 0 where
   pub extent : w ≡ extent_of m
   pub index : d' ≡ (validation_of want m d f).index
   pub followed : f' ≡ (validation_of want m d f).followed

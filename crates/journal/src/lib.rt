@@ -13,8 +13,8 @@ pub const START: usize = 2;
 
 pub const LENGTH: usize = 32770;
 
-// How many orders stand and where they end; 0 and 0 where the memory does not meet the rule.
-#[derive(Clone, Copy)]
+// How many orders stand and where they end.
+#[derive(Clone, Copy, Debug, PartialEq, Eq)]
 pub struct JournalExtent {
     pub count: usize,
     pub end: usize,

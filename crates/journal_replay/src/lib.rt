@@ -134,19 +134,19 @@ pub fn validate(
     want: Option<Want>,
     d: &mut [u8],
     m: &mut [u8],
-) -> JournalExtent
+) -> Option<JournalExtent>
     requires { (length d.old ≡ index_length) × (length m.old ≡ room_for want) }
     ensures { InEachStore lent (λ store. Validation want (memory index.now bodies.now store journal.now) d.old m.old result d.new m.new) }
 {
     if !can_replay(index, bodies, lent, journal) {
-        return JournalExtent { count: 0, end: 0 };
+        return None;
     }
     let count = wire::read_u16(journal, 0) as usize;
     let end = from_mark(index, bodies, journal, count, want, d, m);
     if end == 0 {
-        return JournalExtent { count: 0, end: 0 };
+        return None;
     }
-    JournalExtent { count, end }
+    Some(JournalExtent { count, end })
 }
 
 // The same with nothing looked up.
@@ -156,7 +156,7 @@ pub fn extent(
     lent: usize,
     journal: &[u8],
     d: &mut [u8],
-) -> JournalExtent
+) -> Option<JournalExtent>
     requires { length d.old ≡ index_length }
     ensures { InEachStore lent (λ store. Validation None (memory index.now bodies.now store journal.now) d.old [] result d.new []) }
 {
@@ -168,6 +168,5 @@ pub fn well_formed(index: &[u8], bodies: &[u8], lent: usize, journal: &[u8]) -> 
     ensures { InEachStore lent (λ store. result ≡ meets_rule (memory index.now bodies.now store journal.now)) }
 {
     let mut d = [0u8; slots::LENGTH];
-    let w = extent(index, bodies, lent, journal, &mut d);
-    w.end != 0
+    extent(index, bodies, lent, journal, &mut d).is_some()
 }

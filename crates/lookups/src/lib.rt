@@ -418,10 +418,9 @@ fn look_in(
 {
     let lent = store::places(a, b, c, d, e);
     let mut x = [0u8; slots::LENGTH];
-    let w = journal_replay::validate(index, bodies, lent, journal, want, &mut x, m);
-    if w.end == 0 {
+    let Some(w) = journal_replay::validate(index, bodies, lent, journal, want, &mut x, m) else {
         return refused(1);
-    }
+    };
     let number = refusal(&x, target, out.len());
     if number != 0 {
         return refused(number);

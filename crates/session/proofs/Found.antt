@@ -38,8 +38,8 @@ use Rattle.journal.specs.Limits.{log_start, journal_length}
 use Rattle.journal.specs.Journal.{count_of, size_at, log_of}
 use Rattle.journal.specs.State.{run}
 use Rattle.journal.specs.View.{Memory, meets_rule, state_of, view_of}
-use Rattle.journal.specs.Replay.{extent_of, marked_pictures, since_pictures, head_is_ok, Validation}
-use Rattle.journal.proofs.Logged.{marked_in, logged_view}
+use Rattle.journal.specs.Replay.{marked_pictures, since_pictures, head_is_ok, Validation}
+use Rattle.journal.proofs.Logged.{extent_met, marked_in, logged_view}
 use Rattle.journal.proofs.Indexed.{Indexed, Followed, indexed}
 use Rattle.present.specs.TableFigure.{figure_in}
 use Rattle.present.specs.PresentFigure.{Followable, figure_held, no_figure, PresentHasFigure}
@@ -150,18 +150,12 @@ own_goes t Notifications = tt
 own_goes t (Shares g k) = tt
 
 -- and so does the one that is counted
-module _ {want : Option Want} {m : Memory} {d g : List ℕ} {w : JournalExtent} {x held : List ℕ} (v : Validation want m d g w x held) (some : w.end ≡ 0 → ⊥) where
+module _ {want : Option Want} {m : Memory} {d g : List ℕ} {w : JournalExtent} {x held : List ℕ} (v : Validation want m d g (Some w) x held) where
   met : meets_rule m ≡ true
-  unfolding extent_of
-  met = go (meets_rule m) refl
-    where
-      go : (b : Bool) → meets_rule m ≡ b → meets_rule m ≡ true
-      go true e = e
-      go false e = absurd (some (ap (λ (x : JournalExtent). x.end) v.extent ∙ rw e))
+  met = (extent_met m v.extent).0
 
   counted : w.count ≡ count_of m.journal
-  unfolding extent_of
-  counted = ap (λ (x : JournalExtent). x.count) v.extent ∙ rw met
+  counted = ap (λ (x : JournalExtent). x.count) (extent_met m v.extent).1
 
   pub figure_goes : (target : LookupTarget) → Bytes m.journal → Bytes x → {f : Figure} → f ≡ figure_for target x m.index m.bodies m.journal w.count
       → FigureGoes target f (run (marked_in m) (log_of m.journal))
@@ -179,7 +173,7 @@ module _ {want : Option Want} {m : Memory} {d g : List ℕ} {w : JournalExtent} 
   -- what counting it asks
   pub followable : Followable m.index m.bodies m.journal
   followable =
-      let l = (indexed v some).logged in
+      let l = (indexed v).logged in
       record { sound = (table_has m.index m.bodies (places_in m.store) l.sound).index; room = l.long.bodies; long = l.long.journal }
 
 module _ {m : Memory} {w : JournalExtent} {x : List ℕ} {os : List (List ℕ)} (i : Indexed m w x os) where

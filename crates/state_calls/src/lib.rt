@@ -87,10 +87,9 @@ pub fn deliver(index: &[u8], bodies: &[u8], lent: usize, journal: &mut [u8], s: 
     ensures { InEachStore lent (λ store. CallOutcome (plain (deliver s.now)) (memory index.now bodies.now store journal.old) (replied result) (memory index.now bodies.now store journal.new)) }
 {
     let mut d = [0u8; slots::LENGTH];
-    let w = journal_replay::extent(index, bodies, lent, journal, &mut d);
-    if w.end == 0 {
+    let Some(w) = journal_replay::extent(index, bodies, lent, journal, &mut d) else {
         return refused(1);
-    }
+    };
     let r = deliver_on(journal, &mut d, s, w, slots::COUNT, 0);
     if r.number != 0 {
         return refused(r.number);
@@ -132,20 +131,18 @@ pub fn checkpoint(
 ) -> Reply
     ensures { CallOutcome (plain checkpoint) (memory index.old bodies.old (five a.old b.old c.old d.old e.old) journal.old) (replied result) (memory index.new bodies.new (five a.new b.new c.new d.new e.new) journal.new) }
 {
-    let w = extent_in(index, bodies, a, b, c, d, e, journal);
-    if w.end == 0 {
+    let Some(w) = extent_in(index, bodies, a, b, c, d, e, journal) else {
         return refused(1);
-    }
+    };
     advance(index, bodies, a, b, c, d, e, journal, w)
 }
 
 pub fn undo(index: &[u8], bodies: &[u8], lent: usize, journal: &mut [u8], k: u64) -> Reply
     ensures { InEachStore lent (λ store. CallOutcome (plain (undo k)) (memory index.now bodies.now store journal.old) (replied result) (memory index.now bodies.now store journal.new)) }
 {
-    let w = extent(index, bodies, lent, journal);
-    if w.end == 0 {
+    let Some(w) = extent(index, bodies, lent, journal) else {
         return refused(1);
-    }
+    };
     if (w.count as u64) < k {
         return refused(13);
     }

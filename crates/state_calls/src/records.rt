@@ -10,10 +10,9 @@ use session::Reply;
 pub fn write(index: &[u8], bodies: &[u8], lent: usize, journal: &[u8], out: &mut [u8]) -> Reply
     ensures { InEachStore lent (λ store. CallOutcome (record_to out.old) (memory index.now bodies.now store journal.now) (handed result out.new) (memory index.now bodies.now store journal.now)) }
 {
-    let w = extent(index, bodies, lent, journal);
-    if w.end == 0 {
+    let Some(w) = extent(index, bodies, lent, journal) else {
         return refused(1);
-    }
+    };
     if !record::write(journal, w.count, w.end, out) {
         return refused(14);
     }

@@ -62,8 +62,7 @@ pub fn update(
     ensures { InEachStore lent (λ store. UpdateOutcome limit s.now (memory index.now bodies.now store journal.old) result (memory index.now bodies.now store journal.new)) }
 {
     let mut d = [0u8; slots::LENGTH];
-    let w = journal_replay::extent(index, bodies, lent, journal, &mut d);
-    if w.end == 0 {
+    let Some(w) = journal_replay::extent(index, bodies, lent, journal, &mut d) else {
         return Report {
             number: 1,
             orders: 0,
@@ -71,7 +70,7 @@ pub fn update(
             count: 0,
             bytes: 0,
         };
-    }
+    };
     let mut n: u32 = 0;
     let mut at: usize = 0;
     let mut near = slots::COUNT;

@@ -15,14 +15,13 @@ pub fn at_mark(index: &[u8], bodies: &[u8], lent: usize, journal: &[u8], out: &m
     ensures { InEachStore lent (λ store. FigureOutcome (memory index.now bodies.now store journal.now) out.old result out.new) }
 {
     let mut d = [0u8; slots::LENGTH];
-    let w = journal_replay::extent(index, bodies, lent, journal, &mut d);
-    if w.end == 0 {
+    let Some(w) = journal_replay::extent(index, bodies, lent, journal, &mut d) else {
         return Reply {
             number: 1,
             count: 0,
             bytes: 0,
         };
-    }
+    };
     if out.len() < LENGTH {
         return Reply {
             number: 14,

@@ -15,69 +15,69 @@ use Rattle.session.proofs.Outcomes.{refused_unmet}
 use Rattle.session.proofs.Found.{figure_goes, followable, look_refused, look_hands, look_found}
 use Rattle.lookups.proofs.look_in.Goals as goal
 
-pub validate-w-requires : goal.validate-w-requires
-validate-w-requires c = (refl, c.requires.1)
+pub validate-requires : goal.validate-requires
+validate-requires c = (refl, c.requires.1)
 
-pub returns-then-w-eq0 : goal.returns-then-w-eq0
-returns-then-w-eq0 c =
+pub returns-in_default : goal.returns-in_default
+returns-in_default c =
     let parts : List (List ℕ) = five c.args.a.now c.args.b.now c.args.c.now c.args.d.now c.args.e.now in
     let mem : Memory = memory c.args.index.now c.args.bodies.now (parts) c.args.journal.now in
-    let index : List ℕ = c.validate-w.new.d in
-    let held : List ℕ = c.validate-w.new.m in
-    let validation : Validation (want_of c.args.target) (mem) (replicate index_length 0) c.args.m.now c.validate-w.result (index) (held) = validated_as c.requires.0 (c.validate-w.ensures (parts) (sym c.places-lent.ensures)) in
-    refused_unmet (lookup c.args.target c.args.out.now) (mem) refl (unmet (validation) c.if-w-eq0.true) c.refused.ensures
+    let index : List ℕ = c.validate.new.d in
+    let held : List ℕ = c.validate.new.m in
+    let validation : Validation (want_of c.args.target) (mem) (replicate index_length 0) c.args.m.now None (index) (held) = validated_as c.requires.0 (c.in_default.ensures (parts) (sym c.places-lent.ensures)) in
+    refused_unmet (lookup c.args.target c.args.out.now) (mem) refl (unmet (validation)) c.refused.ensures
 
 pub returns-then-number-ne0 : goal.returns-then-number-ne0
 returns-then-number-ne0 c =
     let parts : List (List ℕ) = five c.args.a.now c.args.b.now c.args.c.now c.args.d.now c.args.e.now in
     let mem : Memory = memory c.args.index.now c.args.bodies.now (parts) c.args.journal.now in
-    let index : List ℕ = c.validate-w.new.d in
-    let held : List ℕ = c.validate-w.new.m in
-    let validation : Validation (want_of c.args.target) (mem) (replicate index_length 0) c.args.m.now c.validate-w.result (index) (held) = validated_as c.requires.0 (c.validate-w.ensures (parts) (sym c.places-lent.ensures)) in
-    let index_in_lem : (c.validate-w.result.end ≡ 0 → ⊥) → Indexed (mem) c.validate-w.result (index) (log_of c.args.journal.now) = (λ some. indexed (validation) some) in
-    let held_in : (c.validate-w.result.end ≡ 0 → ⊥) → Followed (want_of c.args.target) (mem) (index) (log_of c.args.journal.now) (held) = (λ some. followed (validation) some) in
-    look_refused (index_in_lem c.if-w-eq0.false) c.args.target c.args.out.now (held_in c.if-w-eq0.false) c.refusal-number.ensures c.if-number-ne0.true c.refused-then-number-ne0.ensures
+    let index : List ℕ = c.validate.new.d in
+    let held : List ℕ = c.validate.new.m in
+    let validation : Validation (want_of c.args.target) (mem) (replicate index_length 0) c.args.m.now c.in-Some.w (index) (held) = validated_as c.requires.0 (c.in-Some.ensures (parts) (sym c.places-lent.ensures)) in
+    let index_in_lem : Indexed (mem) c.in-Some.w (index) (log_of c.args.journal.now) = (indexed (validation)) in
+    let held_in : Followed (want_of c.args.target) (mem) (index) (log_of c.args.journal.now) (held) = (followed (validation)) in
+    look_refused (index_in_lem) c.args.target c.args.out.now (held_in) c.refusal-number.ensures c.if-number-ne0.true c.refused-then-number-ne0.ensures
 
 pub figure_for-f-requires : goal.figure_for-f-requires
 figure_for-f-requires c =
     let parts : List (List ℕ) = five c.args.a.now c.args.b.now c.args.c.now c.args.d.now c.args.e.now in
     let mem : Memory = memory c.args.index.now c.args.bodies.now (parts) c.args.journal.now in
-    let index : List ℕ = c.validate-w.new.d in
-    let held : List ℕ = c.validate-w.new.m in
-    let validation : Validation (want_of c.args.target) (mem) (replicate index_length 0) c.args.m.now c.validate-w.result (index) (held) = validated_as c.requires.0 (c.validate-w.ensures (parts) (sym c.places-lent.ensures)) in
-    followable (validation) c.if-w-eq0.false
+    let index : List ℕ = c.validate.new.d in
+    let held : List ℕ = c.validate.new.m in
+    let validation : Validation (want_of c.args.target) (mem) (replicate index_length 0) c.args.m.now c.in-Some.w (index) (held) = validated_as c.requires.0 (c.in-Some.ensures (parts) (sym c.places-lent.ensures)) in
+    followable (validation)
 
 pub hand_out-requires : goal.hand_out-requires
 hand_out-requires c =
     let parts : List (List ℕ) = five c.args.a.now c.args.b.now c.args.c.now c.args.d.now c.args.e.now in
     let mem : Memory = memory c.args.index.now c.args.bodies.now (parts) c.args.journal.now in
-    let index : List ℕ = c.validate-w.new.d in
-    let held : List ℕ = c.validate-w.new.m in
-    let validation : Validation (want_of c.args.target) (mem) (replicate index_length 0) c.args.m.now c.validate-w.result (index) (held) = validated_as c.requires.0 (c.validate-w.ensures (parts) (sym c.places-lent.ensures)) in
-    let index_in_lem : (c.validate-w.result.end ≡ 0 → ⊥) → Indexed (mem) c.validate-w.result (index) (log_of c.args.journal.now) = (λ some. indexed (validation) some) in
-    let held_in : (c.validate-w.result.end ≡ 0 → ⊥) → Followed (want_of c.args.target) (mem) (index) (log_of c.args.journal.now) (held) = (λ some. followed (validation) some) in
-    look_hands (index_in_lem c.if-w-eq0.false) c.args.target c.args.out.now (held_in c.if-w-eq0.false) c.refusal-number.ensures c.if-number-ne0.false (c.validate-w.auto.m ∙ c.requires.1 ∙ ap room_for c.requires.0)
+    let index : List ℕ = c.validate.new.d in
+    let held : List ℕ = c.validate.new.m in
+    let validation : Validation (want_of c.args.target) (mem) (replicate index_length 0) c.args.m.now c.in-Some.w (index) (held) = validated_as c.requires.0 (c.in-Some.ensures (parts) (sym c.places-lent.ensures)) in
+    let index_in_lem : Indexed (mem) c.in-Some.w (index) (log_of c.args.journal.now) = (indexed (validation)) in
+    let held_in : Followed (want_of c.args.target) (mem) (index) (log_of c.args.journal.now) (held) = (followed (validation)) in
+    look_hands (index_in_lem) c.args.target c.args.out.now (held_in) c.refusal-number.ensures c.if-number-ne0.false (c.validate.auto.m ∙ c.requires.1 ∙ ap room_for c.requires.0)
 
 pub granted-requires : goal.granted-requires
 granted-requires c =
     let parts : List (List ℕ) = five c.args.a.now c.args.b.now c.args.c.now c.args.d.now c.args.e.now in
     let mem : Memory = memory c.args.index.now c.args.bodies.now (parts) c.args.journal.now in
-    let index : List ℕ = c.validate-w.new.d in
-    let held : List ℕ = c.validate-w.new.m in
-    let validation : Validation (want_of c.args.target) (mem) (replicate index_length 0) c.args.m.now c.validate-w.result (index) (held) = validated_as c.requires.0 (c.validate-w.ensures (parts) (sym c.places-lent.ensures)) in
-    let index_in_lem : (c.validate-w.result.end ≡ 0 → ⊥) → Indexed (mem) c.validate-w.result (index) (log_of c.args.journal.now) = (λ some. indexed (validation) some) in
-    let g = (index_in_lem c.if-w-eq0.false).logged in
+    let index : List ℕ = c.validate.new.d in
+    let held : List ℕ = c.validate.new.m in
+    let validation : Validation (want_of c.args.target) (mem) (replicate index_length 0) c.args.m.now c.in-Some.w (index) (held) = validated_as c.requires.0 (c.in-Some.ensures (parts) (sym c.places-lent.ensures)) in
+    let index_in_lem : Indexed (mem) c.in-Some.w (index) (log_of c.args.journal.now) = (indexed (validation)) in
+    let g = (index_in_lem).logged in
     (g.few, logged_low g, logged_high g)
 
 pub returns : goal.returns
 returns c =
     let parts : List (List ℕ) = five c.args.a.now c.args.b.now c.args.c.now c.args.d.now c.args.e.now in
     let mem : Memory = memory c.args.index.now c.args.bodies.now (parts) c.args.journal.now in
-    let index : List ℕ = c.validate-w.new.d in
-    let held : List ℕ = c.validate-w.new.m in
-    let validation : Validation (want_of c.args.target) (mem) (replicate index_length 0) c.args.m.now c.validate-w.result (index) (held) = validated_as c.requires.0 (c.validate-w.ensures (parts) (sym c.places-lent.ensures)) in
-    let index_in_lem : (c.validate-w.result.end ≡ 0 → ⊥) → Indexed (mem) c.validate-w.result (index) (log_of c.args.journal.now) = (λ some. indexed (validation) some) in
-    let held_in : (c.validate-w.result.end ≡ 0 → ⊥) → Followed (want_of c.args.target) (mem) (index) (log_of c.args.journal.now) (held) = (λ some. followed (validation) some) in
+    let index : List ℕ = c.validate.new.d in
+    let held : List ℕ = c.validate.new.m in
+    let validation : Validation (want_of c.args.target) (mem) (replicate index_length 0) c.args.m.now c.in-Some.w (index) (held) = validated_as c.requires.0 (c.in-Some.ensures (parts) (sym c.places-lent.ensures)) in
+    let index_in_lem : Indexed (mem) c.in-Some.w (index) (log_of c.args.journal.now) = (indexed (validation)) in
+    let held_in : Followed (want_of c.args.target) (mem) (index) (log_of c.args.journal.now) (held) = (followed (validation)) in
     let journal_bytes : Bytes c.args.journal.now = record { small = λ i. omega (arith, c.shared_slice_known-8-1.given i) } in
-    look_found (index_in_lem c.if-w-eq0.false) c.args.target c.args.out.now (held_in c.if-w-eq0.false) c.refusal-number.ensures c.if-number-ne0.false c.figure_for-f.result
-    (figure_goes (validation) c.if-w-eq0.false c.args.target (journal_bytes) c.figure_for-f.ensures.1 c.figure_for-f.ensures.0) c.hand_out.ensures c.granted.ensures
+    look_found (index_in_lem) c.args.target c.args.out.now (held_in) c.refusal-number.ensures c.if-number-ne0.false c.figure_for-f.result
+    (figure_goes (validation) c.args.target (journal_bytes) c.figure_for-f.ensures.1 c.figure_for-f.ensures.0) c.hand_out.ensures c.granted.ensures

@@ -5,19 +5,20 @@ use Rattle.journal.specs.View.{Memory, memory}
 use Rattle.session.specs.Calls.{checkpoint}
 use Rattle.session.specs.Outcome.{plain}
 use Rattle.session.proofs.Outcomes.{refused_unmet}
-use Rattle.session.proofs.Standing.{extent_unmet, extent_stands}
+use Rattle.journal.proofs.Logged.{extent_unmet}
+use Rattle.session.proofs.Standing.{extent_stands}
 use Rattle.state_calls.proofs.checkpoint.Goals as goal
 
-pub returns-then-w-eq0 : goal.returns-then-w-eq0
-returns-then-w-eq0 c =
+pub returns-in_default : goal.returns-in_default
+returns-in_default c =
     let mem : Memory = memory c.args.index.now c.args.bodies.now (five c.args.a.now c.args.b.now c.args.c.now c.args.d.now c.args.e.now) c.args.journal.now in
     let m = mem in
-    refused_unmet (plain checkpoint) m refl (extent_unmet m c.extent_in-w.ensures c.if-w-eq0.true) c.refused.ensures
+    refused_unmet (plain checkpoint) m refl (extent_unmet m c.in_default.ensures) c.refused.ensures
 
 pub advance-requires : goal.advance-requires
 advance-requires c =
     let mem : Memory = memory c.args.index.now c.args.bodies.now (five c.args.a.now c.args.b.now c.args.c.now c.args.d.now c.args.e.now) c.args.journal.now in
-    extent_stands (mem) c.extent_in-w.ensures c.if-w-eq0.false
+    extent_stands (mem) c.in-Some.ensures
 
 pub shape_of-index : goal.shape_of-index
 shape_of-index c = c.advance.auto.index

@@ -11,24 +11,24 @@ use Rattle.update_call.proofs.update.Goals as goal
 pub slice_bounds-extent-end : goal.slice_bounds-extent-end
 slice_bounds-extent-end c = refl
 
-pub extent-w-requires : goal.extent-w-requires
-extent-w-requires c = refl
+pub extent-requires : goal.extent-requires
+extent-requires c = refl
 
-pub returns-then-w-eq0 : goal.returns-then-w-eq0
-returns-then-w-eq0 c p is =
+pub returns-in_default : goal.returns-in_default
+returns-in_default c p is =
     let mem : List (List ℕ) → Memory = (λ p. memory c.args.index.now c.args.bodies.now p c.args.journal.now) in
-    unfit_outcome c.args.limit c.args.s.now (mem p) (unmet (c.extent-w.ensures p is) c.if-w-eq0.true) refl
+    unfit_outcome c.args.limit c.args.s.now (mem p) (unmet (c.in_default.ensures p is)) refl
 
 pub loop-n-init : goal.loop-n-init
 loop-n-init c =
-    (refl, λ p is. going_start c.args.limit c.args.s.now (indexed (c.extent-w.ensures p is) c.if-w-eq0.false), c.extent-w.auto.d, held_none c.extent-w.new.d)
+    (refl, λ p is. going_start c.args.limit c.args.s.now (indexed (c.in-Some.ensures p is)), c.extent.auto.d, held_none c.extent.new.d)
 
 pub cut-end-requires : goal.cut-end-requires
 cut-end-requires c =
     let mem : List (List ℕ) → Memory = (λ p. memory c.args.index.now c.args.bodies.now p c.args.journal.now) in
     let limit : ℕ = c.args.limit in
     let bytes : List ℕ = c.args.s.now in
-    let going : Going (mem (a_store c.args.lent)) (limit) (bytes) c.extent-w.result c.loop-n.n c.loop-n.at c.loop-n.d c.loop-n.journal = c.loop-n.invariant.1 (a_store c.args.lent) (a_store_lends c.args.lent) in
+    let going : Going (mem (a_store c.args.lent)) (limit) (bytes) c.in-Some.w c.loop-n.n c.loop-n.at c.loop-n.d c.loop-n.journal = c.loop-n.invariant.1 (a_store c.args.lent) (a_store_lends c.args.lent) in
     (going).within
 
 pub overflow_cast-extent : goal.overflow_cast-extent
@@ -36,8 +36,8 @@ overflow_cast-extent c =
     let limit : ℕ = c.args.limit in
     let bytes : List ℕ = c.args.s.now in
     let mem : List (List ℕ) → Memory = (λ p. memory c.args.index.now c.args.bodies.now p c.args.journal.now) in
-    let going : Going (mem (a_store c.args.lent)) (limit) (bytes) c.extent-w.result c.loop-n.n c.loop-n.at c.loop-n.d c.loop-n.journal = c.loop-n.invariant.1 (a_store c.args.lent) (a_store_lends c.args.lent) in
-    let room : (c.extent-w.result.count + c.loop-n.n ≤ 128) × (2 ≤ c.extent-w.result.end) × (c.extent-w.result.end + c.loop-n.at ≤ 32770) = going_fits (limit) (bytes) (going) in
+    let going : Going (mem (a_store c.args.lent)) (limit) (bytes) c.in-Some.w c.loop-n.n c.loop-n.at c.loop-n.d c.loop-n.journal = c.loop-n.invariant.1 (a_store c.args.lent) (a_store_lends c.args.lent) in
+    let room : (c.in-Some.w.count + c.loop-n.n ≤ 128) × (2 ≤ c.in-Some.w.end) × (c.in-Some.w.end + c.loop-n.at ≤ 32770) = going_fits (limit) (bytes) (going) in
     record { fits = omega (arith, (room).0) }
 
 pub overflow_add-extent : goal.overflow_add-extent
@@ -45,8 +45,8 @@ overflow_add-extent c =
     let limit : ℕ = c.args.limit in
     let bytes : List ℕ = c.args.s.now in
     let mem : List (List ℕ) → Memory = (λ p. memory c.args.index.now c.args.bodies.now p c.args.journal.now) in
-    let going : Going (mem (a_store c.args.lent)) (limit) (bytes) c.extent-w.result c.loop-n.n c.loop-n.at c.loop-n.d c.loop-n.journal = c.loop-n.invariant.1 (a_store c.args.lent) (a_store_lends c.args.lent) in
-    let room : (c.extent-w.result.count + c.loop-n.n ≤ 128) × (2 ≤ c.extent-w.result.end) × (c.extent-w.result.end + c.loop-n.at ≤ 32770) = going_fits (limit) (bytes) (going) in
+    let going : Going (mem (a_store c.args.lent)) (limit) (bytes) c.in-Some.w c.loop-n.n c.loop-n.at c.loop-n.d c.loop-n.journal = c.loop-n.invariant.1 (a_store c.args.lent) (a_store_lends c.args.lent) in
+    let room : (c.in-Some.w.count + c.loop-n.n ≤ 128) × (2 ≤ c.in-Some.w.end) × (c.in-Some.w.end + c.loop-n.at ≤ 32770) = going_fits (limit) (bytes) (going) in
     omega (arith, (room).0)
 
 pub overflow_add-extent-in-loop-n : goal.overflow_add-extent-in-loop-n
@@ -54,8 +54,8 @@ overflow_add-extent-in-loop-n c =
     let limit : ℕ = c.args.limit in
     let bytes : List ℕ = c.args.s.now in
     let mem : List (List ℕ) → Memory = (λ p. memory c.args.index.now c.args.bodies.now p c.args.journal.now) in
-    let going : Going (mem (a_store c.args.lent)) (limit) (bytes) c.extent-w.result c.loop-n.n c.loop-n.at c.loop-n.d c.loop-n.journal = c.loop-n.invariant.1 (a_store c.args.lent) (a_store_lends c.args.lent) in
-    let room : (c.extent-w.result.count + c.loop-n.n ≤ 128) × (2 ≤ c.extent-w.result.end) × (c.extent-w.result.end + c.loop-n.at ≤ 32770) = going_fits (limit) (bytes) (going) in
+    let going : Going (mem (a_store c.args.lent)) (limit) (bytes) c.in-Some.w c.loop-n.n c.loop-n.at c.loop-n.d c.loop-n.journal = c.loop-n.invariant.1 (a_store c.args.lent) (a_store_lends c.args.lent) in
+    let room : (c.in-Some.w.count + c.loop-n.n ≤ 128) × (2 ≤ c.in-Some.w.end) × (c.in-Some.w.end + c.loop-n.at ≤ 32770) = going_fits (limit) (bytes) (going) in
     omega (arith, (room).2)
 
 pub slice_bounds-deliver_on-end : goal.slice_bounds-deliver_on-end
@@ -66,7 +66,7 @@ slice_bounds-deliver_on-count c =
     let limit : ℕ = c.args.limit in
     let bytes : List ℕ = c.args.s.now in
     let mem : List (List ℕ) → Memory = (λ p. memory c.args.index.now c.args.bodies.now p c.args.journal.now) in
-    let going : Going (mem (a_store c.args.lent)) (limit) (bytes) c.extent-w.result c.loop-n.n c.loop-n.at c.loop-n.d c.loop-n.journal = c.loop-n.invariant.1 (a_store c.args.lent) (a_store_lends c.args.lent) in
+    let going : Going (mem (a_store c.args.lent)) (limit) (bytes) c.in-Some.w c.loop-n.n c.loop-n.at c.loop-n.d c.loop-n.journal = c.loop-n.invariant.1 (a_store c.args.lent) (a_store_lends c.args.lent) in
     let after : c.loop-n.at < c.cut-end.result = end_after (limit) (bytes) (going) c.loop-n-test.true c.cut-end.ensures in
     omega (arith, after)
 
@@ -75,7 +75,7 @@ slice_bounds-deliver_on-start c =
     let limit : ℕ = c.args.limit in
     let bytes : List ℕ = c.args.s.now in
     let mem : List (List ℕ) → Memory = (λ p. memory c.args.index.now c.args.bodies.now p c.args.journal.now) in
-    let going : Going (mem (a_store c.args.lent)) (limit) (bytes) c.extent-w.result c.loop-n.n c.loop-n.at c.loop-n.d c.loop-n.journal = c.loop-n.invariant.1 (a_store c.args.lent) (a_store_lends c.args.lent) in
+    let going : Going (mem (a_store c.args.lent)) (limit) (bytes) c.in-Some.w c.loop-n.n c.loop-n.at c.loop-n.d c.loop-n.journal = c.loop-n.invariant.1 (a_store c.args.lent) (a_store_lends c.args.lent) in
     let after : c.loop-n.at < c.cut-end.result = end_after (limit) (bytes) (going) c.loop-n-test.true c.cut-end.ensures in
     omega (arith, after)
 
@@ -84,7 +84,7 @@ slice_bounds-deliver_on-end-in-loop-n c =
     let limit : ℕ = c.args.limit in
     let bytes : List ℕ = c.args.s.now in
     let mem : List (List ℕ) → Memory = (λ p. memory c.args.index.now c.args.bodies.now p c.args.journal.now) in
-    let going : Going (mem (a_store c.args.lent)) (limit) (bytes) c.extent-w.result c.loop-n.n c.loop-n.at c.loop-n.d c.loop-n.journal = c.loop-n.invariant.1 (a_store c.args.lent) (a_store_lends c.args.lent) in
+    let going : Going (mem (a_store c.args.lent)) (limit) (bytes) c.in-Some.w c.loop-n.n c.loop-n.at c.loop-n.d c.loop-n.journal = c.loop-n.invariant.1 (a_store c.args.lent) (a_store_lends c.args.lent) in
     let within : c.cut-end.result ≤ length (bytes) = end_within (limit) (bytes) (going) c.loop-n-test.true c.cut-end.ensures in
     within
 
@@ -93,7 +93,7 @@ deliver_on-r-requires c =
     let limit : ℕ = c.args.limit in
     let bytes : List ℕ = c.args.s.now in
     let mem : List (List ℕ) → Memory = (λ p. memory c.args.index.now c.args.bodies.now p c.args.journal.now) in
-    let going : Going (mem (a_store c.args.lent)) (limit) (bytes) c.extent-w.result c.loop-n.n c.loop-n.at c.loop-n.d c.loop-n.journal = c.loop-n.invariant.1 (a_store c.args.lent) (a_store_lends c.args.lent) in
+    let going : Going (mem (a_store c.args.lent)) (limit) (bytes) c.in-Some.w c.loop-n.n c.loop-n.at c.loop-n.d c.loop-n.journal = c.loop-n.invariant.1 (a_store c.args.lent) (a_store_lends c.args.lent) in
     (going_ready (limit) (bytes) (going), c.loop-n.invariant.3)
 
 pub reported-requires : goal.reported-requires
@@ -101,7 +101,7 @@ reported-requires c =
     let limit : ℕ = c.args.limit in
     let bytes : List ℕ = c.args.s.now in
     let mem : List (List ℕ) → Memory = (λ p. memory c.args.index.now c.args.bodies.now p c.args.journal.now) in
-    let going : Going (mem (a_store c.args.lent)) (limit) (bytes) c.extent-w.result c.loop-n.n c.loop-n.at c.loop-n.d c.loop-n.journal = c.loop-n.invariant.1 (a_store c.args.lent) (a_store_lends c.args.lent) in
+    let going : Going (mem (a_store c.args.lent)) (limit) (bytes) c.in-Some.w c.loop-n.n c.loop-n.at c.loop-n.d c.loop-n.journal = c.loop-n.invariant.1 (a_store c.args.lent) (a_store_lends c.args.lent) in
     going_fits (limit) (bytes) (going)
 
 pub shape_of-journal-then-r-ne0 : goal.shape_of-journal-then-r-ne0
@@ -119,8 +119,8 @@ overflow_add-n c =
     let limit : ℕ = c.args.limit in
     let bytes : List ℕ = c.args.s.now in
     let mem : List (List ℕ) → Memory = (λ p. memory c.args.index.now c.args.bodies.now p c.args.journal.now) in
-    let going : Going (mem (a_store c.args.lent)) (limit) (bytes) c.extent-w.result c.loop-n.n c.loop-n.at c.loop-n.d c.loop-n.journal = c.loop-n.invariant.1 (a_store c.args.lent) (a_store_lends c.args.lent) in
-    let room : (c.extent-w.result.count + c.loop-n.n ≤ 128) × (2 ≤ c.extent-w.result.end) × (c.extent-w.result.end + c.loop-n.at ≤ 32770) = going_fits (limit) (bytes) (going) in
+    let going : Going (mem (a_store c.args.lent)) (limit) (bytes) c.in-Some.w c.loop-n.n c.loop-n.at c.loop-n.d c.loop-n.journal = c.loop-n.invariant.1 (a_store c.args.lent) (a_store_lends c.args.lent) in
+    let room : (c.in-Some.w.count + c.loop-n.n ≤ 128) × (2 ≤ c.in-Some.w.end) × (c.in-Some.w.end + c.loop-n.at ≤ 32770) = going_fits (limit) (bytes) (going) in
     omega (arith, (room).0)
 
 pub loop-n-smaller : goal.loop-n-smaller
@@ -128,7 +128,7 @@ loop-n-smaller c =
     let limit : ℕ = c.args.limit in
     let bytes : List ℕ = c.args.s.now in
     let mem : List (List ℕ) → Memory = (λ p. memory c.args.index.now c.args.bodies.now p c.args.journal.now) in
-    let going : Going (mem (a_store c.args.lent)) (limit) (bytes) c.extent-w.result c.loop-n.n c.loop-n.at c.loop-n.d c.loop-n.journal = c.loop-n.invariant.1 (a_store c.args.lent) (a_store_lends c.args.lent) in
+    let going : Going (mem (a_store c.args.lent)) (limit) (bytes) c.in-Some.w c.loop-n.n c.loop-n.at c.loop-n.d c.loop-n.journal = c.loop-n.invariant.1 (a_store c.args.lent) (a_store_lends c.args.lent) in
     let after : c.loop-n.at < c.cut-end.result = end_after (limit) (bytes) (going) c.loop-n-test.true c.cut-end.ensures in
     let within : c.cut-end.result ≤ length (bytes) = end_within (limit) (bytes) (going) c.loop-n-test.true c.cut-end.ensures in
     omega (arith, after, within)
