@@ -188,12 +188,9 @@ fn listed(s: &[u8]) -> usize
 pub fn area(s: &[u8]) -> u64
     ensures { result ≡ area_of s.now }
 {
-    let n = listed(s);
     let mut sum = 0;
-    let mut i = 0;
-    while i < n {
+    for i in 0..listed(s) {
         sum += piece(s, i, rect_at(s, i));
-        i += 1;
     }
     sum
 }

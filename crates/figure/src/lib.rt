@@ -115,8 +115,7 @@ pub fn is_kept(index: &[u8], bodies: &[u8]) -> bool
 {
     let mut windows = 0;
     let mut pixels = 0;
-    let mut i = 0;
-    while i < slots::WINDOWS {
+    for i in 0..slots::WINDOWS {
         let shown = is_shown(index, bodies, i);
         let p = pixels_at(index, bodies, i, shown);
         let at = slots::LENGTH + 4 * i;
@@ -126,7 +125,6 @@ pub fn is_kept(index: &[u8], bodies: &[u8]) -> bool
         }
         windows += shown as u32;
         pixels += p;
-        i += 1;
     }
     let f = kept(index);
     (f.windows == windows) & (f.pixels == pixels)
@@ -139,14 +137,12 @@ pub fn keep(index: &mut [u8], bodies: &[u8])
 {
     let mut windows = 0;
     let mut pixels = 0;
-    let mut i = 0;
-    while i < slots::WINDOWS {
+    for i in 0..slots::WINDOWS {
         let shown = is_shown(index, bodies, i);
         let p = pixels_at(index, bodies, i, shown);
         wire::write_u32(index, slots::LENGTH + 4 * i, (p % HALF) as u32);
         windows += shown as u32;
         pixels += p;
-        i += 1;
     }
     write(index, TOTALS, Figure { windows, pixels });
 }

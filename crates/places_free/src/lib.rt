@@ -29,12 +29,9 @@ fn mark_group(marks: &mut [u8; places::POINTERS], pointers: &[u8], from: usize)
     requires marks_len { (length marks.old ≡ pointer_count) × Marked (λ h. get_or pointers.now h 0) from marks.old }
     ensures { (length marks.new ≡ pointer_count) × Marked (λ h. get_or pointers.now h 0) (from + group_size) marks.new }
 {
-    let end = from + GROUP;
-    let mut h = from;
-    while h < end {
+    for h in from..from + GROUP {
         let v = pointers[h] as usize;
         marks[v] = 1;
-        h += 1;
     }
 }
 
@@ -44,14 +41,12 @@ fn marks_of(pointers: &[u8]) -> [u8; places::POINTERS]
     ensures { Marked (λ h. get_or pointers.now h 0) holder_count result }
 {
     let mut marks = [0u8; places::POINTERS];
-    let mut g = 0;
-    while g < GROUPS {
+    for g in 0..GROUPS {
         let from = GROUP * g;
         let end = from + GROUP;
         if !is_none(&pointers[from..end]) {
             mark_group(&mut marks, pointers, from);
         }
-        g += 1;
     }
     marks
 }
@@ -69,13 +64,10 @@ fn first_unmarked(marks: &[u8; places::POINTERS], n: u8) -> Option<usize>
     requires { n ≤ most_places }
     ensures { result ≡ first_from n 0 (λ p. eqb (get_or marks.now (p + 1) 0) 0) }
 {
-    let end = n as usize;
-    let mut p = 0;
-    while p < end {
+    for p in 0..n as usize {
         if marks[p + 1] == 0 {
             return Some(p);
         }
-        p += 1;
     }
     None
 }

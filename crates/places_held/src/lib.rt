@@ -20,10 +20,8 @@ fn users(bytes: &[u8], v: u8) -> u8
     ensures { result ≡ count_at holder_count (pointer_at bytes.now) v }
 {
     let mut n: u8 = 0;
-    let mut h = 0;
-    while h < places::HOLDERS {
+    for h in 0..places::HOLDERS {
         n += (bytes[h + 1] == v) as u8;
-        h += 1;
     }
     n
 }

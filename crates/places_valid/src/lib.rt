@@ -20,10 +20,8 @@ fn most(bytes: &[u8]) -> u8
     ensures { Most (pointer_at bytes.now) holder_count result }
 {
     let mut m = 0;
-    let mut h = 0;
-    while h < places::HOLDERS {
+    for h in 0..places::HOLDERS {
         m = larger(m, bytes[h + 1]);
-        h += 1;
     }
     m
 }
@@ -34,14 +32,12 @@ fn cells_apart(bytes: &[u8]) -> bool
     ensures { result ≡ cells_apart (pointer_at bytes.now) }
 {
     let mut marks = [0u8; places::POINTERS];
-    let mut c = 0;
-    while c < places::CELLS {
+    for c in 0..places::CELLS {
         let v = bytes[c + 1] as usize;
         if (v != 0) & (marks[v] != 0) {
             return false;
         }
         marks[v] = 1;
-        c += 1;
     }
     true
 }

@@ -64,16 +64,13 @@ pub fn search(index: &[u8], first: usize, count: usize, a: u32, b: u32) -> Searc
     requires { (first + count ≤ slot_count) × (index_length ≤ length index.now) }
     ensures { result ≡ search_from count first (is_at index.now a b) }
 {
-    let end = first + count;
-    let mut i = first;
-    while i < end {
+    for i in first..first + count {
         if is_at(index, i, a, b) {
             return Searched {
                 found: Some(i),
                 looked: i - first + 1,
             };
         }
-        i += 1;
     }
     Searched {
         found: None,
@@ -86,13 +83,10 @@ fn unused(index: &[u8], first: usize, count: usize) -> Option<usize>
     requires { (first + count ≤ slot_count) × (index_length ≤ length index.now) }
     ensures { result ≡ first_from count first (is_free index.now) }
 {
-    let end = first + count;
-    let mut i = first;
-    while i < end {
+    for i in first..first + count {
         if index[places::LENGTH + SLOT * i] != 1 {
             return Some(i);
         }
-        i += 1;
     }
     None
 }

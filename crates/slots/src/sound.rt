@@ -74,13 +74,10 @@ fn slots_ok(index: &[u8], first: usize, count: usize, top: u32) -> bool
     ensures { result ≡ each_from count first (slot_ok index.now first count top) }
 {
     let mut seen = [0u8; 256];
-    let end = first + count;
-    let mut i = first;
-    while i < end {
+    for i in first..first + count {
         if !slot_ok(index, &mut seen, first, count, top, i) {
             return false;
         }
-        i += 1;
     }
     true
 }

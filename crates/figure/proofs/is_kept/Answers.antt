@@ -13,7 +13,7 @@ loop-i-init c =
     let a = c.args in
     let index = a.index.now in
     let bodies = a.bodies.now in
-    (omega arith, omega arith, omega arith, sum_zero (λ k. one (shown_at index bodies k)), sum_zero (pixels_at index bodies), none_other index bodies)
+    (omega arith, omega arith, sum_zero (λ k. one (shown_at index bodies k)), sum_zero (pixels_at index bodies), none_other index bodies)
 
 pub returns-then-read_u32-p : goal.returns-then-read_u32-p
 returns-then-read_u32-p c =
@@ -38,9 +38,9 @@ loop-i-preserved c =
     let p = c.pixels_at-p.ensures in
     let h = counts shown.result in
     let stored = stored_is index i (pixels_place i) (pixels_place i + 4 - pixels_place i) refl (omega arith) c.read_u32.ensures in
-    (omega arith, omega arith, omega arith, window_more index bodies i c.loop-i.invariant.3 shown.ensures, sum_more i (pixels_at index bodies) c.loop-i.invariant.4 p.0, same_more index bodies i stored p.0 c.loop-i.invariant.5 (c.if-read_u32-p.false ∙ pixels_whole index bodies i (bytes) p.0))
+    (omega arith, omega arith, window_more index bodies i c.loop-i.invariant.2 shown.ensures, sum_more i (pixels_at index bodies) c.loop-i.invariant.3 p.0, same_more index bodies i stored p.0 c.loop-i.invariant.4 (c.if-read_u32-p.false ∙ pixels_whole index bodies i (bytes) p.0))
 
 pub returns : goal.returns
 returns c =
     let a = c.args in
-    all_same a.index.now a.bodies.now (omega arith) c.loop-i.invariant.5 c.loop-i.invariant.3 c.loop-i.invariant.4 c.kept-f.ensures
+    all_same a.index.now a.bodies.now (omega arith) c.loop-i.invariant.4 c.loop-i.invariant.2 c.loop-i.invariant.3 c.kept-f.ensures

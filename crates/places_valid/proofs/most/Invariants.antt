@@ -1,10 +1,6 @@
-use Rattle.std.proofs.Common.{◌-◌, ◌≤◌}
 use Rattle.places.specs.Memory.{pointer_at}
 use Rattle.places.specs.Marks.{Most}
 use Rattle.places_valid.proofs.most.Given as goal
 
 abbrev pub invariant-loop-h : goal.invariant-loop-h
-invariant-loop-h l = (l.h ≤ 156) × Most (pointer_at l.bytes) l.h l.m
-
-abbrev pub decreases-loop-h : goal.decreases-loop-h
-decreases-loop-h l = 156 - l.h
+invariant-loop-h l = Most (pointer_at l.bytes) l.h l.m
