@@ -6,7 +6,7 @@ ghost use Rattle.rows.specs.Rows.{all_rows, no_row, rows_from, room_of, kind_row
 ghost use Rattle.body.specs.Stores.{store_of, room_all, EndsWell, Turned, Placed};
 
 // Puts the field of row k, where it is carried from index at on, at index off. Where the next row begins.
-fn put(
+fn put_field(
     slot: &mut [u8],
     s: &[u8],
     at: usize,
@@ -29,19 +29,36 @@ fn put(
     at + n
 }
 
+// The same of row K of the table: one proof for every row, and a function for each, in which the compiler knows the row.
+#[inline(always)]
+fn put<const K: usize>(slot: &mut [u8], s: &[u8], at: usize, flags: u32, off: usize) -> usize
+    requires k_bound { (K < 22) × (1 ≤ at) × (at ≤ length s.now) × (off + room_of (get_or all_rows K no_row) ≤ length slot.old) }
+    requires ends_well { EndsWell (rows_from K 22) flags s.now at }
+    ensures { Turned K off flags s.now at slot.old result slot.new }
+{
+    put_field(
+        slot,
+        s,
+        at,
+        flags,
+        K,
+        rows::FLAGS[K],
+        rows::WIDTHS[K],
+        rows::KINDS[K],
+        off,
+    )
+}
+
 // Puts owner, style, show state and title. Where the next row begins.
 fn put_owner_to_title(slot: &mut [u8], s: &[u8], at: usize, flags: u32) -> usize
     requires le_at { (1 ≤ at) × (at ≤ length s.now) × (1392 ≤ length slot.old) }
     requires ends_well { EndsWell (rows_from 1 22) flags s.now at }
     ensures { Placed 1 2 5 537 flags s.now at slot.old result slot.new }
 {
-    let f = rows::FLAGS;
-    let w = rows::WIDTHS;
-    let t = rows::KINDS;
-    let p = put(slot, s, at, flags, 1, f[1], w[1], t[1], 2); // owner
-    let p = put(slot, s, p, flags, 2, f[2], w[2], t[2], 6); // style, extended style
-    let p = put(slot, s, p, flags, 3, f[3], w[3], t[3], 14); // show state
-    put(slot, s, p, flags, 4, f[4], w[4], t[4], 15) // title
+    let p = put::<1>(slot, s, at, flags, 2); // owner
+    let p = put::<2>(slot, s, p, flags, 6); // style, extended style
+    let p = put::<3>(slot, s, p, flags, 14); // show state
+    put::<4>(slot, s, p, flags, 15) // title
 }
 
 // The same for client offset, client size and resize margins.
@@ -50,13 +67,10 @@ fn put_client_area(slot: &mut [u8], s: &[u8], at: usize, flags: u32) -> usize
     requires ends_well { EndsWell (rows_from 5 22) flags s.now at }
     ensures { Placed 5 537 9 569 flags s.now at slot.old result slot.new }
 {
-    let f = rows::FLAGS;
-    let w = rows::WIDTHS;
-    let t = rows::KINDS;
-    let p = put(slot, s, at, flags, 5, f[5], w[5], t[5], 537); // client offset x, y
-    let p = put(slot, s, p, flags, 6, f[6], w[6], t[6], 545); // client width, height
-    let p = put(slot, s, p, flags, 7, f[7], w[7], t[7], 553); // left, right resize margin
-    put(slot, s, p, flags, 8, f[8], w[8], t[8], 561) // top, bottom resize margin
+    let p = put::<5>(slot, s, at, flags, 537); // client offset x, y
+    let p = put::<6>(slot, s, p, flags, 545); // client width, height
+    let p = put::<7>(slot, s, p, flags, 553); // left, right resize margin
+    put::<8>(slot, s, p, flags, 561) // top, bottom resize margin
 }
 
 // For RPContent, root parent, window offset, client delta and window size.
@@ -65,14 +79,11 @@ fn put_content_to_size(slot: &mut [u8], s: &[u8], at: usize, flags: u32) -> usiz
     requires ends_well { EndsWell (rows_from 9 22) flags s.now at }
     ensures { Placed 9 569 14 598 flags s.now at slot.old result slot.new }
 {
-    let f = rows::FLAGS;
-    let w = rows::WIDTHS;
-    let t = rows::KINDS;
-    let p = put(slot, s, at, flags, 9, f[9], w[9], t[9], 569); // RPContent
-    let p = put(slot, s, p, flags, 10, f[10], w[10], t[10], 570); // root parent
-    let p = put(slot, s, p, flags, 11, f[11], w[11], t[11], 574); // window offset x, y
-    let p = put(slot, s, p, flags, 12, f[12], w[12], t[12], 582); // window client delta x, y
-    put(slot, s, p, flags, 13, f[13], w[13], t[13], 590) // window width, height
+    let p = put::<9>(slot, s, at, flags, 569); // RPContent
+    let p = put::<10>(slot, s, p, flags, 570); // root parent
+    let p = put::<11>(slot, s, p, flags, 574); // window offset x, y
+    let p = put::<12>(slot, s, p, flags, 582); // window client delta x, y
+    put::<13>(slot, s, p, flags, 590) // window width, height
 }
 
 // For window rectangles, visible offset and visibility rectangles.
@@ -81,12 +92,9 @@ fn put_rectangles(slot: &mut [u8], s: &[u8], at: usize, flags: u32) -> usize
     requires ends_well { EndsWell (rows_from 14 22) flags s.now at }
     ensures { Placed 14 598 17 866 flags s.now at slot.old result slot.new }
 {
-    let f = rows::FLAGS;
-    let w = rows::WIDTHS;
-    let t = rows::KINDS;
-    let p = put(slot, s, at, flags, 14, f[14], w[14], t[14], 598); // window rectangles
-    let p = put(slot, s, p, flags, 15, f[15], w[15], t[15], 728); // visible offset x, y
-    put(slot, s, p, flags, 16, f[16], w[16], t[16], 736) // visibility rectangles
+    let p = put::<14>(slot, s, at, flags, 598); // window rectangles
+    let p = put::<15>(slot, s, p, flags, 728); // visible offset x, y
+    put::<16>(slot, s, p, flags, 736) // visibility rectangles
 }
 
 // For overlay description, taskbar button, stacking by the server, application bar and its edge.
@@ -95,14 +103,11 @@ fn put_overlay_to_edge(slot: &mut [u8], s: &[u8], at: usize, flags: u32) -> usiz
     requires ends_well { EndsWell (rows_from 17 22) flags s.now at }
     ensures { Placed 17 866 22 1392 flags s.now at slot.old result slot.new }
 {
-    let f = rows::FLAGS;
-    let w = rows::WIDTHS;
-    let t = rows::KINDS;
-    let p = put(slot, s, at, flags, 17, f[17], w[17], t[17], 866); // overlay description
-    let p = put(slot, s, p, flags, 18, f[18], w[18], t[18], 1388); // taskbar button
-    let p = put(slot, s, p, flags, 19, f[19], w[19], t[19], 1389); // stacking by the server
-    let p = put(slot, s, p, flags, 20, f[20], w[20], t[20], 1390); // application bar
-    put(slot, s, p, flags, 21, f[21], w[21], t[21], 1391) // its edge
+    let p = put::<17>(slot, s, at, flags, 866); // overlay description
+    let p = put::<18>(slot, s, p, flags, 1388); // taskbar button
+    let p = put::<19>(slot, s, p, flags, 1389); // stacking by the server
+    let p = put::<20>(slot, s, p, flags, 1390); // application bar
+    put::<21>(slot, s, p, flags, 1391) // its edge
 }
 
 // Puts the flagged fields of a window, carried from index at on, into their places. With rows and places that the compiler

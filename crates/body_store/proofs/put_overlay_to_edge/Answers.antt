@@ -7,7 +7,7 @@ use Rattle.body_store.proofs.put_overlay_to_edge.Goals as goal
 pub put-p-requires : goal.put-p-requires
 put-p-requires c =
     record {
-      k_bound = (omega arith, c.requires.le_at.0, c.requires.le_at.1, omega (arith, c.requires.le_at.2), refl);
+      k_bound = (omega arith, c.requires.le_at.0, c.requires.le_at.1, omega (arith, c.requires.le_at.2));
       ends_well = c.requires.ends_well;
     }
 
@@ -15,7 +15,7 @@ pub put-p-requires-2 : goal.put-p-requires-2
 put-p-requires-2 c =
     let placed1 : Placed 17 866 18 1388 c.args.flags c.args.s.now c.args.at c.args.slot.now c.put-p.result c.put-p.new.slot = placed_next (placed_none 17 866 c.args.flags c.args.s.now c.args.at c.args.slot.now c.requires.le_at.0 c.requires.le_at.1 c.requires.ends_well) c.put-p.ensures c.put-p.auto.slot in
     let d = placed1 in record {
-      k_bound = (omega arith, d.low, d.within, omega (arith, d.same, c.requires.le_at.2), refl);
+      k_bound = (omega arith, d.low, d.within, omega (arith, d.same, c.requires.le_at.2));
       ends_well = d.well;
     }
 
@@ -24,7 +24,7 @@ put-p-requires-3 c =
     let placed1 : Placed 17 866 18 1388 c.args.flags c.args.s.now c.args.at c.args.slot.now c.put-p.result c.put-p.new.slot = placed_next (placed_none 17 866 c.args.flags c.args.s.now c.args.at c.args.slot.now c.requires.le_at.0 c.requires.le_at.1 c.requires.ends_well) c.put-p.ensures c.put-p.auto.slot in
     let placed2 : Placed 17 866 19 1389 c.args.flags c.args.s.now c.args.at c.args.slot.now c.put-p-2.result c.put-p-2.new.slot = placed_next (placed1) c.put-p-2.ensures c.put-p-2.auto.slot in
     let d = placed2 in record {
-      k_bound = (omega arith, d.low, d.within, omega (arith, d.same, c.requires.le_at.2), refl);
+      k_bound = (omega arith, d.low, d.within, omega (arith, d.same, c.requires.le_at.2));
       ends_well = d.well;
     }
 
@@ -34,7 +34,7 @@ put-p-requires-4 c =
     let placed2 : Placed 17 866 19 1389 c.args.flags c.args.s.now c.args.at c.args.slot.now c.put-p-2.result c.put-p-2.new.slot = placed_next (placed1) c.put-p-2.ensures c.put-p-2.auto.slot in
     let placed3 : Placed 17 866 20 1390 c.args.flags c.args.s.now c.args.at c.args.slot.now c.put-p-3.result c.put-p-3.new.slot = placed_next (placed2) c.put-p-3.ensures c.put-p-3.auto.slot in
     let d = placed3 in record {
-      k_bound = (omega arith, d.low, d.within, omega (arith, d.same, c.requires.le_at.2), refl);
+      k_bound = (omega arith, d.low, d.within, omega (arith, d.same, c.requires.le_at.2));
       ends_well = d.well;
     }
 
@@ -45,7 +45,7 @@ put-requires c =
     let placed3 : Placed 17 866 20 1390 c.args.flags c.args.s.now c.args.at c.args.slot.now c.put-p-3.result c.put-p-3.new.slot = placed_next (placed2) c.put-p-3.ensures c.put-p-3.auto.slot in
     let placed4 : Placed 17 866 21 1391 c.args.flags c.args.s.now c.args.at c.args.slot.now c.put-p-4.result c.put-p-4.new.slot = placed_next (placed3) c.put-p-4.ensures c.put-p-4.auto.slot in
     let d = placed4 in record {
-      k_bound = (omega arith, d.low, d.within, omega (arith, d.same, c.requires.le_at.2), refl);
+      k_bound = (omega arith, d.low, d.within, omega (arith, d.same, c.requires.le_at.2));
       ends_well = d.well;
     }
 

@@ -7,7 +7,7 @@ use Rattle.body_store.proofs.put_rectangles.Goals as goal
 pub put-p-requires : goal.put-p-requires
 put-p-requires c =
     record {
-      k_bound = (omega arith, c.requires.le_at.0, c.requires.le_at.1, omega (arith, c.requires.le_at.2), refl);
+      k_bound = (omega arith, c.requires.le_at.0, c.requires.le_at.1, omega (arith, c.requires.le_at.2));
       ends_well = c.requires.ends_well;
     }
 
@@ -15,7 +15,7 @@ pub put-p-requires-2 : goal.put-p-requires-2
 put-p-requires-2 c =
     let placed1 : Placed 14 598 15 728 c.args.flags c.args.s.now c.args.at c.args.slot.now c.put-p.result c.put-p.new.slot = placed_next (placed_none 14 598 c.args.flags c.args.s.now c.args.at c.args.slot.now c.requires.le_at.0 c.requires.le_at.1 c.requires.ends_well) c.put-p.ensures c.put-p.auto.slot in
     let d = placed1 in record {
-      k_bound = (omega arith, d.low, d.within, omega (arith, d.same, c.requires.le_at.2), refl);
+      k_bound = (omega arith, d.low, d.within, omega (arith, d.same, c.requires.le_at.2));
       ends_well = d.well;
     }
 
@@ -24,7 +24,7 @@ put-requires c =
     let placed1 : Placed 14 598 15 728 c.args.flags c.args.s.now c.args.at c.args.slot.now c.put-p.result c.put-p.new.slot = placed_next (placed_none 14 598 c.args.flags c.args.s.now c.args.at c.args.slot.now c.requires.le_at.0 c.requires.le_at.1 c.requires.ends_well) c.put-p.ensures c.put-p.auto.slot in
     let placed2 : Placed 14 598 16 736 c.args.flags c.args.s.now c.args.at c.args.slot.now c.put-p-2.result c.put-p-2.new.slot = placed_next (placed1) c.put-p-2.ensures c.put-p-2.auto.slot in
     let d = placed2 in record {
-      k_bound = (omega arith, d.low, d.within, omega (arith, d.same, c.requires.le_at.2), refl);
+      k_bound = (omega arith, d.low, d.within, omega (arith, d.same, c.requires.le_at.2));
       ends_well = d.well;
     }
 
