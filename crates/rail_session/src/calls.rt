@@ -1,131 +1,106 @@
-// The calls that change the state. Two parts of one memory cannot be lent for writing at once, so the parts that a call changes are
-// copies.
-use crate::lending;
-use crate::lending::{BODIES, INDEX, JOURNAL, Lending, MEMORY, PART, STORE};
-use session::Reply;
+// The calls of items, and the lines that tell what they answer.
+use crate::dump::Dump;
+use crate::item::Item;
+use crate::state::State;
+use script::Stop;
+use session::{LookupTarget, Reply};
+use std::io;
+use update::Report;
 
-// A copy of part i.
-pub(crate) fn copy_of(memory: &[u8; MEMORY], i: u8) -> [u8; PART] {
-    let mut copy = [0u8; PART];
-    if 7 < i {
-        return copy;
+// More than the longest line that is laid in memory has.
+pub(crate) const LINE: usize = 262144;
+
+// Ends the line that was laid in memory, and prints it.
+fn tell_line(rt: &impl Print, line: &mut [u8], len: usize) -> Result<(), Stop> {
+    print::end_line(&mut io::writer(rt), line, len)?;
+    Ok(())
+}
+
+fn tell_reply(rt: &impl Print, line: &mut [u8], letter: u8, reply: Reply) -> Result<(), Stop> {
+    let len = lines::reply(line, letter, reply);
+    tell_line(rt, line, len)
+}
+
+fn tell_report(rt: &impl Print, line: &mut [u8], report: Report) -> Result<(), Stop> {
+    let len = lines::updated(line, report);
+    tell_line(rt, line, len)
+}
+
+// W, N, C, S, H
+fn look(
+    rt: &impl Print,
+    line: &mut [u8],
+    letter: u8,
+    state: &mut State,
+    target: LookupTarget,
+) -> Result<(), Stop> {
+    let mut found = [0u8; lines::FOUND];
+    let reply = state.look(target, &mut found);
+    let len = lines::found(line, letter, reply, target, &found);
+    tell_line(rt, line, len)
+}
+
+// I
+fn list(rt: &impl Print, line: &mut [u8], letter: u8, state: &mut State) -> Result<(), Stop> {
+    let mut windows = [0u8; ids::LENGTH];
+    let mut icons = [0u8; ids::LENGTH];
+    let reply = state.list(&mut windows, &mut icons);
+    let len = lines::listed(line, letter, reply, &windows, &icons);
+    tell_line(rt, line, len)
+}
+
+// The bytes that writing the session record wrote, by its reply.
+fn record_len(reply: Reply) -> usize {
+    if reply.number != 0 {
+        return 0;
     }
-    wire::copy_part(&mut copy, 0, memory, PART * (i as usize), PART);
-    copy
+    2 + 8 * reply.count as usize + reply.bytes as usize
 }
 
-pub(crate) fn put_back(memory: &mut [u8; MEMORY], i: u8, copy: &[u8; PART]) {
-    if 7 < i {
-        return;
+// O
+fn write_record(
+    rt: &(impl AllocGlobal + Print),
+    line: &mut [u8],
+    state: &mut State,
+    size: u16,
+) -> Result<(), Stop> {
+    let mut out = vec![in rt.alloc(); script::UNTOUCHED; usize::from(size)]?;
+    let reply = state.write_record(&mut out);
+    let record = script::written(&out, record_len(reply))?;
+    let len = lines::records::written(line, reply, record);
+    tell_line(rt, line, len)
+}
+
+// V
+fn read_record(rt: &impl Print, line: &mut [u8], record: &[u8]) -> Result<(), Stop> {
+    let len = lines::records::read(line, record);
+    tell_line(rt, line, len)
+}
+
+// Runs an item, and prints its line after its letter.
+pub(crate) fn run(
+    rt: &(impl AllocGlobal + Print),
+    line: &mut [u8],
+    letter: u8,
+    item: Item<'_>,
+    state: &mut State,
+) -> Result<(), Stop> {
+    match item {
+        Item::Reset => tell_reply(rt, line, letter, state.reset()),
+        Item::Mark => tell_reply(rt, line, letter, state.mark()),
+        Item::Deliver(order) => tell_reply(rt, line, letter, state.deliver(order)),
+        Item::Undo(steps) => tell_reply(rt, line, letter, state.undo(steps)),
+        Item::Update { limit, orders } => tell_report(rt, line, state.update(limit, orders)),
+        Item::Look(target) => look(rt, line, letter, state, target),
+        Item::Lists => list(rt, line, letter, state),
+        Item::WriteRecord(size) => write_record(rt, line, state, size),
+        Item::ReadRecord(record) => read_record(rt, line, record),
+        Item::Dump => Ok(println!(rt; "Z {}", Dump(state))?),
+        Item::Lend(lengths) => {
+            state.set_lengths(lengths);
+            Ok(())
+        }
+        Item::Shorten { part, missing } => state.shorten(part, usize::from(missing)),
+        Item::Change { part, at, by } => state.change(part, at as usize, by),
     }
-    wire::copy_at(memory, PART * (i as usize), copy);
-}
-
-// Of a copy of part i what is lent.
-pub(crate) fn lent_of(copy: &mut [u8], i: u8, l: Lending) -> &mut [u8] {
-    let n = lending::within(copy.len(), i, l);
-    &mut copy[0..n]
-}
-
-// A checkpoint, lent what it does not lack of the parts of the store.
-fn lent_checkpoint(
-    index: &mut [u8],
-    bodies: &mut [u8],
-    journal: &mut [u8],
-    a: &mut [u8],
-    b: &mut [u8],
-    c: &mut [u8],
-    d: &mut [u8],
-    e: &mut [u8],
-    l: Lending,
-) -> Reply {
-    state_calls::checkpoint(
-        index,
-        bodies,
-        lent_of(a, STORE, l),
-        lent_of(b, STORE + 1, l),
-        lent_of(c, STORE + 2, l),
-        lent_of(d, STORE + 3, l),
-        lent_of(e, STORE + 4, l),
-        journal,
-    )
-}
-
-fn checkpoint(
-    index: &mut [u8],
-    bodies: &mut [u8],
-    journal: &mut [u8],
-    memory: &mut [u8; MEMORY],
-    l: Lending,
-) -> Reply {
-    let mut a = copy_of(memory, STORE);
-    let mut b = copy_of(memory, STORE + 1);
-    let mut c = copy_of(memory, STORE + 2);
-    let mut d = copy_of(memory, STORE + 3);
-    let mut e = copy_of(memory, STORE + 4);
-    let r = lent_checkpoint(
-        index, bodies, journal, &mut a, &mut b, &mut c, &mut d, &mut e, l,
-    );
-    put_back(memory, STORE, &a);
-    put_back(memory, STORE + 1, &b);
-    put_back(memory, STORE + 2, &c);
-    put_back(memory, STORE + 3, &d);
-    put_back(memory, STORE + 4, &e);
-    r
-}
-
-// E, M, on copies of the parts of the state memory.
-fn on_state(
-    index: &mut [u8],
-    bodies: &mut [u8],
-    journal: &mut [u8],
-    memory: &mut [u8; MEMORY],
-    kind: u8,
-    l: Lending,
-) -> Reply {
-    if kind == b'M' {
-        return checkpoint(index, bodies, journal, memory, l);
-    }
-    state_calls::reset(index, bodies, lending::places(memory, l), journal)
-}
-
-// E, M.
-pub(crate) fn state_call(memory: &mut [u8; MEMORY], kind: u8, l: Lending) -> Reply {
-    let mut index = copy_of(memory, INDEX);
-    let mut bodies = copy_of(memory, BODIES);
-    let mut journal = copy_of(memory, JOURNAL);
-    let r = on_state(
-        lent_of(&mut index, INDEX, l),
-        lent_of(&mut bodies, BODIES, l),
-        lent_of(&mut journal, JOURNAL, l),
-        memory,
-        kind,
-        l,
-    );
-    put_back(memory, INDEX, &index);
-    put_back(memory, BODIES, &bodies);
-    put_back(memory, JOURNAL, &journal);
-    r
-}
-
-// D, B, on a copy of the journal.
-fn on_journal(memory: &[u8; MEMORY], journal: &mut [u8], kind: u8, s: &[u8], l: Lending) -> Reply {
-    let lent = lending::places(memory, l);
-    let index = lending::part(memory, INDEX, l);
-    let bodies = lending::part(memory, BODIES, l);
-    if kind == b'B' {
-        return state_calls::undo(index, bodies, lent, journal, wire::read_u32(s, 0) as u64);
-    }
-    state_calls::deliver(index, bodies, lent, journal, s)
-}
-
-// E, M, D, B.
-pub(crate) fn call(memory: &mut [u8; MEMORY], kind: u8, s: &[u8], l: Lending) -> Reply {
-    if (kind == b'E') | (kind == b'M') {
-        return state_call(memory, kind, l);
-    }
-    let mut journal = copy_of(memory, JOURNAL);
-    let r = on_journal(memory, lent_of(&mut journal, JOURNAL, l), kind, s, l);
-    put_back(memory, JOURNAL, &journal);
-    r
 }

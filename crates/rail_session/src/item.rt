@@ -1,93 +1,180 @@
 // The items of a script: each is a kind (1 byte), a length (2) and a payload.
-ghost use Rattle.std.specs.Prelude.{◌≤◌, length, IfOk};
+use protocol::{NotifyIconId, WindowId};
+use replies::holders::holder_of;
+use script::Stop;
+use session::{LookupTarget, PictureHolder};
 
-use crate::{batch, holders};
-use std::io;
-use std::io::Read;
+// The most bytes that a part of the store may be lent with.
+const MOST: u32 = 65536;
 
-// The most bytes of a payload.
-pub(crate) const PAYLOAD: usize = 65535;
+// The bytes of a holder: its kind, and two numbers of 4.
+const HOLDER: usize = 9;
 
-// An item that was read: its kind and the length of its payload.
-#[derive(Drop)]
-pub(crate) struct Item {
-    pub whole: bool,
-    pub kind: u8,
-    pub len: usize,
+// The bytes of an update's limit, before its orders.
+const LIMIT: usize = 4;
+
+#[derive(Clone, Copy, Debug, PartialEq, Eq)]
+pub(crate) enum Kind {
+    Reset,
+    Mark,
+    Deliver,
+    Undo,
+    Update,
+    Window,
+    Notification,
+    Cell,
+    Desktop,
+    Shares,
+    Lists,
+    WriteRecord,
+    ReadRecord,
+    Dump,
+    Lend,
+    Shorten,
+    Change,
 }
 
-// The input is no script: the line that ends a run, and on standard error how the program is used.
-pub(crate) fn tell_bad(rt: &(impl Print + Eprint)) -> io::Result<()> {
-    println!(rt; "bad item")?;
-    eprintln!(rt;
-        "usage: rail_session < SCRIPT, a call script of state calls (docs/FORMATS.md); second session < SCRIPT tells which item is bad"
-    )
-}
+impl TryFrom<u8> for Kind {
+    type Error = Stop;
 
-fn no_item() -> Item
-    ensures { result.len ≤ 0 }
-{
-    Item {
-        whole: false,
-        kind: 0,
-        len: 0,
-    }
-}
-
-fn cut_item(rt: &(impl Print + Eprint)) -> io::Result<Item>
-    ensures { IfOk result (λ item. item.len ≤ 0) }
-{
-    tell_bad(rt)?;
-    Ok(no_item())
-}
-
-// Whether an item of a kind can have a payload of len bytes.
-fn is_listed(kind: u8, len: usize) -> bool {
-    match kind {
-        b'E' | b'M' | b'S' | b'I' | b'Z' => len == 0,
-        b'B' | b'W' => len == 4,
-        b'N' => len == 8,
-        b'C' | b'T' => len == 3,
-        b'X' => len == 6,
-        b'D' | b'V' => true,
-        b'U' => batch::is_listed(len),
-        b'O' => len == 2,
-        b'L' => len == 20,
-        b'H' => len == holders::TWO,
-        _ => false,
+    fn try_from(letter: u8) -> Result<Kind, Stop> {
+        match letter {
+            b'E' => Ok(Kind::Reset),
+            b'M' => Ok(Kind::Mark),
+            b'D' => Ok(Kind::Deliver),
+            b'B' => Ok(Kind::Undo),
+            b'U' => Ok(Kind::Update),
+            b'W' => Ok(Kind::Window),
+            b'N' => Ok(Kind::Notification),
+            b'C' => Ok(Kind::Cell),
+            b'S' => Ok(Kind::Desktop),
+            b'H' => Ok(Kind::Shares),
+            b'I' => Ok(Kind::Lists),
+            b'O' => Ok(Kind::WriteRecord),
+            b'V' => Ok(Kind::ReadRecord),
+            b'Z' => Ok(Kind::Dump),
+            b'L' => Ok(Kind::Lend),
+            b'T' => Ok(Kind::Shorten),
+            b'X' => Ok(Kind::Change),
+            _ => Err(Stop::BadItem),
+        }
     }
 }
 
-// Reads an item, and its payload into the payload's memory.
-pub(crate) fn read(
-    rt: &(impl Print + Eprint),
-    input: &mut impl Read,
-    payload: &mut [u8],
-) -> io::Result<Item>
-    ensures { IfOk result (λ item. item.len ≤ length payload.new) }
-{
-    let mut head = [0u8; 3];
-    let (got, ended) = input::fill(input, &mut head);
-    ended?;
-    if got == 0 {
-        return Ok(no_item());
+impl Kind {
+    // Whether an item of this kind can have a payload of so many bytes.
+    pub(crate) fn fits(self, len: u16) -> bool {
+        match self {
+            Kind::Reset | Kind::Mark | Kind::Desktop | Kind::Lists | Kind::Dump => len == 0,
+            Kind::WriteRecord => len == 2,
+            Kind::Cell | Kind::Shorten => len == 3,
+            Kind::Undo | Kind::Window => len == 4,
+            Kind::Change => len == 6,
+            Kind::Notification => len == 8,
+            Kind::Shares => len == 18,
+            Kind::Lend => len == 20,
+            Kind::Update => len >= 4,
+            Kind::Deliver | Kind::ReadRecord => true,
+        }
     }
-    let kind = wire::read_u8(&head, 0);
-    let len = wire::read_u16(&head, 1) as usize;
-    if (got < 3) | !is_listed(kind, len) {
-        return cut_item(rt);
+}
+
+#[derive(Clone, Copy)]
+pub(crate) enum Item<'a> {
+    // E, M, D, B: the calls that answer a reply alone.
+    Reset,
+    Mark,
+    Deliver(&'a [u8]),
+    Undo(u32),
+    // U: a whole update, up to a limit of orders.
+    Update { limit: u32, orders: &'a [u8] },
+    // W, N, C, S, H
+    Look(LookupTarget),
+    // I: the two lists of ids.
+    Lists,
+    // O: the session record, written to memory of this size.
+    WriteRecord(u16),
+    // V: a session record, read.
+    ReadRecord(&'a [u8]),
+    // Z: the memory, printed.
+    Dump,
+    // L: the lengths that the parts of the store are lent with.
+    Lend([u32; 5]),
+    // T: the next call lacks so many bytes of a part.
+    Shorten { part: u8, missing: u16 },
+    // X: a byte of a part changes.
+    Change { part: u8, at: u32, by: u8 },
+}
+
+fn window(s: &[u8]) -> WindowId {
+    WindowId {
+        id: wire::read_u32(s, 0),
     }
-    if len > payload.len() {
-        return cut_item(rt);
+}
+
+// The holder at the start of s. None where its kind is not listed, or the second number of a window is not 0.
+fn holder(s: &[u8]) -> Option<PictureHolder> {
+    let kind = wire::read_u8(s, 0);
+    let second = wire::read_u32(s, 5);
+    match (kind, second) {
+        (0 | 3, _) | (1 | 2 | 4, 0) => Some(holder_of(kind, wire::read_u32(s, 1), second)),
+        _ => None,
     }
-    let (got, ended) = input::fill(input, &mut payload[0..len]);
-    ended?;
-    if got < len {
-        return cut_item(rt);
+}
+
+// The lengths of the store's parts. None where one is more than a part has room for.
+fn lengths(s: &[u8]) -> Option<[u32; 5]> {
+    let lengths = [
+        wire::read_u32(s, 0),
+        wire::read_u32(s, 4),
+        wire::read_u32(s, 8),
+        wire::read_u32(s, 12),
+        wire::read_u32(s, 16),
+    ];
+    if lengths.iter().all(|len| *len <= MOST) {
+        Some(lengths)
+    } else {
+        None
     }
-    Ok(Item {
-        whole: true,
-        kind,
-        len,
-    })
+}
+
+impl<'a> Item<'a> {
+    // None where no script has it.
+    pub(crate) fn parse(kind: Kind, s: &'a [u8]) -> Option<Item<'a>> {
+        let item = match kind {
+            Kind::Reset => Item::Reset,
+            Kind::Mark => Item::Mark,
+            Kind::Deliver => Item::Deliver(s),
+            Kind::Undo => Item::Undo(wire::read_u32(s, 0)),
+            Kind::Update => Item::Update {
+                limit: wire::read_u32(s, 0),
+                orders: s.get(LIMIT..)?,
+            },
+            Kind::Window => Item::Look(LookupTarget::Window(window(s))),
+            Kind::Notification => {
+                let icon = NotifyIconId {
+                    id: wire::read_u32(s, 4),
+                };
+                Item::Look(LookupTarget::Notification(window(s), icon))
+            }
+            Kind::Cell => Item::Look(LookupTarget::Cell(wire::read_u8(s, 2), wire::read_u16(s, 0))),
+            Kind::Desktop => Item::Look(LookupTarget::Desktop),
+            Kind::Shares => Item::Look(LookupTarget::Shares(holder(s)?, holder(s.get(HOLDER..)?)?)),
+            Kind::Lists => Item::Lists,
+            Kind::WriteRecord => Item::WriteRecord(wire::read_u16(s, 0)),
+            Kind::ReadRecord => Item::ReadRecord(s),
+            Kind::Dump => Item::Dump,
+            Kind::Lend => Item::Lend(lengths(s)?),
+            Kind::Shorten => Item::Shorten {
+                part: wire::read_u8(s, 0),
+                missing: wire::read_u16(s, 1),
+            },
+            Kind::Change => Item::Change {
+                part: wire::read_u8(s, 0),
+                at: wire::read_u32(s, 1),
+                by: wire::read_u8(s, 5),
+            },
+        };
+        Some(item)
+    }
 }

@@ -1,43 +1,41 @@
 // Runs a call script of state calls through the library and prints what each call answers.
 #![tactic(auto)]
 
-mod batch;
 mod calls;
 mod dump;
-mod faults;
-mod holders;
 mod item;
-mod lending;
-mod look;
-mod records;
-mod turn;
+mod state;
 
+use item::{Item, Kind};
+use script::Stop;
+use state::State;
 use std::io;
-use std::io::Read;
 
-// A proved loop has to end, and nothing says that the input does: the items are counted up to a
-// number that no run reaches.
-fn run(
-    rt: &(impl Print + Eprint),
-    input: &mut impl Read,
-    memory: &mut [u8; lending::MEMORY],
-    payload: &mut [u8; item::PAYLOAD],
-    out: &mut [u8; dump::LINE],
-) -> io::Result<()> {
-    let mut l = lending::first();
-    calls::state_call(memory, b'E', l);
+const USAGE: &str =
+    "rail_session < SCRIPT, a call script of state calls (docs/FORMATS.md); second session < SCRIPT tells which item is bad";
+
+// A proved loop has to end, and nothing says that the input does: the items are counted up to a number that no run reaches.
+fn run(rt: &(impl AllocGlobal + Input + Print)) -> Result<(), Stop> {
+    let mut state = State::new(rt.alloc())?;
+    let mut line = vec![in rt.alloc(); 0u8; calls::LINE]?;
+    let mut input = rt.reader();
     for _ in 0..u64::MAX {
-        let Some(next) = turn::next(rt, input, memory, payload, out, l)? else {
+        let Some(head) = script::head::<3, _>(&mut input)? else {
             break;
         };
-        l = next;
+        let [letter, low, high] = head;
+        let kind = Kind::try_from(letter)?;
+        let len = u16::from_le_bytes([low, high]);
+        if !kind.fits(len) {
+            return Err(Stop::BadItem);
+        }
+        let payload = script::payload(rt.alloc(), &mut input, len)?;
+        let item = Item::parse(kind, payload.as_slice()).ok_or(Stop::BadItem)?;
+        calls::run(rt, &mut line, letter, item, &mut state)?;
     }
     Ok(())
 }
 
 fn main(rt: HostRuntime) -> io::Result<()> {
-    let mut memory = [0xEEu8; lending::MEMORY];
-    let mut payload = [0u8; item::PAYLOAD];
-    let mut out = [0u8; dump::LINE];
-    run(&rt, &mut rt.reader(), &mut memory, &mut payload, &mut out)
+    script::end(&rt, run(&rt), USAGE)
 }
