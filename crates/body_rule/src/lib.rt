@@ -16,14 +16,11 @@ fn rows_ok(slot: &[u8], low: usize, high: usize) -> bool
     let ws = rows::WIDTHS;
     let ks = rows::KINDS;
     let mut off = 2;
-    let mut k = low;
-    while k < high {
+    for k in low..high {
         if !rows::in_set(slot, off, fs[k], ws[k], ks[k]) {
             return false;
         }
-        let n = rows::room(fs[k], ws[k], ks[k]);
-        off += n;
-        k += 1;
+        off += rows::room(fs[k], ws[k], ks[k]);
     }
     true
 }

@@ -135,14 +135,12 @@ fn store_rows(slot: &mut [u8], s: &[u8], at: usize, flags: u32, low: usize, high
     let ks = rows::KINDS;
     let mut p = at;
     let mut off = 2; // past the two marks
-    let mut k = low;
-    while k < high {
+    for k in low..high {
         let n = rows::carried(s, p, flags, fs[k], ws[k], ks[k]);
         wire::copy_part(slot, off, s, p, n);
         let m = rows::room(fs[k], ws[k], ks[k]);
         p += n;
         off += m;
-        k += 1;
     }
 }
 
