@@ -303,14 +303,20 @@ fn step_judged(index: &mut [u8], s: &[u8], near: usize, held: u8, full: bool) ->
     requires { (sound_index index.old ≡ true) × HeldBelow index.old held }
     ensures { StepOutcome full index.old (plan_of index.old s.now) result index.new }
 {
-    match order_judge::judge(s) {
-        Ok(Order::Window(o)) => record(index, s, index_plan::of_window(o), near, held, full),
-        Ok(Order::Notification(o)) => {
-            record(index, s, index_plan::of_notification(o), near, held, full)
+    let order = match order_judge::judge(s) {
+        Ok(order) => order,
+        Err(fault) => {
+            return no_slot(u8::from(fault.refusal));
         }
-        Ok(Order::Desktop(o)) => desktop(index, o.flags, full),
-        Err(fault) => no_slot(u8::from(fault.refusal)),
-    }
+    };
+    let o = match order {
+        Order::Window(o) => index_plan::of_window(o),
+        Order::Notification(o) => index_plan::of_notification(o),
+        Order::Desktop(o) => {
+            return desktop(index, o.flags, full);
+        }
+    };
+    record(index, s, o, near, held, full)
 }
 
 // Judges an order on the index and, unless it is refused or the history is full (12, the last of the numbers), carries it
