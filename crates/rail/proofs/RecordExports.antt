@@ -44,20 +44,20 @@ module _ (r : List ℕ) where
 -- ---- where a body lies
 
 module _ (r : List ℕ) (i : ℕ) where
-  at_offset : {p : Option Entry} → place_of r i ≡ p → slice r (unwrap_or p (entry 0 0)).offset (unwrap_or p (entry 0 0)).size ≡ get_or (bodies_of r) i []
+  at_offset : (p : Option Entry) → place_of r i ≡ p → slice r (unwrap_or p (entry 0 0)).offset (unwrap_or p (entry 0 0)).size ≡ get_or (bodies_of r) i []
   unfolding PlacesBodies slice
-  at_offset {Some e} is = (rw is at (place_body r i))
-  at_offset {None} is = sym (get_or-eq_default (bodies_of r) [] (rw is at (place_body r i)))
+  at_offset (Some e) is = (rw is at (place_body r i))
+  at_offset None is = sym (get_or-eq_default (bodies_of r) [] (rw is at (place_body r i)))
 
   pub place_low : {e : Entry} → Some e ≡ place_of r i → e.offset + e.size ≤ 33794
   place_low is = place_fits r i is
 
   pub body_none : None ≡ place_of r i → BodyExport r i 0
-  body_none is = record { answer = rw (← is); offset = rw (← is); size = rw (← is); body = at_offset (sym is) }
+  body_none is = record { answer = rw (← is); offset = rw (← is); size = rw (← is); body = at_offset None (sym is) }
 
   pub body_export : {e : Entry} → Some e ≡ place_of r i → {n : ℕ} → n ≡ e.offset + 65536 * e.size → BodyExport r i n
   body_export {e} is {n} p =
       let low = place_low is in
       let x : n % 65536 ≡ e.offset = omega (arith, p, low) in
       let y : n / 65536 ≡ e.size = omega (arith, p, low) in
-      record { answer = rw (← is) p; offset = rw (← is) x; size = rw (← is) y; body = ap₂ (slice r) x y ∙ at_offset (sym is) }
+      record { answer = rw (← is) p; offset = rw (← is) x; size = rw (← is) y; body = ap₂ (slice r) x y ∙ at_offset (Some e) (sym is) }
