@@ -1,10 +1,10 @@
 -- What is told of a session record at the C boundary fits its places. Assumes nothing.
-use mathlib.Core.Path.{◌≡◌, refl, sym, ap, ap₂, ◌∙◌}
-use mathlib.Core.List.{List, [], ◌∷◌}
+use mathlib.Core.Path.{◌≡◌, sym, ap, ap₂, ◌∙◌}
+use mathlib.Core.List.{List, []}
 use Prim.Native.Nat.{ℕ, ◌+◌, ◌*◌, ◌/◌, ◌%◌, ◌≤◌}
 use native.Mathlib.Omega.{arith}
-use lib.ListN.{length, get_or, get_or-eq_default}
-use Rattle.std.specs.Prelude.{Option, Some, None, unwrap_or, MatchOption, Ok, Err}
+use lib.ListN.{get_or, get_or-eq_default}
+use Rattle.std.specs.Prelude.{Option, Some, None, unwrap_or, Ok, Err}
 use Rattle.wire.specs.Parts.{slice}
 use Rattle.protocol.specs.declared.Refusal.{Refusal}
 use Rattle.protocol.specs.Refusals.{number_of, says}
@@ -17,7 +17,7 @@ use Rattle.record.proofs.Handing.{told, told_granted, told_refused, told_small, 
 use Rattle.session.specs.declared.Reply.{Reply}
 use Rattle.session.specs.Packed.{packed_of, Unpacks}
 use Rattle.session.proofs.Unpacks.{unpacks}
-use Rattle.rail.specs.RecordExports.{record_reply, CheckExport, packed_place, entry_of, BodyExport}
+use Rattle.rail.specs.RecordExports.{record_reply, CheckExport, BodyExport}
 use Rattle.journal.specs.State.{bytes_in}
 use Rattle.journal.specs.Limits.{most_orders, most_bytes}
 
@@ -46,7 +46,7 @@ module _ (r : List ℕ) where
 module _ (r : List ℕ) (i : ℕ) where
   at_offset : (p : Option Entry) → place_of r i ≡ p → slice r (unwrap_or p (entry 0 0)).offset (unwrap_or p (entry 0 0)).size ≡ get_or (bodies_of r) i []
   unfolding PlacesBodies slice
-  at_offset (Some e) is = (rw is at (place_body r i))
+  at_offset (Some e) is = rw is at (place_body r i)
   at_offset None is = sym (get_or-eq_default (bodies_of r) [] (rw is at (place_body r i)))
 
   pub place_low : {e : Entry} → Some e ≡ place_of r i → e.offset + e.size ≤ 33794

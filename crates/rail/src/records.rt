@@ -33,18 +33,23 @@ pub extern "C" fn rail_record_write(
 pub extern "C" fn rail_record_check(bytes: &[u8]) -> u32
     ensures { CheckExport bytes.now result }
 {
-    match record::inspect(bytes) {
-        Ok(contents) => packed(Reply {
-            number: 0,
-            count: contents.count as u32,
-            bytes: contents.bytes as u32,
-        }),
-        Err(refusal) => packed(Reply {
-            number: refusal.into(),
-            count: 0,
-            bytes: 0,
-        }),
-    }
+    let contents = match record::inspect(bytes) {
+        Ok(contents) => contents,
+        Err(refusal) => {
+            return packed(Reply {
+                number: u8::from(refusal),
+                count: 0,
+                bytes: 0,
+            });
+        }
+    };
+    let count = contents.count as u32;
+    let size = contents.bytes as u32;
+    packed(Reply {
+        number: 0,
+        count,
+        bytes: size,
+    })
 }
 
 // Where the body of that index lies in a record that passes the check: its offset, and 65,536 times its size. 0 where there is none.

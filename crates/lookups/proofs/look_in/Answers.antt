@@ -1,5 +1,5 @@
 -- 1 where the rule is not met, 9 or 14 where the index and the output say so; else what m holds.
-use Rattle.std.proofs.Common.{ℕ, ◌∙◌, ◌≡◌, List, ap, arith, refl, replicate, sym}
+use Rattle.std.proofs.Common.{Some, None, ℕ, ◌∙◌, ◌≡◌, List, ap, arith, refl, replicate, sym}
 use Rattle.wire.specs.Numbers.{Bytes}
 use Rattle.slots.specs.Families.{index_length}
 use Rattle.store.specs.Store.{five}
@@ -33,7 +33,7 @@ returns-then-number-ne0 c =
     let mem : Memory = memory c.args.index.now c.args.bodies.now (parts) c.args.journal.now in
     let index : List ℕ = c.validate.new.d in
     let held : List ℕ = c.validate.new.m in
-    let validation : Validation (want_of c.args.target) (mem) (replicate index_length 0) c.args.m.now c.in-Some.w (index) (held) = validated_as c.requires.0 (c.in-Some.ensures (parts) (sym c.places-lent.ensures)) in
+    let validation : Validation (want_of c.args.target) (mem) (replicate index_length 0) c.args.m.now (Some c.in-Some.w) (index) (held) = validated_as c.requires.0 (c.in-Some.ensures (parts) (sym c.places-lent.ensures)) in
     let index_in_lem : Indexed (mem) c.in-Some.w (index) (log_of c.args.journal.now) = (indexed (validation)) in
     let held_in : Followed (want_of c.args.target) (mem) (index) (log_of c.args.journal.now) (held) = (followed (validation)) in
     look_refused (index_in_lem) c.args.target c.args.out.now (held_in) c.refusal-number.ensures c.if-number-ne0.true c.refused-then-number-ne0.ensures
@@ -44,7 +44,7 @@ figure_for-f-requires c =
     let mem : Memory = memory c.args.index.now c.args.bodies.now (parts) c.args.journal.now in
     let index : List ℕ = c.validate.new.d in
     let held : List ℕ = c.validate.new.m in
-    let validation : Validation (want_of c.args.target) (mem) (replicate index_length 0) c.args.m.now c.in-Some.w (index) (held) = validated_as c.requires.0 (c.in-Some.ensures (parts) (sym c.places-lent.ensures)) in
+    let validation : Validation (want_of c.args.target) (mem) (replicate index_length 0) c.args.m.now (Some c.in-Some.w) (index) (held) = validated_as c.requires.0 (c.in-Some.ensures (parts) (sym c.places-lent.ensures)) in
     followable (validation)
 
 pub hand_out-requires : goal.hand_out-requires
@@ -53,7 +53,7 @@ hand_out-requires c =
     let mem : Memory = memory c.args.index.now c.args.bodies.now (parts) c.args.journal.now in
     let index : List ℕ = c.validate.new.d in
     let held : List ℕ = c.validate.new.m in
-    let validation : Validation (want_of c.args.target) (mem) (replicate index_length 0) c.args.m.now c.in-Some.w (index) (held) = validated_as c.requires.0 (c.in-Some.ensures (parts) (sym c.places-lent.ensures)) in
+    let validation : Validation (want_of c.args.target) (mem) (replicate index_length 0) c.args.m.now (Some c.in-Some.w) (index) (held) = validated_as c.requires.0 (c.in-Some.ensures (parts) (sym c.places-lent.ensures)) in
     let index_in_lem : Indexed (mem) c.in-Some.w (index) (log_of c.args.journal.now) = (indexed (validation)) in
     let held_in : Followed (want_of c.args.target) (mem) (index) (log_of c.args.journal.now) (held) = (followed (validation)) in
     look_hands (index_in_lem) c.args.target c.args.out.now (held_in) c.refusal-number.ensures c.if-number-ne0.false (c.validate.auto.m ∙ c.requires.1 ∙ ap room_for c.requires.0)
@@ -64,7 +64,7 @@ granted-requires c =
     let mem : Memory = memory c.args.index.now c.args.bodies.now (parts) c.args.journal.now in
     let index : List ℕ = c.validate.new.d in
     let held : List ℕ = c.validate.new.m in
-    let validation : Validation (want_of c.args.target) (mem) (replicate index_length 0) c.args.m.now c.in-Some.w (index) (held) = validated_as c.requires.0 (c.in-Some.ensures (parts) (sym c.places-lent.ensures)) in
+    let validation : Validation (want_of c.args.target) (mem) (replicate index_length 0) c.args.m.now (Some c.in-Some.w) (index) (held) = validated_as c.requires.0 (c.in-Some.ensures (parts) (sym c.places-lent.ensures)) in
     let index_in_lem : Indexed (mem) c.in-Some.w (index) (log_of c.args.journal.now) = (indexed (validation)) in
     let g = (index_in_lem).logged in
     (g.few, logged_low g, logged_high g)
@@ -75,7 +75,7 @@ returns c =
     let mem : Memory = memory c.args.index.now c.args.bodies.now (parts) c.args.journal.now in
     let index : List ℕ = c.validate.new.d in
     let held : List ℕ = c.validate.new.m in
-    let validation : Validation (want_of c.args.target) (mem) (replicate index_length 0) c.args.m.now c.in-Some.w (index) (held) = validated_as c.requires.0 (c.in-Some.ensures (parts) (sym c.places-lent.ensures)) in
+    let validation : Validation (want_of c.args.target) (mem) (replicate index_length 0) c.args.m.now (Some c.in-Some.w) (index) (held) = validated_as c.requires.0 (c.in-Some.ensures (parts) (sym c.places-lent.ensures)) in
     let index_in_lem : Indexed (mem) c.in-Some.w (index) (log_of c.args.journal.now) = (indexed (validation)) in
     let held_in : Followed (want_of c.args.target) (mem) (index) (log_of c.args.journal.now) (held) = (followed (validation)) in
     let journal_bytes : Bytes c.args.journal.now = record { small = λ i. omega (arith, c.shared_slice_known-8-1.given i) } in
