@@ -9,7 +9,7 @@ use Rattle.wire.specs.Numbers.{num_at, nums_at}
 use Rattle.pdu.specs.Layout.{known, widths}
 use Rattle.pdu.specs.Records.{record_of, size_of}
 use Rattle.pdu.specs.Rules.{allowed}
-use Rattle.pdu.specs.Reading.{record_as, body_number, read_number, answer_as, read_of}
+use Rattle.pdu.specs.Reading.{record_as, body_of, read_of}
 use Rattle.rows.specs.declared.Row.{Row}
 use Rattle.rows.specs.Rows.{first_of, len_of, ok_of, cut_of, field_of, step_of, walk_of}
 use Rattle.order.specs.Icons.{picture_fit}
@@ -71,7 +71,7 @@ none_shown t e =
     gone f id = ap (λ (l : Bool). of_window f (pick l (some (unmarked (t.fields family.Windows id 0))) none)) (e id)
 
 none_listed : (id : ℕ) → (table_of (book_next (deliver desktop_none_order) (new_book places))).index.listed family.Windows id 0 ≡ false
-unfolding read_of read_number body_number answer_as record_as record_of known widths nums_at num_at size_of allowed first_of len_of ok_of cut_of field_of step_of walk_of picture_fit flags_of order_of fields_fit judge_of slice drop cells_only count_below index.record_number index.not_there index.no_room index.no_picture index.no_place index.number_in index.pictured index.change_record index.change_desktop index.empty_index empty_fields empty_body emptied number record_fields fields_after shown_after change_record desktop_after change_desktop after makes table_of bytes_of book_next book_answer book_answers book_after
+unfolding read_of body_of record_as record_of known widths nums_at num_at size_of allowed first_of len_of ok_of cut_of field_of step_of walk_of picture_fit flags_of order_of fields_fit judge_of slice drop cells_only count_below index.record_number index.not_there index.no_room index.no_picture index.no_place index.number_in index.pictured index.change_record index.change_desktop index.empty_index empty_fields empty_body emptied number record_fields fields_after shown_after change_record desktop_after change_desktop after makes table_of bytes_of book_next book_answer book_answers book_after
 none_listed id = refl
 
 figure_none : figure_in (table_of (book_next (deliver desktop_none_order) (new_book places))) ≡ nothing_shown_of
@@ -80,5 +80,5 @@ figure_none = none_shown (table_of (book_next (deliver desktop_none_order) (new_
 -- ---- the table
 
 pub cases_hold : CasesHold
-unfolding CasesHold read_of read_number body_number answer_as record_as record_of known widths nums_at num_at size_of allowed first_of len_of ok_of cut_of field_of step_of walk_of picture_fit flags_of order_of fields_fit judge_of slice drop cells_only count_below index.record_number index.not_there index.no_room index.no_picture index.no_place index.number_in index.pictured index.change_record index.change_desktop index.empty_index empty_fields empty_body emptied number record_fields fields_after shown_after change_record desktop_after change_desktop after makes table_of bytes_of book_next book_answer book_answers book_after
+unfolding CasesHold read_of body_of record_as record_of known widths nums_at num_at size_of allowed first_of len_of ok_of cut_of field_of step_of walk_of picture_fit flags_of order_of fields_fit judge_of slice drop cells_only count_below index.record_number index.not_there index.no_room index.no_picture index.no_place index.number_in index.pictured index.change_record index.change_desktop index.empty_index empty_fields empty_body emptied number record_fields fields_after shown_after change_record desktop_after change_desktop after makes table_of bytes_of book_next book_answer book_answers book_after
 cases_hold = rw (← window_a_lem, ← figure_none)

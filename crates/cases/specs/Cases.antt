@@ -1,9 +1,10 @@
 -- Document 01's cases marked (T), "Edges, with bytes": one table and the claim over it. Assumes nothing.
-use Rattle.std.specs.Prelude.{ℕ, ◌≡◌, true, false, List, [], ◌∷◌, map, Ok}
+use Rattle.std.specs.Prelude.{ℕ, ◌≡◌, true, false, List, [], ◌∷◌, map, Result, Ok, Err}
 use Rattle.std.proofs.Math.Option.{none}
 use Rattle.wire.specs.Tests.{pick}
-use Rattle.pdu.specs.declared.Read.{Read}
-use Rattle.pdu.specs.declared.Read.TheVariants.{Message, Refused}
+use Rattle.protocol.specs.declared.Refusal.{Refusal}
+use Rattle.protocol.specs.declared.Refusal.TheVariants.{TooShort, LengthDiffers, OutsideSet}
+use Rattle.pdu.specs.declared.Pdu.{Pdu}
 use Rattle.pdu.specs.declared.Pdu.TheVariants.{Handshake}
 use Rattle.pdu.specs.Reading.{read_of}
 use Rattle.order.specs.declared.Order.TheVariants.{Window, Desktop}
@@ -30,7 +31,7 @@ pub data Question : Type 0 where
   end_of : List Call → Question
 
 pub data Answer : Type 0 where
-  read_as : Read → Answer
+  read_as : Result Pdu Refusal → Answer
   judged_as : Judged → Answer
   book_says : List S.Answer → Answer
   left : Book → Table → Answer
@@ -137,13 +138,13 @@ cases =
     -- 1: handshake, build 7601
     record {
       question = read_pdu (0x05 ∷ 0x00 ∷ 0x08 ∷ 0x00 ∷ 0xB1 ∷ 0x1D ∷ 0x00 ∷ 0x00 ∷ []);
-      answer = read_as (Message (Handshake (record { build_number = 7601 })));
+      answer = read_as (Ok (Handshake (record { build_number = 7601 })));
     }
     -- 2: the same cut to 7 bytes, and no bytes
-    ∷ record { question = read_pdu (0x05 ∷ 0x00 ∷ 0x08 ∷ 0x00 ∷ 0xB1 ∷ 0x1D ∷ 0x00 ∷ []); answer = read_as (Refused 3) }
-    ∷ record { question = read_pdu []; answer = read_as (Refused 2) }
+    ∷ record { question = read_pdu (0x05 ∷ 0x00 ∷ 0x08 ∷ 0x00 ∷ 0xB1 ∷ 0x1D ∷ 0x00 ∷ []); answer = read_as (Err LengthDiffers) }
+    ∷ record { question = read_pdu []; answer = read_as (Err TooShort) }
     -- 3: Enabled is 2
-    ∷ record { question = read_pdu (0x02 ∷ 0x00 ∷ 0x09 ∷ 0x00 ∷ 0x58 ∷ 0x00 ∷ 0x01 ∷ 0x00 ∷ 0x02 ∷ []); answer = read_as (Refused 8) }
+    ∷ record { question = read_pdu (0x02 ∷ 0x00 ∷ 0x09 ∷ 0x00 ∷ 0x58 ∷ 0x00 ∷ 0x01 ∷ 0x00 ∷ 0x02 ∷ []); answer = read_as (Err OutsideSet) }
     -- 4: a new window with the title "A"
     ∷ record {
       question = judge_order (0x2E ∷ 0x0F ∷ 0x00 ∷ 0x04 ∷ 0x00 ∷ 0x00 ∷ 0x11 ∷ 0x58 ∷ 0x00 ∷ 0x01 ∷ 0x00 ∷ 0x02 ∷ 0x00 ∷ 0x41 ∷ 0x00 ∷ []);

@@ -1,5 +1,7 @@
--- Request No. 4 of document 02: one chunk of a control message, joined to what is begun. Assumes nothing.
+-- One chunk of a control message, joined to what is begun. Assumes nothing.
 use Rattle.std.specs.Prelude.{ℕ, Bool, true, false, not, List, [], ◌∷◌, ◌++◌, length, drop, eqb, ltb}
+use Rattle.protocol.specs.declared.Refusal.{Refusal}
+use Rattle.protocol.specs.declared.Refusal.TheVariants.{ChunkTooShort, BadChunk}
 use Rattle.wire.specs.Tests.{pick, both, any, has}
 use Rattle.wire.specs.Numbers.{num_at}
 
@@ -8,11 +10,11 @@ pub data State : Type 0 where
   nothing : State
   begun : ℕ → List ℕ → State
 
--- what a chunk gives: more is awaited after so many bytes; a whole message, its bytes; the number of a refusal
+-- what a chunk gives: more is awaited after so many bytes; a whole message, its bytes; a refusal
 pub data Answer : Type 0 where
   awaited : ℕ → Answer
   message : List ℕ → Answer
-  refused : ℕ → Answer
+  refused : Refusal → Answer
 
 pub record Step : Type 0 where
   pub answer : Answer
@@ -97,8 +99,8 @@ refuses16 state chunk =
 
 unfoldable pub chunk_step : State → List ℕ → Step
 chunk_step state chunk =
-    pick (refuses15 chunk) (record { answer = refused 15; state = state })
-    (pick (refuses16 state chunk) (record { answer = refused 16; state = nothing })
+    pick (refuses15 chunk) (record { answer = refused ChunkTooShort; state = state })
+    (pick (refuses16 state chunk) (record { answer = refused BadChunk; state = nothing })
     (pick (is_last chunk)
     (record { answer = message (assembled state chunk); state = nothing })
     (record { answer = awaited (length (assembled state chunk)); state = begun (total_in chunk) (assembled state chunk) })))

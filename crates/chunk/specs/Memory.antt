@@ -1,6 +1,7 @@
 -- The lent memory that keeps what is begun: 17,052 bytes for a message, then its total length and how many of its bytes have come,
 -- 4 bytes each. A total of 0 says that nothing is begun. Assumes nothing.
 use Rattle.std.specs.Prelude.{ℕ, ◌+◌, ◌-◌, Bool, not, List, [], ◌∷◌, length, take, eqb, leb, ltb}
+use Rattle.protocol.specs.declared.Refusal.TheVariants.{UnfitMemory}
 use Rattle.wire.specs.Tests.{pick, both, any}
 use Rattle.wire.specs.Parts.{slice, splice}
 use Rattle.wire.specs.Numbers.{num_at, bytes_of}
@@ -41,8 +42,8 @@ view_of mem = pick (ltb (length mem) memory_size) too_short (pick (well_formed m
 
 -- 1 comes first: memory that is shorter than needed, or not well formed
 unfoldable pub answer_on : View → List ℕ → Answer
-answer_on too_short chunk = refused 1
-answer_on unformed chunk = refused 1
+answer_on too_short chunk = refused UnfitMemory
+answer_on unformed chunk = refused UnfitMemory
 answer_on (formed state) chunk = (chunk_step state chunk).answer
 
 unfoldable pub view_after : View → List ℕ → View

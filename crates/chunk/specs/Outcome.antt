@@ -1,7 +1,8 @@
 -- The contracts of the calls on the lent memory. Assumes nothing.
-use Rattle.std.specs.Prelude.{ℕ, List, ◌≡◌, length, take, drop, eqb, ltb}
+use Rattle.std.specs.Prelude.{ℕ, List, ◌≡◌, length, take, drop, eqb, ltb, Result, Ok, Err}
 use Rattle.wire.specs.Tests.{pick}
-use Rattle.pdu.specs.Answers.{read_says}
+use Rattle.protocol.specs.declared.Refusal.{Refusal}
+use Rattle.protocol.specs.Refusals.{number_of, refused_by}
 use Rattle.pdu.specs.Reading.{read_number, read_of}
 use Rattle.chunk.specs.Chunk.{State, nothing, Answer, awaited, message, refused, is_last, assembled, refuses15, refuses16}
 use Rattle.chunk.specs.Memory.{memory_size, View, too_short, unformed, formed, view_of, answer_on, view_after, emptied}
@@ -12,28 +13,23 @@ use Rattle.chunk.specs.declared.Taken.TheVariants as T
 
 -- ---- the answers, as the calls give them
 
-unfoldable pub joined_as : Answer → Joined
-joined_as (awaited got) = J.More got
-joined_as (message bytes) = J.Whole (length bytes)
-joined_as (refused n) = J.Refused n
+unfoldable pub joined_as : Answer → Result Joined Refusal
+joined_as (awaited got) = Ok (J.More got)
+joined_as (message bytes) = Ok (J.Whole (length bytes))
+joined_as (refused e) = Err e
 
--- a message is read as document 01 has it
-unfoldable pub taken_as : Answer → Taken
-taken_as (awaited got) = T.More got
-taken_as (message bytes) = T.Whole (length bytes) (read_of bytes)
-taken_as (refused n) = T.Refused n
+-- a message is read by the plain rules
+unfoldable pub taken_as : Answer → Result Taken Refusal
+taken_as (awaited got) = Ok (T.More got)
+taken_as (message bytes) = Ok (T.Whole (length bytes) (read_of bytes))
+taken_as (refused e) = Err e
 
 -- ---- their numbers; a message, read or refused, has its own
 
-unfoldable pub joined_number : Joined → ℕ
-joined_number (J.More got) = 0
-joined_number (J.Whole len) = 0
-joined_number (J.Refused n) = n
-
-unfoldable pub taken_number : Taken → ℕ
-taken_number (T.More got) = 0
-taken_number (T.Whole len read) = (read_says read).number
-taken_number (T.Refused n) = n
+unfoldable pub taken_number : Result Taken Refusal → ℕ
+taken_number (Ok (T.More got)) = 0
+taken_number (Ok (T.Whole len read)) = refused_by read
+taken_number (Err e) = number_of e
 
 -- the first number that applies: 1, then 15, then 16, then what the whole message meets
 unfoldable pub first_number : State → List ℕ → ℕ → ℕ
@@ -55,7 +51,7 @@ take_number (formed state) chunk = first_number state chunk (read_number (assemb
 unfoldable pub Held : Answer → List ℕ → List ℕ → Type 0
 Held (awaited got) mem mem' = Unit {0}
 Held (message bytes) mem mem' = take (length bytes) mem' ≡ bytes
-Held (refused n) mem mem' = mem' ≡ pick (eqb n 16) (emptied mem) mem
+Held (refused e) mem mem' = mem' ≡ pick (eqb (number_of e) 16) (emptied mem) mem
 
 -- a call with a chunk whose answer is told as f has it: the answer, what the memory then describes, the bytes past the measure
 pub record Served {A : Type 0} (f : Answer → A) (mem chunk : List ℕ) (r : A) (mem' : List ℕ) : Type 0 where
@@ -67,11 +63,11 @@ pub record Served {A : Type 0} (f : Answer → A) (mem chunk : List ℕ) (r : A)
 
 -- ---- the calls
 
-pub record JoinOutcome (mem chunk : List ℕ) (r : Joined) (mem' : List ℕ) : Type 0 where
+pub record JoinOutcome (mem chunk : List ℕ) (r : Result Joined Refusal) (mem' : List ℕ) : Type 0 where
   pub served : Served joined_as mem chunk r mem'
-  pub number : joined_number r ≡ join_number (view_of mem) chunk
+  pub number : refused_by r ≡ join_number (view_of mem) chunk
 
-pub record TakeOutcome (mem chunk : List ℕ) (r : Taken) (mem' : List ℕ) : Type 0 where
+pub record TakeOutcome (mem chunk : List ℕ) (r : Result Taken Refusal) (mem' : List ℕ) : Type 0 where
   pub served : Served taken_as mem chunk r mem'
   pub number : taken_number r ≡ take_number (view_of mem) chunk
 

@@ -3,25 +3,23 @@
 // of 0 says that nothing is begun. Definitions and proofs only.
 #![tactic(auto)]
 
-use pdu::Read;
+use pdu::Pdu;
+use protocol::Refusal;
 
 // How much memory is lent.
 pub const MEMORY: usize = 17060;
 
-// What joining a chunk gives: more is awaited after so many bytes; a whole message of so many bytes,
-// which stand at the start of the lent memory until the next call; or the number of a refusal.
-#[derive(Clone, Copy)]
+// What joining a chunk gives: more is awaited after so many bytes; or a whole message of so many
+// bytes, which stand at the start of the lent memory until the next call.
+#[derive(Clone, Copy, Debug, PartialEq, Eq)]
 pub enum Joined {
     More(u32),
     Whole(u32),
-    Refused(u8),
 }
 
-// What a chunk answers: the same, a whole message with what reading it gives. Its strings are places
-// in the lent memory.
-#[derive(Clone, Copy)]
+// The same, a whole message with what reading it gives. Its strings are places in the lent memory.
+#[derive(Clone, Copy, Debug, PartialEq, Eq)]
 pub enum Taken {
     More(u32),
-    Whole(u32, Read),
-    Refused(u8),
+    Whole(u32, Result<Pdu, Refusal>),
 }

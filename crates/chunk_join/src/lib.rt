@@ -3,11 +3,13 @@
 
 ghost use Rattle.std.specs.Prelude.{◌≡◌, ◌≤◌, length, eqb, ltb};
 ghost use Rattle.wire.specs.Tests.{either, has};
+ghost use Rattle.protocol.specs.Refusals.{refused_by};
 ghost use Rattle.chunk.specs.Chunk.{most, head_size, flag_first, flag_last, compressed};
 ghost use Rattle.chunk.specs.Memory.{memory_size, fit, start_at, refuses_at, noted};
 ghost use Rattle.chunk.specs.Outcome.{JoinOutcome, ResetOutcome};
 
 use chunk::{Joined, MEMORY};
+use protocol::Refusal;
 
 // The longest message.
 const MOST: u32 = 17052;
@@ -78,7 +80,7 @@ fn is_outside(total: u32) -> bool
     (total == 0) | (MOST < total)
 }
 
-// Refusal 16: of a message in one chunk by the fewest tests, then of another first chunk, then of a
+// A bad chunk: of a message in one chunk by the fewest tests, then of another first chunk, then of a
 // later one. A later one with nothing begun is among those refused: its total is 0 or differs from the
 // 0 that is noted.
 fn refuses(memory: &[u8], chunk: &[u8]) -> bool
@@ -113,30 +115,31 @@ fn note(memory: &mut [u8], total: u32, got: u32)
     wire::write_u32(memory, GOT_AT, got);
 }
 
-// Empties the memory: nothing is begun. 1 where it is too short, else 0.
-pub fn reset(memory: &mut [u8]) -> u8
-    ensures { ResetOutcome memory.old result memory.new }
+// Empties the memory, unless it is too short: nothing is begun.
+pub fn reset(memory: &mut [u8]) -> Result<(), Refusal>
+    ensures { ResetOutcome memory.old (refused_by result) memory.new }
 {
     if memory.len() < MEMORY {
-        return 1;
+        Err(Refusal::UnfitMemory)
+    } else {
+        note(memory, 0, 0);
+        Ok(())
     }
-    note(memory, 0, 0);
-    0
 }
 
 // Joins a chunk to what is begun. The message is not read.
-pub fn join(memory: &mut [u8], chunk: &[u8]) -> Joined
+pub fn join(memory: &mut [u8], chunk: &[u8]) -> Result<Joined, Refusal>
     ensures { JoinOutcome memory.old chunk.now result memory.new }
 {
     if !is_fit(memory) {
-        return Joined::Refused(1);
+        return Err(Refusal::UnfitMemory);
     }
     if chunk.len() < HEAD {
-        return Joined::Refused(15);
+        return Err(Refusal::ChunkTooShort);
     }
     if refuses(memory, chunk) {
         note(memory, 0, 0);
-        return Joined::Refused(16);
+        return Err(Refusal::BadChunk);
     }
     let total = wire::read_u32(chunk, 0);
     let from = start(memory, chunk);
@@ -145,9 +148,9 @@ pub fn join(memory: &mut [u8], chunk: &[u8]) -> Joined
     wire::copy_part(memory, from as usize, chunk, HEAD, len);
     if last {
         note(memory, 0, 0);
-        return Joined::Whole(total);
+        return Ok(Joined::Whole(total));
     }
     let got = from + len as u32;
     note(memory, total, got);
-    Joined::More(got)
+    Ok(Joined::More(got))
 }

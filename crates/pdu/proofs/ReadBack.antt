@@ -20,13 +20,13 @@ use Rattle.pdu.specs.declared.Pdu.TheVariants.{Execute, Activate, SystemCommand,
 use Rattle.pdu.specs.declared.Span.{Span}
 use Rattle.pdu.specs.declared.Execute as E
 use Rattle.pdu.specs.declared.ExecuteResult as X
-use Rattle.pdu.specs.declared.Read.TheVariants.{Message}
+use Rattle.std.specs.Prelude.{Ok}
 use Rattle.pdu.specs.declared.Setting.{Setting}
 use Rattle.pdu.specs.Layout.{one_of, known, widths}
 use Rattle.pdu.specs.Settings.{setting_widths, Data, number_of, data_of, data_spans, data_size, data_allowed, setting_with, moved}
 use Rattle.pdu.specs.Records.{is_yes, yes_number, record_of, kind_of, nums_of, positions_of, widths_of, size_of, spans_of}
 use Rattle.pdu.specs.Rules.{text_ok, execute_flags_ok, exec_results, execute_allowed, execute_result_allowed, allowed}
-use Rattle.pdu.specs.Reading.{record_as, unknown_setting, lengths_agree, body_number, read_number, answer_as, read_of}
+use Rattle.pdu.specs.Reading.{record_as, unknown_setting, lengths_agree, body_of, read_of}
 use Rattle.pdu.specs.Writing.{part_of, zeros, filled, strings_of, joined, row, line, encode, grants}
 use Rattle.pdu.specs.RoundTrip.{rebased, all_hold, typed, ReadsBack}
 use Rattle.pdu.proofs.Strings.{spans_from, parts, parts_back, filled_whole}
@@ -223,8 +223,8 @@ row_fits k n ws ns a b c = rw (a, b) c
 
 -- a message that no line of the ladder refuses
 pub granted : (s : List ℕ) (k : ℕ) (p : Pdu) → ltb (length s) 4 ≡ false → eqb (num_at 2 s 2) (length s) ≡ true → num_at 2 s 0 ≡ k → known k ≡ true → record_as k s ≡ p
-    → (unknown_setting k s ≡ false) × (lengths_agree k s ≡ true) → eqb (size_of p) (length s) ≡ true → allowed p ≡ true → read_of s ≡ Message p
-unfolding read_of read_number body_number answer_as
+    → (unknown_setting k s ≡ false) × (lengths_agree k s ≡ true) → eqb (size_of p) (length s) ≡ true → allowed p ≡ true → read_of s ≡ Ok p
+unfolding read_of body_of
 granted s k p a b e c r l z w = rw (a, b, e, c, l.0, r, z, l.1, w)
 
 -- the widths of the numbers that are seen again are those that were written
@@ -289,7 +289,7 @@ module _ (p : Pdu) (src : List ℕ) (g : grants p src ≡ true) (t : typed p ≡
       ∙ ap (record_of (kind_of p)) body
       ∙ record_back p positions_hold
 
-  message_back : read_of (encode p src) ≡ Message (rebased p)
+  message_back : read_of (encode p src) ≡ Ok (rebased p)
   message_back =
       let l = length_encode p src g in
       granted (encode p src) (kind_of p) (rebased p)

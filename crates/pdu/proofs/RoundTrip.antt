@@ -8,7 +8,7 @@ use lib.Seq.{take_at}
 use borrow.Author.Tests.{le-leb}
 use Rattle.pdu.specs.declared.Pdu.{Pdu}
 use Rattle.pdu.specs.Records.{size_of}
-use Rattle.pdu.specs.Writing.{encode, grants, written_number, out_after_of}
+use Rattle.pdu.specs.Writing.{encode, grants, written_of, out_after_of}
 use Rattle.pdu.specs.RoundTrip.{typed, ReadsBack, RoundTrip}
 use Rattle.pdu.proofs.Writing.{length_encode}
 use Rattle.pdu.proofs.ReadBack.{reads_back}
@@ -19,7 +19,7 @@ round_trip = record { written = reads_back; read = λ b p ok e. writes_back b p 
 
 module _ (p : Pdu) (src out : List ℕ) (g : grants p src ≡ true) (fits : size_of p ≤ length out) where
   first : out_after_of p src out ≡ encode p src ++ drop (size_of p) out
-  unfolding out_after_of written_number
+  unfolding out_after_of written_of
   first = rw (g, le-leb (size_of p) (length out) fits)
 
   -- the output memory after a granted call reads back

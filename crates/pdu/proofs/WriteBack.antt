@@ -2,7 +2,7 @@
 use mathlib.Core.Path.{◌≡◌, refl, sym, ap, ◌∙◌, subst}
 use mathlib.Core.Bool.{Bool, true, false, not}
 use mathlib.Core.List.{List, [], ◌∷◌, ◌++◌, append-nil}
-use Prim.Native.Nat.{ℕ, suc, ◌+◌, ◌≤◌}
+use Prim.Native.Nat.{ℕ, ◌+◌, ◌≤◌}
 use native.Mathlib.Omega.{arith}
 use lib.ListN.{length, take, drop, take-append-drop}
 use lib.Seq.{drop-length}
@@ -19,13 +19,14 @@ use Rattle.signs.specs.TwosComplement.{signed, unsigned}
 use Rattle.signs.proofs.TwosComplement.{forth_2, num_under}
 use Rattle.pdu.specs.declared.Pdu.{Pdu}
 use Rattle.pdu.specs.declared.Pdu.TheVariants.{SystemParameters}
-use Rattle.pdu.specs.declared.Read.{Read}
-use Rattle.pdu.specs.declared.Read.TheVariants.{Message, Refused}
+use Rattle.std.specs.Prelude.{Result, Ok, Err}
+use Rattle.protocol.specs.declared.Refusal.{Refusal}
+use Rattle.protocol.specs.declared.Refusal.TheVariants.{TooShort, LengthDiffers, UnknownType, NotFilled, OutsideSet}
 use Rattle.pdu.specs.Layout.{types, known, widths}
 use Rattle.pdu.specs.Settings.{is_byte, is_area, high_contrast, known_setting, setting_widths, Data, byte, area, scheme, setting_with, data_nums, data_size, data_spans, moved}
 use Rattle.pdu.specs.Records.{is_yes, yes_number, record_of, kind_of, nums_of, size_of, spans_of}
 use Rattle.pdu.specs.Rules.{allowed}
-use Rattle.pdu.specs.Reading.{record_as, setting_at, unknown_setting, lengths_agree, body_number, read_number, answer_as, read_of}
+use Rattle.pdu.specs.Reading.{record_as, setting_at, unknown_setting, lengths_agree, body_of, read_of}
 use Rattle.pdu.specs.Writing.{all_lie, zeros, filled, strings_of, joined, encode, grants}
 use Rattle.pdu.specs.RoundTrip.{tidy_as, tidy, WritesBack}
 use Rattle.pdu.proofs.Strings.{spans_from, sum, parts, parts_join, all_lie_lem, lens, filled_whole}
@@ -33,27 +34,26 @@ use Rattle.pdu.proofs.Settings.{Shape, made, not_byte, not_area, by_shape, size_
 
 -- ---- what a granted reading says
 
-abbrev record_in : Read → Pdu → Pdu
-record_in (Message p) d = p
-record_in (Refused n) d = d
+abbrev record_in : Result Pdu Refusal → Pdu → Pdu
+record_in (Ok p) d = p
+record_in (Err r) d = d
 
-message_inj : (p q : Pdu) → Message p ≡ Message q → p ≡ q
-message_inj p q e = ap (λ (r : Read). record_in r p) e
+pub ok_inj : (p q : Pdu) → ◌≡◌ {A = Result Pdu Refusal} (Ok p) (Ok q) → p ≡ q
+ok_inj p q e = ap (λ (r : Result Pdu Refusal). record_in r p) e
+
+-- a refusal is no record
+pub err_no_ok : {A : Type 0} {r : Refusal} {v : A} → ◌≡◌ {A = Result A Refusal} (Err r) (Ok v) → ⊥
+err_no_ok e = let z : ◌≡◌ {A = ℕ} 0 1 = cc in absurd (omega arith)
 
 -- a line of the ladder that was passed
-passed : (t : Bool) (x n : ℕ) → pick t (suc n) x ≡ 0 → (t ≡ false) × (x ≡ 0)
-passed false x n e = (refl, e)
-passed true x n e = absurd (omega (arith, e))
+passed : (t : Bool) (r : Refusal) (x : Result Pdu Refusal) (p : Pdu) → pick t (Err r) x ≡ Ok p → (t ≡ false) × (x ≡ Ok p)
+passed false r x p e = (refl, e)
+passed true r x p e = absurd (err_no_ok e)
 
-passed_two : (t u : Bool) (x n m : ℕ) → pick t (pick u (suc n) (suc m)) x ≡ 0 → (t ≡ false) × (x ≡ 0)
-passed_two false u x n m e = (refl, e)
-passed_two true true x n m e = absurd (omega (arith, e))
-passed_two true false x n m e = absurd (omega (arith, e))
-
--- an answer with a record has the number 0
-zero_number : (n : ℕ) (r p : Pdu) (t : Bool) → eqb n 0 ≡ t → pick t (Message r) (Refused n) ≡ Message p → (n ≡ 0) × (r ≡ p)
-zero_number n r p true z e = (eqb-true n 0 z, message_inj r p e)
-zero_number n r p false z e = let y : ◌≡◌ {A = ℕ} 0 1 = cc in absurd (omega arith)
+passed_two : (t u : Bool) (r q : Refusal) (x : Result Pdu Refusal) (p : Pdu) → pick t (pick u (Err r) (Err q)) x ≡ Ok p → (t ≡ false) × (x ≡ Ok p)
+passed_two false u r q x p e = (refl, e)
+passed_two true true r q x p e = absurd (err_no_ok e)
+passed_two true false r q x p e = absurd (err_no_ok e)
 
 pub record Granted (b : List ℕ) (p : Pdu) : Type 0 where
   pub length_told : num_at 2 b 2 ≡ length b
@@ -64,24 +64,23 @@ pub record Granted (b : List ℕ) (p : Pdu) : Type 0 where
   pub fine : allowed (record_as (num_at 2 b 0) b) ≡ true
   pub same_record_lem : record_as (num_at 2 b 0) b ≡ p
 
-pub reading : (b : List ℕ) (p : Pdu) → read_of b ≡ Message p → Granted b p
-unfolding read_of read_number body_number answer_as
+pub reading : (b : List ℕ) (p : Pdu) → read_of b ≡ Ok p → Granted b p
+unfolding read_of body_of
 reading b p e =
     let r = record_as (num_at 2 b 0) b in
-    let x8 : ℕ = pick (not (allowed r)) 8 0 in
-    let xo : ℕ = pick (not (lengths_agree (num_at 2 b 0) b)) 7 x8 in
-    let x7 : ℕ = pick (not (eqb (size_of r) (length b))) 7 xo in
-    let xs : ℕ = pick (unknown_setting (num_at 2 b 0) b) (pick (ltb (length b) 8) 7 8) x7 in
-    let x4 : ℕ = pick (not (known (num_at 2 b 0))) 4 xs in
-    let x3 : ℕ = pick (not (eqb (num_at 2 b 2) (length b))) 3 x4 in
-    let n = zero_number (pick (ltb (length b) 4) 2 x3) r p (eqb (pick (ltb (length b) 4) 2 x3) 0) refl e in
-    let a = passed (ltb (length b) 4) x3 1 n.0 in
-    let c = passed (not (eqb (num_at 2 b 2) (length b))) x4 2 a.1 in
-    let d = passed (not (known (num_at 2 b 0))) xs 3 c.1 in
-    let m = passed_two (unknown_setting (num_at 2 b 0) b) (ltb (length b) 8) x7 6 7 d.1 in
-    let f = passed (not (eqb (size_of r) (length b))) xo 6 m.1 in
-    let l = passed (not (lengths_agree (num_at 2 b 0) b)) x8 6 f.1 in
-    let g = passed (not (allowed r)) 0 7 l.1 in
+    let x8 : Result Pdu Refusal = pick (not (allowed r)) (Err OutsideSet) (Ok r) in
+    let xo : Result Pdu Refusal = pick (not (lengths_agree (num_at 2 b 0) b)) (Err NotFilled) x8 in
+    let x7 : Result Pdu Refusal = pick (not (eqb (size_of r) (length b))) (Err NotFilled) xo in
+    let xs : Result Pdu Refusal = pick (unknown_setting (num_at 2 b 0) b) (pick (ltb (length b) 8) (Err NotFilled) (Err OutsideSet)) x7 in
+    let x4 : Result Pdu Refusal = pick (not (known (num_at 2 b 0))) (Err UnknownType) xs in
+    let x3 : Result Pdu Refusal = pick (not (eqb (num_at 2 b 2) (length b))) (Err LengthDiffers) x4 in
+    let a = passed (ltb (length b) 4) TooShort x3 p e in
+    let c = passed (not (eqb (num_at 2 b 2) (length b))) LengthDiffers x4 p a.1 in
+    let d = passed (not (known (num_at 2 b 0))) UnknownType xs p c.1 in
+    let m = passed_two (unknown_setting (num_at 2 b 0) b) (ltb (length b) 8) NotFilled OutsideSet x7 p d.1 in
+    let f = passed (not (eqb (size_of r) (length b))) NotFilled xo p m.1 in
+    let l = passed (not (lengths_agree (num_at 2 b 0) b)) NotFilled x8 p f.1 in
+    let g = passed (not (allowed r)) OutsideSet (Ok r) p l.1 in
     record {
       length_told = eqb-true (num_at 2 b 2) (length b) (not_not (eqb (num_at 2 b 2) (length b)) c.0);
       kind_known = not_not (known (num_at 2 b 0)) d.0;
@@ -89,7 +88,7 @@ reading b p e =
       agrees = not_not (lengths_agree (num_at 2 b 0) b) l.0;
       fills = eqb-true (size_of r) (length b) (not_not (eqb (size_of r) (length b)) f.0);
       fine = not_not (allowed r) g.0;
-      same_record_lem = n.1;
+      same_record_lem = ok_inj r p g.1;
     }
 
 -- ---- the two numbers that change
@@ -285,7 +284,7 @@ module _ (b : List ℕ) (ok : Bytes b) (told : num_at 2 b 2 ≡ length b) where
       (any_setting execute_back, (any_setting activate_back, (any_setting system_command_back, (any_setting handshake_back, (any_setting notify_event_back, (any_setting window_move_back, (any_setting move_size_back, (any_setting min_max_info_back, (any_setting client_information_back, (any_setting system_menu_back, (any_setting get_application_id_back, (any_setting application_id_response_back, (system_parameters_back, (any_setting handshake_ex_back, (any_setting execute_result_back, tt)))))))))))))))
 
 -- the record of each message that reading grants is granted when it is written, and gives the same bytes, but for Padding and start
-pub writes_back : (b : List ℕ) (p : Pdu) → Bytes b → read_of b ≡ Message p → WritesBack b p
+pub writes_back : (b : List ℕ) (p : Pdu) → Bytes b → read_of b ≡ Ok p → WritesBack b p
 unfolding grants tidy known
 writes_back b p ok e =
     let g = reading b p e in

@@ -15,12 +15,12 @@ use Rattle.wire.proofs.Numbers.{length_put}
 use Rattle.pdu.specs.declared.Pdu.{Pdu}
 use Rattle.pdu.specs.declared.Pdu.TheVariants.{Execute, Activate, SystemCommand, Handshake, NotifyEvent, WindowMove, MoveSize, MinMaxInfo, ClientInformation, SystemMenu, GetApplicationId, ApplicationIdResponse, ExecuteResult, SystemParameters, HandshakeEx}
 use Rattle.pdu.specs.declared.ApplicationIdResponse as A
-use Rattle.pdu.specs.declared.Written.TheVariants as W
+use Rattle.std.specs.Prelude.{Ok}
 use Rattle.pdu.specs.Layout.{widths}
 use Rattle.pdu.specs.Settings.{number_of, data_of, data_spans}
 use Rattle.pdu.specs.Records.{kind_of, nums_of, size_of, spans_of}
 use Rattle.pdu.specs.Rules.{allowed}
-use Rattle.pdu.specs.Writing.{part_of, all_lie, zeros, filled, strings_of, joined, row, line, encode, grants, written_number, written_of, out_after_of}
+use Rattle.pdu.specs.Writing.{part_of, all_lie, zeros, filled, strings_of, joined, row, line, encode, grants, written_of, out_after_of}
 use Rattle.pdu.proofs.Strings.{lens, lens_lie, sum, length_joined, length_filled}
 use Rattle.pdu.proofs.Settings.{shape, size_shape}
 
@@ -107,8 +107,8 @@ length_encode p src g =
 
 module _ (p : Pdu) (src out : List ℕ) where
   pub done : (n : ℕ) (y : List ℕ) → grants p src ≡ true → size_of p ≤ length out → n ≡ size_of p → y ≡ splice out 0 (encode p src)
-      → (W.Bytes n ≡ written_of p src (length out)) × (y ≡ out_after_of p src out)
-  unfolding written_number written_of out_after_of
+      → (Ok n ≡ written_of p src (length out)) × (y ≡ out_after_of p src out)
+  unfolding written_of out_after_of
   done n y g fits en ey =
       let t = le-leb (size_of p) (length out) fits in
       let all : y ≡ encode p src ++ drop (size_of p) out =

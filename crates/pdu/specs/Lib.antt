@@ -3,7 +3,6 @@ pub mod Settings
 pub mod Records
 pub mod Kinds
 pub mod Rules
-pub mod Answers
 pub mod Reading
 pub mod Writing
 pub mod RoundTrip

@@ -1,10 +1,11 @@
 -- Reading a message: the record, or the first refusal that applies. Assumes nothing.
-use Rattle.std.specs.Prelude.{ℕ, ◌+◌, Bool, true, not, List, length, ltb, eqb}
+use Rattle.std.specs.Prelude.{ℕ, ◌+◌, Bool, true, not, List, length, ltb, eqb, Result, Ok, Err}
 use Rattle.wire.specs.Tests.{pick, both}
 use Rattle.wire.specs.Numbers.{num_at, nums_at}
 use Rattle.pdu.specs.declared.Pdu.{Pdu}
-use Rattle.pdu.specs.declared.Read.{Read}
-use Rattle.pdu.specs.declared.Read.TheVariants.{Message, Refused}
+use Rattle.protocol.specs.declared.Refusal.{Refusal}
+use Rattle.protocol.specs.declared.Refusal.TheVariants.{TooShort, LengthDiffers, UnknownType, NotFilled, OutsideSet}
+use Rattle.protocol.specs.Refusals.{refused_by}
 use Rattle.pdu.specs.Layout.{known}
 use Rattle.pdu.specs.Settings.{high_contrast, known_setting, widths_with}
 use Rattle.pdu.specs.Records.{record_of, size_of}
@@ -24,7 +25,7 @@ setting_at s = num_at 4 s 4
 unfoldable pub record_as : ℕ → List ℕ → Pdu
 record_as k s = record_of k (nums_at (widths_with k (setting_at s)) s 4)
 
--- ---- the first number that applies to a message, 0 for none
+-- ---- the record of a message, or the first refusal that applies
 
 -- a message of type 0003 with a setting that is none
 abbrev pub unknown_setting : ℕ → List ℕ → Bool
@@ -34,30 +35,22 @@ unknown_setting k s = both (eqb k 0x03) (not (known_setting (setting_at s)))
 abbrev pub lengths_agree : ℕ → List ℕ → Bool
 lengths_agree k s = pick (both (eqb k 0x03) (eqb (setting_at s) high_contrast)) (eqb (num_at 4 s 12) (num_at 2 s 16 + 2)) true
 
--- the last lines, where it is of type k; an unknown setting is 8 if the four bytes naming it are there
-unfoldable pub body_number : ℕ → List ℕ → ℕ
-body_number k s =
-    pick (unknown_setting k s) (pick (ltb (length s) 8) 7 8)
-    (pick (not (eqb (size_of (record_as k s)) (length s))) 7
-    (pick (not (lengths_agree k s)) 7
-    (pick (not (allowed (record_as k s))) 8 0)))
+-- the last lines, where it is of type k; an unknown setting is outside its set if the four bytes naming it are there
+unfoldable pub body_of : ℕ → List ℕ → Result Pdu Refusal
+body_of k s =
+    pick (unknown_setting k s) (pick (ltb (length s) 8) (Err NotFilled) (Err OutsideSet))
+    (pick (not (eqb (size_of (record_as k s)) (length s))) (Err NotFilled)
+    (pick (not (lengths_agree k s)) (Err NotFilled)
+    (pick (not (allowed (record_as k s))) (Err OutsideSet)
+    (Ok (record_as k s)))))
 
+unfoldable pub read_of : List ℕ → Result Pdu Refusal
+read_of s =
+    pick (ltb (length s) 4) (Err TooShort)
+    (pick (not (eqb (length_at s) (length s))) (Err LengthDiffers)
+    (pick (not (known (type_at s))) (Err UnknownType)
+    (body_of (type_at s) s)))
+
+-- the number of the refusal, 0 for none
 unfoldable pub read_number : List ℕ → ℕ
-read_number s =
-    pick (ltb (length s) 4) 2
-    (pick (not (eqb (length_at s) (length s))) 3
-    (pick (not (known (type_at s))) 4
-    (body_number (type_at s) s)))
-
--- ---- the answer
-
--- the number n, and where it is 0 the record of type k
-unfoldable pub answer_as : ℕ → ℕ → List ℕ → Read
-answer_as n k s = pick (eqb n 0) (Message (record_as k s)) (Refused n)
-
-unfoldable pub read_of : List ℕ → Read
-read_of s = answer_as (read_number s) (type_at s) s
-
--- the same of the last lines, which the code has in a function for each type
-unfoldable pub body_of : ℕ → List ℕ → Read
-body_of k s = answer_as (body_number k s) k s
+read_number s = refused_by (read_of s)

@@ -1,18 +1,15 @@
 -- The round trip: what is written reads back, and what is read is written back. Assumes nothing.
-use Rattle.std.specs.Prelude.{ℕ, ◌+◌, ◌<◌, Bool, true, List, [], ◌∷◌, ◌≡◌, eqb, ℤ, length, get_or, take}
+use Rattle.std.specs.Prelude.{ℕ, ◌+◌, ◌<◌, Bool, true, List, [], ◌∷◌, ◌≡◌, eqb, ℤ, length, get_or, take, Result, Ok, Err}
 use Rattle.wire.specs.Tests.{pick, both}
 use Rattle.wire.specs.Parts.{splice}
 use Rattle.wire.specs.Numbers.{num_at, all_fit}
 use Rattle.signs.specs.TwosComplement.{holds}
 use Rattle.pdu.specs.declared.Pdu.{Pdu}
 use Rattle.pdu.specs.declared.Pdu.TheVariants.{Execute, Activate, SystemCommand, Handshake, NotifyEvent, WindowMove, MoveSize, MinMaxInfo, ClientInformation, SystemMenu, GetApplicationId, ApplicationIdResponse, ExecuteResult, SystemParameters, HandshakeEx}
-use Rattle.pdu.specs.declared.Read.{Read}
-use Rattle.pdu.specs.declared.Read.TheVariants as R
-use Rattle.pdu.specs.declared.Written.{Written}
-use Rattle.pdu.specs.declared.Written.TheVariants as W
+use Rattle.protocol.specs.declared.Refusal.{Refusal}
+use Rattle.protocol.specs.Refusals.{answers, says}
 use Rattle.pdu.specs.Settings.{number_of, data_of, setting_with, moved}
 use Rattle.pdu.specs.Records.{span, is_yes, yes_number, nums_of, positions_of, widths_of, size_of}
-use Rattle.pdu.specs.Answers.{answers, read_says, written_says}
 use Rattle.pdu.specs.Reading.{type_at, record_as, read_of, read_number}
 use Rattle.pdu.specs.Writing.{strings_of, encode, grants, written_of, written_number, out_after_of}
 
@@ -61,7 +58,7 @@ tidy b = tidy_as (num_at 2 b 0) b
 
 -- bytes that read back as the record p with its strings from src: the same fields, and the same strings where they now stand
 pub record ReadsBack (b : List ℕ) (p : Pdu) (src : List ℕ) : Type 0 where
-  pub message : read_of b ≡ R.Message (rebased p)
+  pub message : read_of b ≡ Ok (rebased p)
   pub strings : strings_of (rebased p) b ≡ strings_of p src
 
 -- a record that is granted when it is written from b, and gives b again, but for Padding and start
@@ -76,26 +73,26 @@ EachByte s = (i : ℕ) → get_or s i 0 < 256
 -- the one account over all kinds
 pub record RoundTrip : Type 0 where
   pub written : (p : Pdu) (src : List ℕ) → grants p src ≡ true → typed p ≡ true → ReadsBack (encode p src) p src
-  pub read : (b : List ℕ) (p : Pdu) → EachByte b → read_of b ≡ R.Message p → WritesBack b p
+  pub read : (b : List ℕ) (p : Pdu) → EachByte b → read_of b ≡ Ok p → WritesBack b p
 
 -- ---- the same of an answer
 
-abbrev pub WrittenBack : Written → Pdu → List ℕ → List ℕ → Type 0
-WrittenBack (W.Bytes n) p src out = ReadsBack (take n out) p src
-WrittenBack (W.Refused n) p src out = Unit {0}
+abbrev pub WrittenBack : Result ℕ Refusal → Pdu → List ℕ → List ℕ → Type 0
+WrittenBack (Ok n) p src out = ReadsBack (take n out) p src
+WrittenBack (Err e) p src out = Unit {0}
 
-abbrev pub ReadAgain : Read → List ℕ → Type 0
-ReadAgain (R.Message p) b = WritesBack b p
-ReadAgain (R.Refused n) b = Unit {0}
+abbrev pub ReadAgain : Result Pdu Refusal → List ℕ → Type 0
+ReadAgain (Ok p) b = WritesBack b p
+ReadAgain (Err e) b = Unit {0}
 
 -- the whole outcome of reading s, and of writing p from src to out, which is then out'
-pub record ReadOutcome (s : List ℕ) (r : Read) : Type 0 where
-  pub says : read_says r ≡ answers (read_number s) (record_as (type_at s) s)
+pub record ReadOutcome (s : List ℕ) (r : Result Pdu Refusal) : Type 0 where
+  pub says : says r ≡ answers (read_number s) (record_as (type_at s) s)
   pub answer : r ≡ read_of s
   pub again : ReadAgain r s
 
-pub record WriteOutcome (p : Pdu) (src out : List ℕ) (r : Written) (out' : List ℕ) : Type 0 where
-  pub says : written_says r ≡ answers (written_number p src (length out)) (size_of p)
+pub record WriteOutcome (p : Pdu) (src out : List ℕ) (r : Result ℕ Refusal) (out' : List ℕ) : Type 0 where
+  pub says : says r ≡ answers (written_number p src (length out)) (size_of p)
   pub answer : r ≡ written_of p src (length out)
   pub memory : out' ≡ out_after_of p src out
   pub back : WrittenBack r p src out'

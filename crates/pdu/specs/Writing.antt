@@ -1,12 +1,13 @@
 -- Writing a record: the bytes it is written as, the answer, and the output memory after it. Assumes nothing.
-use Rattle.std.specs.Prelude.{ℕ, ◌+◌, Bool, true, List, [], ◌∷◌, ◌++◌, map, length, drop, replicate, leb, eqb}
+use Rattle.std.specs.Prelude.{ℕ, ◌+◌, Bool, true, List, [], ◌∷◌, ◌++◌, map, length, drop, replicate, leb, eqb, Result, Ok, Err}
 use Rattle.wire.specs.Tests.{pick, both}
 use Rattle.wire.specs.Parts.{slice, splice}
 use Rattle.wire.specs.Numbers.{put_all}
 use Rattle.pdu.specs.declared.Span.{Span}
 use Rattle.pdu.specs.declared.Pdu.{Pdu}
-use Rattle.pdu.specs.declared.Written.{Written}
-use Rattle.pdu.specs.declared.Written.TheVariants.{Bytes, Refused}
+use Rattle.protocol.specs.declared.Refusal.{Refusal}
+use Rattle.protocol.specs.declared.Refusal.TheVariants.{OutsideSet, OutputTooSmall}
+use Rattle.protocol.specs.Refusals.{refused_by}
 use Rattle.pdu.specs.Records.{kind_of, nums_of, widths_of, size_of, spans_of}
 use Rattle.pdu.specs.Rules.{allowed}
 
@@ -52,13 +53,18 @@ encode p src = put_all (row p) (line p) ++ joined (strings_of p src)
 unfoldable pub grants : Pdu → List ℕ → Bool
 grants p src = both (allowed p) (all_lie (length src) (spans_of p))
 
--- the first number that applies, 0 for none, where the output memory lent has n bytes
+-- how many bytes are written, or the first refusal that applies, where the output memory lent has n bytes
+unfoldable pub written_of : Pdu → List ℕ → ℕ → Result ℕ Refusal
+written_of p src n = pick (grants p src) (pick (leb (size_of p) n) (Ok (size_of p)) (Err OutputTooSmall)) (Err OutsideSet)
+
+-- the number of the refusal, 0 for none
 unfoldable pub written_number : Pdu → List ℕ → ℕ → ℕ
-written_number p src n = pick (grants p src) (pick (leb (size_of p) n) 0 14) 8
+written_number p src n = refused_by (written_of p src n)
 
-unfoldable pub written_of : Pdu → List ℕ → ℕ → Written
-written_of p src n = pick (eqb (written_number p src n) 0) (Bytes (size_of p)) (Refused (written_number p src n))
+-- the output memory after an answer: only the first bytes change, and none on a refusal
+abbrev pub out_with : Result ℕ Refusal → List ℕ → List ℕ → List ℕ
+out_with (Ok n) bytes out = bytes ++ drop n out
+out_with (Err r) bytes out = out
 
--- the output memory after the call: only the first bytes change, and none on a refusal
 unfoldable pub out_after_of : Pdu → List ℕ → List ℕ → List ℕ
-out_after_of p src out = pick (eqb (written_number p src (length out)) 0) (encode p src ++ drop (size_of p) out) out
+out_after_of p src out = out_with (written_of p src (length out)) (encode p src) out

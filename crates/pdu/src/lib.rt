@@ -192,17 +192,3 @@ pub enum Pdu {
     SystemParameters(SystemParameters),
     HandshakeEx(HandshakeEx),
 }
-
-// What reading answers: the record, or the number of the refusal.
-#[derive(Clone, Copy, Debug, PartialEq, Eq)]
-pub enum Read {
-    Message(Pdu),
-    Refused(u8),
-}
-
-// What writing answers: how many bytes were written, or the number of the refusal.
-#[derive(Clone, Copy, Debug, PartialEq, Eq)]
-pub enum Written {
-    Bytes(usize),
-    Refused(u8),
-}

@@ -29,16 +29,17 @@ use Rattle.pdu.specs.declared.Execute as E
 use Rattle.pdu.specs.declared.ApplicationIdResponse as A
 use Rattle.pdu.specs.declared.ExecuteResult as X
 use Rattle.pdu.specs.declared.Span.{Span}
-use Rattle.pdu.specs.declared.Written.{Written}
-use Rattle.pdu.specs.declared.Written.TheVariants.{Bytes, Refused}
+use Rattle.std.specs.Prelude.{Option, Some, None, Result, Ok, Err}
+use Rattle.protocol.specs.declared.Refusal.{Refusal}
+use Rattle.protocol.specs.declared.Refusal.TheVariants.{OutsideSet, OutputTooSmall}
+use Rattle.protocol.specs.Refusals.{says}
 use Rattle.pdu.specs.declared.Setting.{Setting}
 use Rattle.pdu.specs.declared.Setting.TheVariants as S
 use Rattle.pdu.specs.Layout.{widths}
 use Rattle.pdu.specs.Settings.{setting_widths, Data, byte, area, scheme, number_of, data_of, data_nums, data_allowed}
 use Rattle.pdu.specs.Records.{is_yes, yes_number, kind_of, nums_of, widths_of, size_of, spans_of}
 use Rattle.pdu.specs.Rules.{allowed}
-use Rattle.pdu.specs.Answers.{written_says}
-use Rattle.pdu.specs.Writing.{part_of, lies, all_lie, zeros, joined, line, encode, grants, written_of, out_after_of, written_number}
+use Rattle.pdu.specs.Writing.{part_of, lies, all_lie, zeros, joined, line, encode, grants, written_of, out_with, out_after_of}
 use Rattle.pdu.specs.RoundTrip.{typed, WrittenBack, WriteOutcome}
 use Rattle.pdu.proofs.Answers.{written_says_lem}
 use Rattle.pdu.proofs.Strings.{length_filled}
@@ -46,11 +47,12 @@ use Rattle.pdu.proofs.Settings.{Shape, shape, not_byte, not_area}
 use Rattle.pdu.proofs.Writing.{allowed_of, lie_of, done}
 use Rattle.pdu.proofs.ReadBack.{execute_small, result_small, size_small}
 use Rattle.pdu.proofs.RoundTrip.{after_reads}
+use Rattle.pdu.proofs.WriteBack.{err_no_ok}
 use Rattle.pdu_words.specs.Words.{words_of}
 use Rattle.pdu_words.specs.FromWords.{stand, Stands, pdu_of, window_move_from, move_size_from, min_max_info_from, system_menu_from}
 use Rattle.pdu_words.proofs.FromWords.{words_stand, words_back, positions_hold}
 use Rattle.pdu_words.proofs.FromWordsFit.{memory_fits, HeldData, held_data}
-use Rattle.pdu_put.specs.WordsWritten.{words_written_of, words_out_after, WordsOutcome, unless, UnlessOutcome}
+use Rattle.pdu_put.specs.WordsWritten.{words_written_of, words_out_after, WordsOutcome, unless, out_unless, UnlessOutcome}
 use Rattle.pdu_put.specs.declared.Judged.{Judged}
 use Rattle.pdu_put.specs.Judging.{Judges, Ready, Encoded, Text, ExecuteReady, TextReady}
 
@@ -196,12 +198,12 @@ typed_of p vs h a =
 
 -- ---- the ways through judging words
 
-pub judged_none : (w src : List ℕ) (m : ℕ) → false ≡ stand w → Refused 8 ≡ words_written_of w src m
+pub judged_none : (w src : List ℕ) (m : ℕ) → false ≡ stand w → Err OutsideSet ≡ words_written_of w src m
 unfolding words_written_of
 judged_none w src m e = rw (← e)
 
 module _ {w : List ℕ} (st : Stands w) (src : List ℕ) (m : ℕ) (j : Judged) (judged : Judges (pdu_of w) (length src) j) where
-  as_record : {r : Written} → r ≡ written_of (pdu_of w) src m → r ≡ words_written_of w src m
+  as_record : {r : Result ℕ Refusal} → r ≡ written_of (pdu_of w) src m → r ≡ words_written_of w src m
   unfolding words_written_of
   as_record e = rw st.holds e
 
@@ -209,17 +211,17 @@ module _ {w : List ℕ} (st : Stands w) (src : List ℕ) (m : ℕ) (j : Judged) 
   unfolding grants
   passes = judged.passes
 
-  pub judged_8 : j.ok ≡ false → Refused 8 ≡ words_written_of w src m
-  unfolding written_of written_number
+  pub judged_8 : j.ok ≡ false → Err OutsideSet ≡ words_written_of w src m
+  unfolding written_of
   judged_8 t = as_record (rw (sym passes ∙ t))
 
-  pub judged_14 : j.ok ≡ true → m < j.size → Refused 14 ≡ words_written_of w src m
-  unfolding written_of written_number
+  pub judged_14 : j.ok ≡ true → m < j.size → Err OutputTooSmall ≡ words_written_of w src m
+  unfolding written_of
   judged_14 t h = as_record (rw (sym passes ∙ t, lt-leb (size_of (pdu_of w)) m (rw judged.measures at h)))
 
-  pub judged_bytes : j.ok ≡ true → j.size ≤ m → Bytes j.size ≡ words_written_of w src m
-  unfolding written_of written_number
-  judged_bytes t h = as_record (rw (sym passes ∙ t, le-leb (size_of (pdu_of w)) m (rw judged.measures at h)) (ap Bytes judged.measures))
+  pub judged_bytes : j.ok ≡ true → j.size ≤ m → Ok j.size ≡ words_written_of w src m
+  unfolding written_of
+  judged_bytes t h = as_record (rw (sym passes ∙ t, le-leb (size_of (pdu_of w)) m (rw judged.measures at h)) (ap Ok judged.measures))
 
 -- what an answer of n bytes says
 pub record Wrote (p : Pdu) (src : List ℕ) (m n : ℕ) : Type 0 where
@@ -227,89 +229,76 @@ pub record Wrote (p : Pdu) (src : List ℕ) (m n : ℕ) : Type 0 where
   pub room : size_of p ≤ m
   pub size : n ≡ size_of p
 
-pub wrote_says : (p : Pdu) (src : List ℕ) (m n : ℕ) → Bytes n ≡ written_of p src m → Wrote p src m n
-unfolding written_of written_number
+pub wrote_says : (p : Pdu) (src : List ℕ) (m n : ℕ) → Ok n ≡ written_of p src m → Wrote p src m n
+unfolding written_of
 wrote_says p src m n = go (grants p src) refl (leb (size_of p) m) refl
   where
-    go : (g : Bool) → grants p src ≡ g → (t : Bool) → leb (size_of p) m ≡ t → Bytes n ≡ pick (eqb (pick g (pick t 0 14) 8) 0) (Bytes (size_of p)) (Refused (pick g (pick t 0 14) 8)) → Wrote p src m n
+    go : (g : Bool) → grants p src ≡ g → (t : Bool) → leb (size_of p) m ≡ t → Ok n ≡ pick g (pick t (Ok (size_of p)) (Err OutputTooSmall)) (Err OutsideSet) → Wrote p src m n
     go true eg true et e = record { granted = eg; room = leb-true (size_of p) m et; size = cc }
-    go true eg false et e = let z : ◌≡◌ {A = ℕ} 0 1 = cc in absurd (omega arith)
-    go false eg t et e = let z : ◌≡◌ {A = ℕ} 0 1 = cc in absurd (omega arith)
+    go true eg false et e = absurd (err_no_ok (sym e))
+    go false eg t et e = absurd (err_no_ok (sym e))
 
 -- ---- the ways through writing words
 
 -- a refusal leaves the output memory
-untouched : (w src out : List ℕ) (n : ℕ) → Refused n ≡ words_written_of w src (length out) → out ≡ words_out_after w src out
-unfolding words_written_of words_out_after written_of out_after_of
-untouched w src out n e = go (stand w) (eqb z 0) e
+untouched : (w src out : List ℕ) (e : Refusal) → Err e ≡ words_written_of w src (length out) → out ≡ words_out_after w src out
+unfolding words_written_of words_out_after out_after_of
+untouched w src out e q = go (stand w) (written_of (pdu_of w) src (length out)) q
   where
-    z : ℕ
-    z = written_number (pdu_of w) src (length out)
+    go : (b : Bool) (a : Result ℕ Refusal) → Err e ≡ pick b a (Err OutsideSet) → out ≡ pick b (out_with a (encode (pdu_of w) src) out) out
+    go true (Ok n) q = absurd (err_no_ok q)
+    go true (Err x) q = refl
+    go false a q = refl
 
-    go : (b d : Bool) → Refused n ≡ pick b (pick d (Bytes (size_of (pdu_of w))) (Refused z)) (Refused 8) → out ≡ pick b (pick d (encode (pdu_of w) src ++ drop (size_of (pdu_of w)) out) out) out
-    go true true e = let z : ◌≡◌ {A = ℕ} 0 1 = cc in absurd (omega arith)
-    go true false e = refl
-    go false d e = refl
+-- a refusal stays, with the output memory
+pub unless_err : (k : Option Refusal) (e : Refusal) → Err e ≡ unless k (Err e)
+unfolding unless
+unless_err None e = refl
+unless_err (Some x) e = refl
 
-same : (b : Bool) {x y : List ℕ} → x ≡ y → x ≡ pick b y x
-same true e = e
-same false e = refl
+pub out_same : (k : Option Refusal) {out' out : List ℕ} → out ≡ out' → out ≡ out_unless k out' out
+unfolding out_unless
+out_same None e = e
+out_same (Some x) e = refl
 
-module _ {w src out : List ℕ} {k : ℕ} where
-  pub unless_refused : {n : ℕ} → Refused n ≡ words_written_of w src (length out) → UnlessOutcome w src out k (Refused n) out
-  unfolding unless
-  unless_refused {n} e = record { answer = rw (← e); memory = same (eqb k 0) (untouched w src out n e) }
+module _ {w src out : List ℕ} where
+  pub unless_refused : {k : Option Refusal} {e : Refusal} → Err e ≡ words_written_of w src (length out) → UnlessOutcome w src out k (Err e) out
+  unless_refused {k} {e} q = record { answer = unless_err k e ∙ ap (unless k) q; memory = out_same k (untouched w src out e q) }
 
-  pub unless_number : {n : ℕ} → Bytes n ≡ words_written_of w src (length out) → eqb k 0 ≡ false → UnlessOutcome w src out k (Refused k) out
-  unfolding unless
-  unless_number e z = record { answer = rw (← e, z); memory = rw z }
+  pub unless_further : {k : Option Refusal} {e : Refusal} {n : ℕ} → Ok n ≡ words_written_of w src (length out) → k ≡ Some e → UnlessOutcome w src out k (Err e) out
+  unfolding unless out_unless
+  unless_further q z = record { answer = rw (← q, z); memory = rw z }
 
 module _ {w : List ℕ} (st : Stands w) (src out : List ℕ) (j : Judged) (judged : Judges (pdu_of w) (length src) j) (t : j.ok ≡ true) (h : j.size ≤ length out) where
   pub ready : Ready (pdu_of w) src out
   ready = record { granted = sym (passes st src (length out) j judged) ∙ t; room = rw judged.measures at h }
 
-  pub wrote : {k : ℕ} {y : List ℕ} → k ≡ 0 → Encoded (pdu_of w) src out y → UnlessOutcome w src out k (Bytes j.size) y
-  unfolding unless words_out_after
+  pub wrote : {k : Option Refusal} {y : List ℕ} → k ≡ None → Encoded (pdu_of w) src out y → UnlessOutcome w src out k (Ok j.size) y
+  unfolding unless out_unless words_out_after
   wrote {k} {y} z e =
       let d = done (pdu_of w) src out j.size y ready.granted ready.room judged.measures e.bytes in
       record { answer = rw (z, ← judged_bytes st src (length out) j judged t h); memory = rw (z, st.holds) d.1 }
 
--- where no further number applies
-unless_none : (a : Written) → unless 0 a ≡ a
-unfolding unless
-unless_none (Bytes n) = refl
-unless_none (Refused n) = refl
-
-pub no_further : {w src out y : List ℕ} {r : Written} → UnlessOutcome w src out 0 r y → WordsOutcome w src out r y
-no_further {w} {src} {out} o = record { answer = o.answer ∙ unless_none (words_written_of w src (length out)); memory = o.memory }
+-- where no further refusal applies
+pub no_further : {w src out y : List ℕ} {r : Result ℕ Refusal} → UnlessOutcome w src out None r y → WordsOutcome w src out r y
+unfolding unless out_unless
+no_further o = record { answer = o.answer; memory = o.memory }
 
 -- ---- what writing answers fits where it is packed
 
-pub bytes_small : {w src out y : List ℕ} {r : Written} {n : ℕ} → WordsOutcome w src out r y → r ≡ Bytes n → n < 65536
+pub bytes_small : {w src out y : List ℕ} {r : Result ℕ Refusal} {n : ℕ} → WordsOutcome w src out r y → r ≡ Ok n → n < 65536
 unfolding words_written_of
 bytes_small {w} {src} {out} {n = n} o q = go (stand w) (sym q ∙ o.answer)
   where
-    go : (b : Bool) → Bytes n ≡ pick b (written_of (pdu_of w) src (length out)) (Refused 8) → n < 65536
+    go : (b : Bool) → Ok n ≡ pick b (written_of (pdu_of w) src (length out)) (Err OutsideSet) → n < 65536
     go true e =
         let g = wrote_says (pdu_of w) src (length out) n e in
         omega (arith, g.size, size_small (pdu_of w) (allowed_of (pdu_of w) src g.granted))
-    go false e = let z : ◌≡◌ {A = ℕ} 0 1 = cc in absurd (omega arith)
-
-pub number_small : {w src out y : List ℕ} {r : Written} {n : ℕ} → WordsOutcome w src out r y → r ≡ Refused n → n < 256
-unfolding words_written_of written_of written_number
-number_small {w} {src} {out} {n = n} o q = go (stand w) (grants (pdu_of w) src) (leb (size_of (pdu_of w)) (length out)) (sym q ∙ o.answer)
-  where
-    go : (b g t : Bool)
-        → Refused n ≡ pick b (pick (eqb (pick g (pick t 0 14) 8) 0) (Bytes (size_of (pdu_of w))) (Refused (pick g (pick t 0 14) 8))) (Refused 8)
-        → n < 256
-    go true true true e = let z : ◌≡◌ {A = ℕ} 0 1 = cc in absurd (omega arith)
-    go true true false e = let z : n ≡ 14 = cc in omega arith
-    go true false t e = let z : n ≡ 8 = cc in omega arith
-    go false g t e = let z : n ≡ 8 = cc in omega arith
+    go false e = absurd (err_no_ok (sym e))
 
 -- ---- a record is written as its words are
 
-pub from_words : {p : Pdu} {src out y : List ℕ} {r : Written} {w : List ℕ} {vs : List Val} → Is (row the_type) p vs → w ≡ words_of p → WordsOutcome w src out r y → WriteOutcome p src out r y
+pub from_words : {p : Pdu} {src out y : List ℕ} {r : Result ℕ Refusal} {w : List ℕ} {vs : List Val} → Is (row the_type) p vs → w ≡ words_of p → WordsOutcome w src out r y → WriteOutcome p src out r y
 unfolding words_written_of words_out_after
 from_words {p} {src} {out} {y} {r} {w} {vs} i ew o =
     let f = memory_fits p vs i in
@@ -317,13 +306,13 @@ from_words {p} {src} {out} {y} {r} {w} {vs} i ew o =
     let v = subst (λ (x : List ℕ). WordsOutcome x src out r y) ew o in
     let a : r ≡ written_of p src (length out) = v.answer ∙ rw (st.holds, words_back p f) in
     let m : y ≡ out_after_of p src out = v.memory ∙ rw (st.holds, words_back p f) in
-    record { says = ap written_says a ∙ written_says_lem p src (length out); answer = a; memory = m; back = back r a m }
+    record { says = ap says a ∙ written_says_lem p src (length out); answer = a; memory = m; back = back r a m }
   where
-    back : (r : Written) → r ≡ written_of p src (length out) → y ≡ out_after_of p src out → WrittenBack r p src y
-    back (Bytes n) a m =
+    back : (r : Result ℕ Refusal) → r ≡ written_of p src (length out) → y ≡ out_after_of p src out → WrittenBack r p src y
+    back (Ok n) a m =
         let g = wrote_says p src (length out) n a in
         after_reads p src out g.granted g.room n y g.size (typed_of p vs i (allowed_of p src g.granted)) m
-    back (Refused n) a m = tt
+    back (Err e) a m = tt
 
 -- ---- a record of a known kind
 

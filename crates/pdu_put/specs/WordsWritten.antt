@@ -1,26 +1,32 @@
--- Writing the record that words stand for: as that record is written, and 8 where they stand for none; a further number after these. Assumes nothing.
-use Rattle.std.specs.Prelude.{ℕ, List, ◌≡◌, length, eqb}
+-- Writing the record that words stand for: as that record is written, and outside their set where they stand for none; a further refusal after these. Assumes nothing.
+use Rattle.std.specs.Prelude.{ℕ, List, ◌≡◌, length, Option, Some, None, Result, Ok, Err}
 use Rattle.wire.specs.Tests.{pick}
-use Rattle.pdu.specs.declared.Written.{Written}
-use Rattle.pdu.specs.declared.Written.TheVariants.{Bytes, Refused}
+use Rattle.protocol.specs.declared.Refusal.{Refusal}
+use Rattle.protocol.specs.declared.Refusal.TheVariants.{OutsideSet}
 use Rattle.pdu.specs.Writing.{written_of, out_after_of}
 use Rattle.pdu_words.specs.FromWords.{stand, pdu_of}
 
-unfoldable pub words_written_of : List ℕ → List ℕ → ℕ → Written
-words_written_of w src n = pick (stand w) (written_of (pdu_of w) src n) (Refused 8)
+unfoldable pub words_written_of : List ℕ → List ℕ → ℕ → Result ℕ Refusal
+words_written_of w src n = pick (stand w) (written_of (pdu_of w) src n) (Err OutsideSet)
 
 unfoldable pub words_out_after : List ℕ → List ℕ → List ℕ → List ℕ
 words_out_after w src out = pick (stand w) (out_after_of (pdu_of w) src out) out
 
-pub record WordsOutcome (w src out : List ℕ) (r : Written) (out' : List ℕ) : Type 0 where
+pub record WordsOutcome (w src out : List ℕ) (r : Result ℕ Refusal) (out' : List ℕ) : Type 0 where
   pub answer : r ≡ words_written_of w src (length out)
   pub memory : out' ≡ words_out_after w src out
 
--- the same unless a further number k applies after those of the record, 0 for none
-unfoldable pub unless : ℕ → Written → Written
-unless k (Bytes n) = pick (eqb k 0) (Bytes n) (Refused k)
-unless k (Refused n) = Refused n
+-- the same unless a further refusal applies after those of the record
+unfoldable pub unless : Option Refusal → Result ℕ Refusal → Result ℕ Refusal
+unless None a = a
+unless (Some k) (Ok n) = Err k
+unless (Some k) (Err e) = Err e
 
-pub record UnlessOutcome (w src out : List ℕ) (k : ℕ) (r : Written) (out' : List ℕ) : Type 0 where
+-- the output memory out' after it, which is out where the further refusal applies
+unfoldable pub out_unless : Option Refusal → List ℕ → List ℕ → List ℕ
+out_unless None out' out = out'
+out_unless (Some k) out' out = out
+
+pub record UnlessOutcome (w src out : List ℕ) (k : Option Refusal) (r : Result ℕ Refusal) (out' : List ℕ) : Type 0 where
   pub answer : r ≡ unless k (words_written_of w src (length out))
-  pub memory : out' ≡ pick (eqb k 0) (words_out_after w src out) out
+  pub memory : out' ≡ out_unless k (words_out_after w src out) out

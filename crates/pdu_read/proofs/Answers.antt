@@ -1,39 +1,33 @@
 -- The words that reading leaves stand for the record, so that they and the number make the answer. Assumes nothing.
 use mathlib.Core.Path.{◌≡◌, refl, sym, ap, ◌∙◌, subst}
-use mathlib.Core.Bool.{Bool, true, false, not}
+use mathlib.Core.Bool.{true, false}
 use mathlib.Core.List.{List}
-use Prim.Native.Nat.{ℕ, suc, ◌+◌, ◌^◌, ◌≤◌, ◌<◌}
+use Prim.Native.Nat.{ℕ, suc, ◌+◌, ◌^◌, ◌≤◌}
 use native.Mathlib.Omega.{arith}
-use lib.ListN.{length}
-use lib.Dec.{leb, ltb, eqb}
-use borrow.Author.Tests.{le-leb, eqb-true}
-use Rattle.wire.specs.Tests.{pick}
+use lib.Dec.{leb}
+use borrow.Author.Tests.{le-leb}
 use Rattle.wire.specs.Numbers.{num_at, nums_at}
 use Rattle.wire.proofs.Tests.{Each, one_of_lem, not_not}
 use Rattle.wire.proofs.Numbers.{Bytes}
 use Rattle.signs.specs.TwosComplement.{signed, unsigned, holds, signed_at}
 use Rattle.signs.proofs.TwosComplement.{num_under, held_2, word_short}
 use Rattle.pdu.specs.declared.Pdu.{Pdu}
-use Rattle.pdu.specs.declared.Read.{Read}
-use Rattle.pdu.specs.declared.Read.TheVariants.{Message, Refused}
+use Rattle.std.specs.Prelude.{Result, Ok, Err}
+use Rattle.protocol.specs.declared.Refusal.{Refusal}
 use Rattle.pdu.specs.Layout.{types, known, widths}
 use Rattle.pdu.specs.declared.Rectangle.{Rectangle}
 use Rattle.pdu.specs.Settings.{high_contrast, known_setting}
 use Rattle.pdu.specs.Settings as S
-use Rattle.pdu.specs.Records.{is_yes, record_of, positions_of, size_of}
+use Rattle.pdu.specs.Records.{is_yes, record_of, positions_of}
 use Rattle.pdu.specs.RoundTrip.{all_hold}
-use Rattle.pdu.specs.Rules.{allowed}
-use Rattle.pdu.specs.Answers.{Answer}
-use Rattle.pdu.specs.Reading.{type_at, setting_at, record_as, unknown_setting, lengths_agree, body_number, read_number, answer_as, read_of}
-use Rattle.pdu.proofs.Answers.{read_says_lem}
+use Rattle.pdu.specs.Reading.{setting_at, record_as, unknown_setting, read_of}
 use Rattle.pdu.proofs.Settings.{by_shape, byte_is, area_is, scheme_is}
-use Rattle.pdu.proofs.WriteBack.{reading}
+use Rattle.pdu.proofs.WriteBack.{reading, err_no_ok}
 use Rattle.pdu_words.specs.Words.{words_of}
-use Rattle.pdu_read.specs.Told.{words_after, Told}
+use Rattle.pdu_read.specs.Told.{words_after, done, Reads}
 use Rattle.pdu_words.specs.FromWords.{u8, u16, u32, stand, Stands, pdu_of, fits}
 use Rattle.pdu_words.proofs.FromWords.{words_stand, words_back}
 use Rattle.pdu_words.proofs.FromWordsFit.{word_most, setting_fits, start_most}
-use Rattle.pdu_read.specs.Answers.{Answerable, answer_of}
 
 -- ---- the numbers of a record that was read fit their fields
 
@@ -95,64 +89,37 @@ module _ (s : List ℕ) (ok : Bytes s) where
       (λ u. rw (half 4, long 6, second, long 8, third, long 10), (λ u. rw (full 4, byte 8), (λ u. rw (full 4, half 8), (λ u. rw (full 4), (λ u. rw (full 4, full 8, full 12), (λ u. rw (full 4, word 8, word 10, word 12, word 14, stands 8, stands 10, stands 12, stands 14, place 8, place 10, place 12, place 14), (λ u. rw (full 4, start_most (is_yes (num_at 2 s 8)), half 10, word 12, word 14, stands 12, stands 14, place 12, place 14), (λ u. rw (full 4, half 8, half 10, word 12, word 14, half 16, half 18, half 20, half 22, stands 12, stands 14, place 12, place 14), (λ u. rw (full 4), (λ u. rw (full 4, word 8, word 10, stands 8, stands 10, place 8, place 10), (λ u. rw (full 4), (λ u. rw (full 4), (setting_fits_read, (λ u. rw (full 4, full 8), (λ u. rw (half 4, half 6, full 8, long 14), tt)))))))))))))))
 
   -- the record of each message that reading grants has numbers that fit their fields
-  read_fits : (p : Pdu) → read_of s ≡ Message p → fits p ≡ true
+  read_fits : (p : Pdu) → read_of s ≡ Ok p → fits p ≡ true
   unfolding known
   read_fits p e =
       let g = reading s p e in
       subst (λ (q : Pdu). fits q ≡ true) g.same_record_lem (one_of_lem Fits types (num_at 2 s 0) g.kind_known each_fits g.named)
 
--- the ladder's numbers
-pub number_small : (s : List ℕ) → read_number s < 256
-unfolding read_number body_number
-number_small s =
-    let p = record_as (type_at s) s in
-    go (ltb (length s) 4) (not (eqb (num_at 2 s 2) (length s))) (not (known (type_at s))) (unknown_setting (type_at s) s) (ltb (length s) 8) (not (eqb (size_of p) (length s))) (not (lengths_agree (type_at s) s)) (not (allowed p))
-  where
-    go : (a b d u v e g f : Bool) → pick a 2 (pick b 3 (pick d 4 (pick u (pick v 7 8) (pick e 7 (pick g 7 (pick f 8 0)))))) < 256
-    go true b d u v e g f = omega arith
-    go false true d u v e g f = omega arith
-    go false false true u v e g f = omega arith
-    go false false false true true e g f = omega arith
-    go false false false true false e g f = omega arith
-    go false false false false v true g f = omega arith
-    go false false false false v false true f = omega arith
-    go false false false false v false false true = omega arith
-    go false false false false v false false false = omega arith
-
 -- ---- the answer
 
-module _ {s lent words : List ℕ} {n : ℕ} (ok : Bytes s) (t : Told (read_of s) lent n words) where
-  is_number : n ≡ read_number s
-  is_number = t.answer ∙ ap (λ (a : Answer Pdu). a.number) (read_says_lem s)
+module _ {s lent words : List ℕ} {r : Result (Unit {0}) Refusal} (ok : Bytes s) (t : Reads (read_of s) lent r words) where
+  -- a record that was read, in words
+  pub record Read (p : Pdu) : Type 0 where
+    pub stands : Stands words
+    pub record_lem : pdu_of words ≡ p
 
-  module _ (z : n ≡ 0) where
-    is_message : read_of s ≡ Message (record_as (type_at s) s)
-    unfolding read_of answer_as
-    is_message = rw (sym is_number ∙ z)
+  pub read_back : {p : Pdu} → read_of s ≡ Ok p → Read p
+  unfolding words_after
+  read_back {p} e =
+      let f = read_fits s ok p e in
+      let w : words ≡ words_of p = t.memory ∙ ap (λ (a : Result Pdu Refusal). words_after a lent) e in
+      record { stands = subst Stands (sym w) (words_stand p f); record_lem = ap pdu_of w ∙ words_back p f }
 
-    are_words : words ≡ words_of (record_as (type_at s) s)
-    unfolding words_after
-    are_words = t.memory ∙ ap (λ (a : Read). words_after a lent) is_message
-
-  pub answerable : Answerable n words
-  answerable =
-      let p = record_as (type_at s) s in
-      record {
-        small = subst (λ (k : ℕ). k < 256) (sym is_number) (number_small s);
-        stands = λ z. subst Stands (sym (are_words z)) (words_stand p (read_fits s ok p (is_message z)));
-      }
-
-  refused : eqb n 0 ≡ false → Refused n ≡ read_of s
-  unfolding read_of answer_as
-  refused e = rw (← is_number, e)
-
-  pub answered : answer_of n words ≡ read_of s
-  unfolding answer_of
-  answered = go (eqb n 0) refl
+  pub is_granted : r ≡ Ok tt → Stands words × (Ok (pdu_of words) ≡ read_of s)
+  is_granted e = go (read_of s) refl (sym t.answer ∙ e)
     where
-      go : (b : Bool) → eqb n 0 ≡ b → pick (eqb n 0) (Message (pdu_of words)) (Refused n) ≡ read_of s
-      go true e =
-          let z = eqb-true n 0 e in
-          let p = record_as (type_at s) s in
-          rw e (ap Message (ap pdu_of (are_words z) ∙ words_back p (read_fits s ok p (is_message z))) ∙ sym (is_message z))
-      go false e = rw e (refused e)
+      go : (a : Result Pdu Refusal) → read_of s ≡ a → done a ≡ Ok tt → Stands words × (Ok (pdu_of words) ≡ read_of s)
+      go (Ok p) q d = let b = read_back q in (b.stands, ap Ok b.record_lem ∙ sym q)
+      go (Err x) q d = absurd (err_no_ok d)
+
+  pub is_refused : {x : Refusal} → r ≡ Err x → Err x ≡ read_of s
+  is_refused {x} e = go (read_of s) refl (sym t.answer ∙ e)
+    where
+      go : (a : Result Pdu Refusal) → read_of s ≡ a → done a ≡ Err x → Err x ≡ read_of s
+      go (Ok p) q d = absurd (err_no_ok (sym d))
+      go (Err y) q d = let z : y ≡ x = cc in ap Err (sym z) ∙ sym q

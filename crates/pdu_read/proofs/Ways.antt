@@ -11,18 +11,19 @@ use Rattle.wire.specs.Numbers.{num_at, nums_at}
 use Rattle.wire.proofs.Numbers.{Bytes}
 use Rattle.pdu.specs.declared.Pdu.{Pdu}
 use Rattle.pdu.specs.declared.Pdu.TheVariants.{Execute, Activate, SystemCommand, Handshake, NotifyEvent, ClientInformation, GetApplicationId, ApplicationIdResponse, ExecuteResult, SystemParameters, HandshakeEx}
-use Rattle.pdu.specs.declared.Read.{Read}
-use Rattle.pdu.specs.declared.Read.TheVariants.{Message, Refused}
+use Rattle.std.specs.Prelude.{Result, Ok, Err}
+use Rattle.protocol.specs.declared.Refusal.{Refusal}
+use Rattle.protocol.specs.declared.Refusal.TheVariants.{TooShort, LengthDiffers, UnknownType, NotFilled, OutsideSet}
+use Rattle.protocol.specs.Refusals.{says}
 use Rattle.pdu.specs.Layout.{known, widths}
 use Rattle.pdu.specs.Settings.{is_byte, is_area, high_contrast, known_setting, Data, data_of, setting_with, data_at, data_size, data_allowed, setting_widths}
 use Rattle.pdu.specs.Records.{span, is_yes, yes_number, record_of, size_of}
 use Rattle.signs.specs.TwosComplement.{unsigned, signed_at}
 use Rattle.pdu.specs.Rules.{allowed}
-use Rattle.pdu.specs.Answers.{read_says}
-use Rattle.pdu.specs.Reading.{record_as, unknown_setting, lengths_agree, body_number, read_number, answer_as, read_of, body_of}
+use Rattle.pdu.specs.Reading.{record_as, unknown_setting, lengths_agree, read_of, body_of}
 use Rattle.pdu.specs.RoundTrip.{ReadAgain, ReadOutcome}
 use Rattle.pdu_words.specs.Words.{setting_words, words_of}
-use Rattle.pdu_read.specs.Told.{words_after, Told}
+use Rattle.pdu_read.specs.Told.{words_after, Reads}
 use Rattle.pdu.proofs.Answers.{read_says_lem}
 use Rattle.pdu.proofs.Settings.{Shape, made, shape_known, byte_other, area_other, least_size}
 use Rattle.pdu.proofs.WriteBack.{writes_back}
@@ -105,21 +106,21 @@ module _ (s : List ℕ) where
 
 -- of a message whose setting, if it has one, is known
 module _ (k : ℕ) (s : List ℕ) (u : unknown_setting k s ≡ false) where
-  named_unfilled : (size_of (record_as k s) ≡ length s → ⊥) → Refused 7 ≡ body_of k s
-  unfolding body_of body_number answer_as
+  named_unfilled : (size_of (record_as k s) ≡ length s → ⊥) → Err NotFilled ≡ body_of k s
+  unfolding body_of
   named_unfilled h = rw (u, ne_eqb (size_of (record_as k s)) (length s) h)
 
   module _ (p : Pdu) (r : record_as k s ≡ p) (z : size_of p ≡ length s) where
-    named-apart : lengths_agree k s ≡ false → Refused 7 ≡ body_of k s
-    unfolding body_of body_number answer_as
+    named-apart : lengths_agree k s ≡ false → Err NotFilled ≡ body_of k s
+    unfolding body_of
     named-apart a = rw (u, r, eq-eqb (size_of p) (length s) z, a)
 
-    named-outside : lengths_agree k s ≡ true → allowed p ≡ false → Refused 8 ≡ body_of k s
-    unfolding body_of body_number answer_as
+    named-outside : lengths_agree k s ≡ true → allowed p ≡ false → Err OutsideSet ≡ body_of k s
+    unfolding body_of
     named-outside a w = rw (u, r, eq-eqb (size_of p) (length s) z, a, w)
 
-    named-fine : lengths_agree k s ≡ true → allowed p ≡ true → Message p ≡ body_of k s
-    unfolding body_of body_number answer_as
+    named-fine : lengths_agree k s ≡ true → allowed p ≡ true → Ok p ≡ body_of k s
+    unfolding body_of
     named-fine a w = rw (u, r, eq-eqb (size_of p) (length s) z, a, w)
 
 -- of a type that has no settings
@@ -130,28 +131,28 @@ module _ (k : ℕ) (n : eqb k 0x03 ≡ false) (s : List ℕ) where
   no_lengths : lengths_agree k s ≡ true
   no_lengths = rw n
 
-  pub unfilled : (size_of (record_as k s) ≡ length s → ⊥) → Refused 7 ≡ body_of k s
+  pub unfilled : (size_of (record_as k s) ≡ length s → ⊥) → Err NotFilled ≡ body_of k s
   unfilled h = named_unfilled k s no_setting h
 
   module _ (p : Pdu) (r : record_as k s ≡ p) (z : size_of p ≡ length s) where
-    pub outside : allowed p ≡ false → Refused 8 ≡ body_of k s
+    pub outside : allowed p ≡ false → Err OutsideSet ≡ body_of k s
     outside w = named-outside k s no_setting p r z no_lengths w
 
-    pub fine : allowed p ≡ true → Message p ≡ body_of k s
+    pub fine : allowed p ≡ true → Ok p ≡ body_of k s
     fine w = named-fine k s no_setting p r z no_lengths w
 
 -- ---- what is told of an answer in words
 
-pub told_refused : {a : Read} {n : ℕ} {words : List ℕ} → Refused n ≡ a → Told a words n words
-unfolding read_says words_after
-told_refused {n = n} {words = words} e = subst (λ (a : Read). Told a words n words) e (record { answer = refl; memory = refl })
+pub told_refused : {a : Result Pdu Refusal} {r : Refusal} {words : List ℕ} → Err r ≡ a → Reads a words (Err r) words
+unfolding words_after
+told_refused {r = r} {words = words} e = subst (λ (a : Result Pdu Refusal). Reads a words (Err r) words) e (record { answer = refl; memory = refl })
 
-pub told_message : {a : Read} {p : Pdu} {words ws : List ℕ} → Message p ≡ a → ws ≡ words_of p → Told a words 0 ws
-unfolding read_says words_after
-told_message {words = words} {ws = ws} e w = subst (λ (a : Read). Told a words 0 ws) e (record { answer = refl; memory = w })
+pub told_message : {a : Result Pdu Refusal} {p : Pdu} {words ws : List ℕ} → Ok p ≡ a → ws ≡ words_of p → Reads a words (Ok tt) ws
+unfolding words_after
+told_message {words = words} {ws = ws} e w = subst (λ (a : Result Pdu Refusal). Reads a words (Ok tt) ws) e (record { answer = refl; memory = w })
 
-pub told_as : {a b : Read} {n : ℕ} {words ws : List ℕ} → a ≡ b → Told a words n ws → Told b words n ws
-told_as {n = n} {words = words} {ws = ws} e w = subst (λ (r : Read). Told r words n ws) e w
+pub told_as : {a b : Result Pdu Refusal} {r : Result (Unit {0}) Refusal} {words ws : List ℕ} → a ≡ b → Reads a words r ws → Reads b words r ws
+told_as {r = r} {words = words} {ws = ws} e w = subst (λ (a : Result Pdu Refusal). Reads a words r ws) e w
 
 -- ---- system parameters
 
@@ -162,21 +163,21 @@ small_size s h q =
     let d = data_of (setting_with (get_or n 0 0) (data_at (get_or n 0 0) n)) in
     omega (arith, least_size d, q)
 
-cut_unknown : (s : List ℕ) → length s < 8 → known_setting (num_at 4 s 4) ≡ false → Refused 7 ≡ body_of 0x03 s
-unfolding body_of body_number answer_as
+cut_unknown : (s : List ℕ) → length s < 8 → known_setting (num_at 4 s 4) ≡ false → Err NotFilled ≡ body_of 0x03 s
+unfolding body_of
 cut_unknown s h e = rw (e, lt-ltb (length s) 8 h)
 
 module _ (s : List ℕ) where
   -- without the four bytes that name a setting; with those of none
-  pub setting_cut : length s < 8 → Refused 7 ≡ body_of 0x03 s
+  pub setting_cut : length s < 8 → Err NotFilled ≡ body_of 0x03 s
   setting_cut h = go (known_setting (num_at 4 s 4)) refl
     where
-      go : (b : Bool) → known_setting (num_at 4 s 4) ≡ b → Refused 7 ≡ body_of 0x03 s
+      go : (b : Bool) → known_setting (num_at 4 s 4) ≡ b → Err NotFilled ≡ body_of 0x03 s
       go true e = named_unfilled 0x03 s (rw e) (λ q. small_size s h q)
       go false e = cut_unknown s h e
 
-  pub setting_unknown : {c : ℕ} → c ≡ num_at 4 s 4 → 8 ≤ length s → is_byte c ≡ false → is_area c ≡ false → (c ≡ high_contrast → ⊥) → Refused 8 ≡ body_of 0x03 s
-  unfolding body_of body_number answer_as known_setting
+  pub setting_unknown : {c : ℕ} → c ≡ num_at 4 s 4 → 8 ≤ length s → is_byte c ≡ false → is_area c ≡ false → (c ≡ high_contrast → ⊥) → Err OutsideSet ≡ body_of 0x03 s
+  unfolding body_of known_setting
   setting_unknown {c} q l f g n = rw (← q, f, g, ne_eqb c high_contrast n, le-ltb (length s) 8 l)
 
   pub byte_agrees : {c : ℕ} → c ≡ num_at 4 s 4 → is_byte c ≡ true → lengths_agree 0x03 s ≡ true
@@ -208,42 +209,42 @@ module _ (s : List ℕ) where
     unfolding words_of
     words_are = let m = made c d h in rw (m.number, m.body)
 
-    pub data_unfilled : (data_size d ≡ length s → ⊥) → Refused 7 ≡ body_of 0x03 s
+    pub data_unfilled : (data_size d ≡ length s → ⊥) → Err NotFilled ≡ body_of 0x03 s
     data_unfilled n = named_unfilled 0x03 s named (λ z. n (sym size-of ∙ sym (ap size_of r) ∙ z))
 
     module _ (z : data_size d ≡ length s) where
-      pub data_apart : lengths_agree 0x03 s ≡ false → Refused 7 ≡ body_of 0x03 s
+      pub data_apart : lengths_agree 0x03 s ≡ false → Err NotFilled ≡ body_of 0x03 s
       data_apart a = named-apart 0x03 s named (SystemParameters (record { setting = setting_with c d })) r (size-of ∙ z) a
 
-      pub data_outside : lengths_agree 0x03 s ≡ true → data_allowed d ≡ false → Refused 8 ≡ body_of 0x03 s
+      pub data_outside : lengths_agree 0x03 s ≡ true → data_allowed d ≡ false → Err OutsideSet ≡ body_of 0x03 s
       data_outside a w = named-outside 0x03 s named (SystemParameters (record { setting = setting_with c d })) r (size-of ∙ z) a (allowed-is ∙ w)
 
-      pub data_fine : {words ws : List ℕ} → lengths_agree 0x03 s ≡ true → data_allowed d ≡ true → ws ≡ setting_words c d → Told (body_of 0x03 s) words 0 ws
+      pub data_fine : {words ws : List ℕ} → lengths_agree 0x03 s ≡ true → data_allowed d ≡ true → ws ≡ setting_words c d → Reads (body_of 0x03 s) words (Ok tt) ws
       data_fine a w e = told_message (named-fine 0x03 s named (SystemParameters (record { setting = setting_with c d })) r (size-of ∙ z) a (allowed-is ∙ w)) (e ∙ words_are)
 
 -- ---- the ways through reading
 
-again : (s : List ℕ) (r : Read) → Bytes s → r ≡ read_of s → ReadAgain r s
-again s (Message p) ok e = writes_back s p ok (sym e)
-again s (Refused n) ok e = tt
+again : (s : List ℕ) (r : Result Pdu Refusal) → Bytes s → r ≡ read_of s → ReadAgain r s
+again s (Ok p) ok e = writes_back s p ok (sym e)
+again s (Err r) ok e = tt
 
-pub outcome : (s : List ℕ) (r : Read) → Bytes s → r ≡ read_of s → ReadOutcome s r
-outcome s r ok e = record { says = ap read_says e ∙ read_says_lem s; answer = e; again = again s r ok e }
+pub outcome : (s : List ℕ) (r : Result Pdu Refusal) → Bytes s → r ≡ read_of s → ReadOutcome s r
+outcome s r ok e = record { says = ap says e ∙ read_says_lem s; answer = e; again = again s r ok e }
 
 module _ (s : List ℕ) where
-  pub short : length s < 4 → Refused 2 ≡ read_of s
-  unfolding read_of read_number answer_as
+  pub short : length s < 4 → Err TooShort ≡ read_of s
+  unfolding read_of
   short h = rw (lt-ltb (length s) 4 h)
 
-  pub other_length : (n : ℕ) → n ≡ num_at 2 s 2 → 4 ≤ length s → (n ≡ length s → ⊥) → Refused 3 ≡ read_of s
-  unfolding read_of read_number answer_as
+  pub other_length : (n : ℕ) → n ≡ num_at 2 s 2 → 4 ≤ length s → (n ≡ length s → ⊥) → Err LengthDiffers ≡ read_of s
+  unfolding read_of
   other_length n e t h = rw (le-ltb (length s) 4 t, ← e, ne_eqb n (length s) h)
 
   module _ (n m : ℕ) (e : n ≡ num_at 2 s 2) (t : 4 ≤ length s) (w : n ≡ length s) (q : m ≡ num_at 2 s 0) where
-    pub unknown : known m ≡ false → Refused 4 ≡ read_of s
-    unfolding read_of read_number answer_as
+    pub unknown : known m ≡ false → Err UnknownType ≡ read_of s
+    unfolding read_of
     unknown u = rw (le-ltb (length s) 4 t, ← e, eq-eqb n (length s) w, ← q, u)
 
     pub body : (k : ℕ) → m ≡ k → known k ≡ true → body_of k s ≡ read_of s
-    unfolding read_of read_number body_of
+    unfolding read_of
     body k i u = rw (le-ltb (length s) 4 t, ← e, eq-eqb n (length s) w, ← q, i, u)

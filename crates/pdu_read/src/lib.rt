@@ -6,27 +6,27 @@ ghost use Rattle.wire.specs.Numbers.{num_at};
 ghost use Rattle.pdu.specs.Settings.{is_byte, is_area, high_contrast};
 ghost use Rattle.pdu.specs.Records.{is_yes, yes_number};
 ghost use Rattle.pdu.specs.Reading.{body_of, read_of};
-ghost use Rattle.pdu_read.specs.Told.{Told};
+ghost use Rattle.pdu_read.specs.Told.{Reads, Told};
 
 use pdu::{
     Activate, ApplicationIdResponse, ClientInformation, Execute, ExecuteResult, GetApplicationId,
     Handshake, HandshakeEx, HighContrast, NotifyEvent, Rectangle, Span, SystemCommand,
 };
-use protocol::{NotifyIconId, WindowId};
+use protocol::{NotifyIconId, Refusal, WindowId};
 
 // ---- the words of a message of each type, whose declared length is right
 
-fn read_execute(s: &[u8], words: &mut [u32; 12]) -> u32
-    ensures { Told (body_of 0x01 s.now) words.old result words.new }
+fn read_execute(s: &[u8], words: &mut [u32; 12]) -> Result<(), Refusal>
+    ensures { Reads (body_of 0x01 s.now) words.old result words.new }
 {
     if s.len() < 12 {
-        return 7;
+        return Err(Refusal::NotFilled);
     }
     let a = wire::read_u16(s, 6) as u32;
     let b = wire::read_u16(s, 8) as u32;
     let c = wire::read_u16(s, 10) as u32;
     if (12 + a + b + c) as usize != s.len() {
-        return 7;
+        return Err(Refusal::NotFilled);
     }
     let e = Execute {
         flags: wire::read_u16(s, 4),
@@ -38,17 +38,17 @@ fn read_execute(s: &[u8], words: &mut [u32; 12]) -> u32
         },
     };
     if !pdu_rule::execute_allowed(e) {
-        return 8;
+        return Err(Refusal::OutsideSet);
     }
     pdu_to_words::execute_words(words, e);
-    0
+    Ok(())
 }
 
-fn read_activate(s: &[u8], words: &mut [u32; 12]) -> u32
-    ensures { Told (body_of 0x02 s.now) words.old result words.new }
+fn read_activate(s: &[u8], words: &mut [u32; 12]) -> Result<(), Refusal>
+    ensures { Reads (body_of 0x02 s.now) words.old result words.new }
 {
     if s.len() != 9 {
-        return 7;
+        return Err(Refusal::NotFilled);
     }
     let e = Activate {
         window_id: WindowId {
@@ -57,17 +57,17 @@ fn read_activate(s: &[u8], words: &mut [u32; 12]) -> u32
         enabled: wire::read_u8(s, 8),
     };
     if !pdu_rule::activate_allowed(e) {
-        return 8;
+        return Err(Refusal::OutsideSet);
     }
     pdu_to_words::activate_words(words, e);
-    0
+    Ok(())
 }
 
-fn read_system_command(s: &[u8], words: &mut [u32; 12]) -> u32
-    ensures { Told (body_of 0x04 s.now) words.old result words.new }
+fn read_system_command(s: &[u8], words: &mut [u32; 12]) -> Result<(), Refusal>
+    ensures { Reads (body_of 0x04 s.now) words.old result words.new }
 {
     if s.len() != 10 {
-        return 7;
+        return Err(Refusal::NotFilled);
     }
     let e = SystemCommand {
         window_id: WindowId {
@@ -76,30 +76,30 @@ fn read_system_command(s: &[u8], words: &mut [u32; 12]) -> u32
         command: wire::read_u16(s, 8),
     };
     if !pdu_rule::system_command_allowed(e) {
-        return 8;
+        return Err(Refusal::OutsideSet);
     }
     pdu_to_words::system_command_words(words, e);
-    0
+    Ok(())
 }
 
-fn read_handshake(s: &[u8], words: &mut [u32; 12]) -> u32
-    ensures { Told (body_of 0x05 s.now) words.old result words.new }
+fn read_handshake(s: &[u8], words: &mut [u32; 12]) -> Result<(), Refusal>
+    ensures { Reads (body_of 0x05 s.now) words.old result words.new }
 {
     if s.len() != 8 {
-        return 7;
+        return Err(Refusal::NotFilled);
     }
     let e = Handshake {
         build_number: wire::read_u32(s, 4),
     };
     pdu_to_words::handshake_words(words, e);
-    0
+    Ok(())
 }
 
-fn read_notify_event(s: &[u8], words: &mut [u32; 12]) -> u32
-    ensures { Told (body_of 0x06 s.now) words.old result words.new }
+fn read_notify_event(s: &[u8], words: &mut [u32; 12]) -> Result<(), Refusal>
+    ensures { Reads (body_of 0x06 s.now) words.old result words.new }
 {
     if s.len() != 16 {
-        return 7;
+        return Err(Refusal::NotFilled);
     }
     let e = NotifyEvent {
         window_id: WindowId {
@@ -111,14 +111,14 @@ fn read_notify_event(s: &[u8], words: &mut [u32; 12]) -> u32
         message: wire::read_u32(s, 12),
     };
     pdu_to_words::notify_event_words(words, e);
-    0
+    Ok(())
 }
 
-fn read_window_move(s: &[u8], words: &mut [u32; 12]) -> u32
-    ensures { Told (body_of 0x08 s.now) words.old result words.new }
+fn read_window_move(s: &[u8], words: &mut [u32; 12]) -> Result<(), Refusal>
+    ensures { Reads (body_of 0x08 s.now) words.old result words.new }
 {
     if s.len() != 16 {
-        return 7;
+        return Err(Refusal::NotFilled);
     }
     let id = wire::read_u32(s, 4);
     let left = signs::read_word(s, 8);
@@ -126,7 +126,7 @@ fn read_window_move(s: &[u8], words: &mut [u32; 12]) -> u32
     let right = signs::read_word(s, 12);
     let bottom = signs::read_word(s, 14);
     pdu_to_words::four_words(words, 0x08, id, left, top, right, bottom);
-    0
+    Ok(())
 }
 
 // Any number but 0 is a start.
@@ -139,29 +139,29 @@ fn start_number(n: u16) -> u32
     1
 }
 
-fn read_move_size(s: &[u8], words: &mut [u32; 12]) -> u32
-    ensures { Told (body_of 0x09 s.now) words.old result words.new }
+fn read_move_size(s: &[u8], words: &mut [u32; 12]) -> Result<(), Refusal>
+    ensures { Reads (body_of 0x09 s.now) words.old result words.new }
 {
     if s.len() != 16 {
-        return 7;
+        return Err(Refusal::NotFilled);
     }
     let kind = wire::read_u16(s, 10);
     if !pdu_rule::move_size_type_allowed(kind) {
-        return 8;
+        return Err(Refusal::OutsideSet);
     }
     let id = wire::read_u32(s, 4);
     let start = start_number(wire::read_u16(s, 8));
     let x = signs::read_word(s, 12);
     let y = signs::read_word(s, 14);
     pdu_to_words::four_words(words, 0x09, id, start, kind as u32, x, y);
-    0
+    Ok(())
 }
 
-fn read_min_max_info(s: &[u8], words: &mut [u32; 12]) -> u32
-    ensures { Told (body_of 0x0A s.now) words.old result words.new }
+fn read_min_max_info(s: &[u8], words: &mut [u32; 12]) -> Result<(), Refusal>
+    ensures { Reads (body_of 0x0A s.now) words.old result words.new }
 {
     if s.len() != 24 {
-        return 7;
+        return Err(Refusal::NotFilled);
     }
     let id = wire::read_u32(s, 4);
     let width = wire::read_u16(s, 8) as u32;
@@ -174,40 +174,40 @@ fn read_min_max_info(s: &[u8], words: &mut [u32; 12]) -> u32
     let d = wire::read_u16(s, 22) as u32;
     pdu_to_words::four_words(words, 0x0A, id, width, height, pos_x, pos_y);
     pdu_to_words::track_words(words, a, b, c, d);
-    0
+    Ok(())
 }
 
-fn read_client_information(s: &[u8], words: &mut [u32; 12]) -> u32
-    ensures { Told (body_of 0x0B s.now) words.old result words.new }
+fn read_client_information(s: &[u8], words: &mut [u32; 12]) -> Result<(), Refusal>
+    ensures { Reads (body_of 0x0B s.now) words.old result words.new }
 {
     if s.len() != 8 {
-        return 7;
+        return Err(Refusal::NotFilled);
     }
     let e = ClientInformation {
         flags: wire::read_u32(s, 4),
     };
     pdu_to_words::client_information_words(words, e);
-    0
+    Ok(())
 }
 
-fn read_system_menu(s: &[u8], words: &mut [u32; 12]) -> u32
-    ensures { Told (body_of 0x0C s.now) words.old result words.new }
+fn read_system_menu(s: &[u8], words: &mut [u32; 12]) -> Result<(), Refusal>
+    ensures { Reads (body_of 0x0C s.now) words.old result words.new }
 {
     if s.len() != 12 {
-        return 7;
+        return Err(Refusal::NotFilled);
     }
     let id = wire::read_u32(s, 4);
     let left = signs::read_word(s, 8);
     let top = signs::read_word(s, 10);
     pdu_to_words::four_words(words, 0x0C, id, left, top, 0, 0);
-    0
+    Ok(())
 }
 
-fn read_get_application_id(s: &[u8], words: &mut [u32; 12]) -> u32
-    ensures { Told (body_of 0x0E s.now) words.old result words.new }
+fn read_get_application_id(s: &[u8], words: &mut [u32; 12]) -> Result<(), Refusal>
+    ensures { Reads (body_of 0x0E s.now) words.old result words.new }
 {
     if s.len() != 8 {
-        return 7;
+        return Err(Refusal::NotFilled);
     }
     let e = GetApplicationId {
         window_id: WindowId {
@@ -215,14 +215,14 @@ fn read_get_application_id(s: &[u8], words: &mut [u32; 12]) -> u32
         },
     };
     pdu_to_words::get_application_id_words(words, e);
-    0
+    Ok(())
 }
 
-fn read_application_id_response(s: &[u8], words: &mut [u32; 12]) -> u32
-    ensures { Told (body_of 0x0F s.now) words.old result words.new }
+fn read_application_id_response(s: &[u8], words: &mut [u32; 12]) -> Result<(), Refusal>
+    ensures { Reads (body_of 0x0F s.now) words.old result words.new }
 {
     if s.len() != 528 {
-        return 7;
+        return Err(Refusal::NotFilled);
     }
     let e = ApplicationIdResponse {
         window_id: WindowId {
@@ -231,18 +231,18 @@ fn read_application_id_response(s: &[u8], words: &mut [u32; 12]) -> u32
         application_id: Span { at: 8, len: 520 },
     };
     pdu_to_words::application_id_response_words(words, e);
-    0
+    Ok(())
 }
 
-fn read_execute_result(s: &[u8], words: &mut [u32; 12]) -> u32
-    ensures { Told (body_of 0x80 s.now) words.old result words.new }
+fn read_execute_result(s: &[u8], words: &mut [u32; 12]) -> Result<(), Refusal>
+    ensures { Reads (body_of 0x80 s.now) words.old result words.new }
 {
     if s.len() < 16 {
-        return 7;
+        return Err(Refusal::NotFilled);
     }
     let a = wire::read_u16(s, 14) as u32;
     if (16 + a) as usize != s.len() {
-        return 7;
+        return Err(Refusal::NotFilled);
     }
     let e = ExecuteResult {
         flags: wire::read_u16(s, 4),
@@ -251,31 +251,31 @@ fn read_execute_result(s: &[u8], words: &mut [u32; 12]) -> u32
         exe_or_file: Span { at: 16, len: a },
     };
     if !pdu_rule::execute_result_allowed(e) {
-        return 8;
+        return Err(Refusal::OutsideSet);
     }
     pdu_to_words::execute_result_words(words, e);
-    0
+    Ok(())
 }
 
 // System parameters by the shape of the body: one byte, a rectangle, a color scheme.
-fn read_byte_setting(s: &[u8], number: u32, words: &mut [u32; 12]) -> u32
+fn read_byte_setting(s: &[u8], number: u32, words: &mut [u32; 12]) -> Result<(), Refusal>
     requires { (number ≡ num_at 4 s.now 4) × (is_byte number ≡ true) }
-    ensures { Told (body_of 0x03 s.now) words.old result words.new }
+    ensures { Reads (body_of 0x03 s.now) words.old result words.new }
 {
     if s.len() != 9 {
-        return 7;
+        return Err(Refusal::NotFilled);
     }
     let value = wire::read_u8(s, 8);
     pdu_to_words::byte_setting_words(words, number, value);
-    0
+    Ok(())
 }
 
-fn read_area_setting(s: &[u8], number: u32, words: &mut [u32; 12]) -> u32
+fn read_area_setting(s: &[u8], number: u32, words: &mut [u32; 12]) -> Result<(), Refusal>
     requires { (number ≡ num_at 4 s.now 4) × (is_byte number ≡ false) × (is_area number ≡ true) }
-    ensures { Told (body_of 0x03 s.now) words.old result words.new }
+    ensures { Reads (body_of 0x03 s.now) words.old result words.new }
 {
     if s.len() != 16 {
-        return 7;
+        return Err(Refusal::NotFilled);
     }
     let place = Rectangle {
         left: wire::read_u16(s, 8),
@@ -284,40 +284,40 @@ fn read_area_setting(s: &[u8], number: u32, words: &mut [u32; 12]) -> u32
         bottom: wire::read_u16(s, 14),
     };
     pdu_to_words::area_setting_words(words, number, place);
-    0
+    Ok(())
 }
 
 // The outer length of a color scheme takes in the inner one, 2 bytes.
-fn read_high_contrast(s: &[u8], words: &mut [u32; 12]) -> u32
+fn read_high_contrast(s: &[u8], words: &mut [u32; 12]) -> Result<(), Refusal>
     requires { high_contrast ≡ num_at 4 s.now 4 }
-    ensures { Told (body_of 0x03 s.now) words.old result words.new }
+    ensures { Reads (body_of 0x03 s.now) words.old result words.new }
 {
     if s.len() < 18 {
-        return 7;
+        return Err(Refusal::NotFilled);
     }
     let n = wire::read_u16(s, 16) as u32;
     if (18 + n) as usize != s.len() {
-        return 7;
+        return Err(Refusal::NotFilled);
     }
     if wire::read_u32(s, 12) != n + 2 {
-        return 7;
+        return Err(Refusal::NotFilled);
     }
     let e = HighContrast {
         flags: wire::read_u32(s, 8),
         color_scheme: Span { at: 18, len: n },
     };
     if !pdu_rule::high_contrast_allowed(e) {
-        return 8;
+        return Err(Refusal::OutsideSet);
     }
     pdu_to_words::high_contrast_words(words, e);
-    0
+    Ok(())
 }
 
-fn read_system_parameters(s: &[u8], words: &mut [u32; 12]) -> u32
-    ensures { Told (body_of 0x03 s.now) words.old result words.new }
+fn read_system_parameters(s: &[u8], words: &mut [u32; 12]) -> Result<(), Refusal>
+    ensures { Reads (body_of 0x03 s.now) words.old result words.new }
 {
     if s.len() < 8 {
-        return 7;
+        return Err(Refusal::NotFilled);
     }
     let number = wire::read_u32(s, 4);
     if pdu_rule::is_byte_setting(number) {
@@ -329,34 +329,34 @@ fn read_system_parameters(s: &[u8], words: &mut [u32; 12]) -> u32
     if number == 0x43 {
         return read_high_contrast(s, words);
     }
-    8
+    Err(Refusal::OutsideSet)
 }
 
-fn read_handshake_ex(s: &[u8], words: &mut [u32; 12]) -> u32
-    ensures { Told (body_of 0x13 s.now) words.old result words.new }
+fn read_handshake_ex(s: &[u8], words: &mut [u32; 12]) -> Result<(), Refusal>
+    ensures { Reads (body_of 0x13 s.now) words.old result words.new }
 {
     if s.len() != 12 {
-        return 7;
+        return Err(Refusal::NotFilled);
     }
     let e = HandshakeEx {
         build_number: wire::read_u32(s, 4),
         flags: wire::read_u32(s, 8),
     };
     pdu_to_words::handshake_ex_words(words, e);
-    0
+    Ok(())
 }
 
 // ---- any message
 
-// The number of a message, and the words of its record where that is 0; its strings are where they stand in it.
-pub fn read_words(message: &[u8], words: &mut [u32; 12]) -> u32
-    ensures { Told (read_of message.now) words.old result words.new }
+// The words of the record of a message, its strings where they stand in it, or the first refusal.
+pub fn read(message: &[u8], words: &mut [u32; 12]) -> Result<(), Refusal>
+    ensures { Reads (read_of message.now) words.old result words.new }
 {
     if message.len() < 4 {
-        return 2;
+        return Err(Refusal::TooShort);
     }
     if wire::read_u16(message, 2) as usize != message.len() {
-        return 3;
+        return Err(Refusal::LengthDiffers);
     }
     let kind = wire::read_u16(message, 0);
     // a copy of the slice: the readers' calls take its address, and message itself stays in registers
@@ -377,6 +377,16 @@ pub fn read_words(message: &[u8], words: &mut [u32; 12]) -> u32
         0x03 => read_system_parameters(whole, words),
         0x13 => read_handshake_ex(whole, words),
         0x80 => read_execute_result(whole, words),
-        _ => 4,
+        _ => Err(Refusal::UnknownType),
+    }
+}
+
+// The same with the number of the refusal, 0 for none.
+pub fn read_words(message: &[u8], words: &mut [u32; 12]) -> u32
+    ensures { Told (read_of message.now) words.old result words.new }
+{
+    match read(message, words) {
+        Ok(()) => 0,
+        Err(refusal) => u32::from(refusal),
     }
 }

@@ -5,146 +5,112 @@ use mathlib.Core.List.{List}
 use Prim.Native.Nat.{ℕ}
 use native.Mathlib.Omega.{arith}
 use lib.ListN.{length}
-use lib.Dec.{eqb}
+use Rattle.std.specs.Prelude.{Option, Some, None, Result, Ok, Err}
 use Rattle.wire.specs.Tests.{pick}
+use Rattle.protocol.specs.declared.Refusal.{Refusal}
+use Rattle.protocol.specs.declared.Refusal.TheVariants.{WrongEnd, NotPermitted}
 use Rattle.pdu.specs.declared.Pdu.{Pdu}
-use Rattle.pdu.specs.declared.Read.{Read}
-use Rattle.pdu.specs.declared.Read.TheVariants as R
-use Rattle.pdu.specs.declared.Written.{Written}
-use Rattle.pdu.specs.declared.Written.TheVariants as W
-use Rattle.pdu.specs.Layout.{one_of}
-use Rattle.pdu.specs.Records.{size_of}
 use Rattle.pdu.specs.Reading.{read_of}
-use Rattle.pdu.specs.Writing.{written_number, written_of, out_after_of}
+use Rattle.pdu.specs.Writing.{encode, written_of, out_with, out_after_of}
+use Rattle.pdu.proofs.WriteBack.{err_no_ok}
+use Rattle.pdu_put.specs.WordsWritten.{unless}
 use Rattle.profile.specs.Ends.{reads, writes}
 use Rattle.profile.specs.Programs.{permitted}
-use Rattle.profile.specs.Counter.{passed, counter_read, verdict, counter_number, counter_written, counter_out}
-use Rattle.profile.specs.Plain.{counter_numbers, PassesPlain}
+use Rattle.profile.specs.Counter.{passed, counter_read, verdict, counter_written, counter_out}
+use Rattle.profile.specs.Plain.{is_own, PassesPlain}
+
+-- a refusal that is the profile's own and is not
+own_apart : {x e : Refusal} → is_own x ≡ true → x ≡ e → is_own e ≡ false → ⊥
+own_apart o q f =
+    let z : ◌≡◌ {A = Bool} true false = sym o ∙ ap is_own q ∙ f in
+    let z : ◌≡◌ {A = ℕ} 0 1 = cc in absurd (omega arith)
+
+err_inj : {A : Type 0} {x e : Refusal} → ◌≡◌ {A = Result A Refusal} (Err x) (Err e) → x ≡ e
+err_inj q = cc
 
 -- ---- reading
 
-passed_message : (a : Read) (p : Pdu) → passed a ≡ R.Message p → a ≡ R.Message p
+passed_message : (a : Result Pdu Refusal) (p : Pdu) → passed a ≡ Ok p → a ≡ Ok p
 unfolding passed
-passed_message (R.Message q) p e = go (reads q) e
+passed_message (Ok q) p e = go (reads q) e
   where
-    go : (b : Bool) → pick b (R.Message q) (R.Refused 20) ≡ R.Message p → R.Message q ≡ R.Message p
+    go : (b : Bool) → pick b (Ok q) (Err WrongEnd) ≡ Ok p → ◌≡◌ {A = Result Pdu Refusal} (Ok q) (Ok p)
     go true e = e
-    go false e = let z : ◌≡◌ {A = ℕ} 0 1 = cc in absurd (omega arith)
-passed_message (R.Refused n) p e = e
+    go false e = absurd (err_no_ok e)
+passed_message (Err x) p e = e
 
-passed_refused : (a : Read) (n : ℕ) → one_of n counter_numbers ≡ false → passed a ≡ R.Refused n → a ≡ R.Refused n
+passed_refused : (a : Result Pdu Refusal) (e : Refusal) → is_own e ≡ false → passed a ≡ Err e → a ≡ Err e
 unfolding passed
-passed_refused (R.Message q) n h e = go (reads q) e
+passed_refused (Ok q) e h z = go (reads q) z
   where
-    go : (b : Bool) → pick b (R.Message q) (R.Refused 20) ≡ R.Refused n → R.Message q ≡ R.Refused n
-    go true e = e
-    go false e =
-        let q : n ≡ 20 = cc in
-        let z : ◌≡◌ {A = Bool} true false = rw q at h in
-        let z : ◌≡◌ {A = ℕ} 0 1 = cc in absurd (omega arith)
-passed_refused (R.Refused m) n h e = e
+    go : (b : Bool) → pick b (Ok q) (Err WrongEnd) ≡ Err e → Ok q ≡ Err e
+    go true z = z
+    go false z = absurd (own_apart refl (err_inj z) h)
+passed_refused (Err x) e h z = z
 
-passed_first : (a : Read) (n : ℕ) → a ≡ R.Refused n → passed a ≡ R.Refused n
+passed_first : (a : Result Pdu Refusal) (e : Refusal) → a ≡ Err e → passed a ≡ Err e
 unfolding passed
-passed_first a n e = rw e
+passed_first a e z = rw z
 
--- ---- writing: the plain number v, then that of the profile, u
+-- ---- writing: what the plain rules answer, then the further refusal k
 
-abbrev after : ℕ → ℕ → ℕ
-after v u = pick (eqb v 0) u v
+granted : (k : Option Refusal) (a : Result ℕ Refusal) (n : ℕ) → unless k a ≡ Ok n → a ≡ Ok n
+unfolding unless
+granted None a n e = e
+granted (Some x) (Ok m) n e = absurd (err_no_ok e)
+granted (Some x) (Err y) n e = absurd (err_no_ok e)
 
-abbrev answer : ℕ → ℕ → Written
-answer size k = pick (eqb k 0) (W.Bytes size) (W.Refused k)
+denied : (k : Option Refusal) (a : Result ℕ Refusal) (e : Refusal) → ((x : Refusal) → k ≡ Some x → is_own x ≡ true) → is_own e ≡ false → unless k a ≡ Err e → a ≡ Err e
+unfolding unless
+denied None a e o h z = z
+denied (Some x) (Ok m) e o h z = absurd (own_apart (o x refl) (err_inj z) h)
+denied (Some x) (Err y) e o h z = z
 
-granted : (size k n : ℕ) → answer size k ≡ W.Bytes n → eqb k 0 ≡ true
-granted size k n e = go (eqb k 0) e
-  where
-    go : (b : Bool) → pick b (W.Bytes size) (W.Refused k) ≡ W.Bytes n → b ≡ true
-    go true e = refl
-    go false e = let z : ◌≡◌ {A = ℕ} 0 1 = cc in absurd (omega arith)
+stays : (k : Option Refusal) (a : Result ℕ Refusal) (e : Refusal) → a ≡ Err e → unless k a ≡ Err e
+unfolding unless
+stays None a e z = z
+stays (Some x) a e z = rw z
 
-denied : (size k n : ℕ) → answer size k ≡ W.Refused n → (eqb k 0 ≡ false) × (k ≡ n)
-denied size k n e = go (eqb k 0) e
-  where
-    go : (b : Bool) → pick b (W.Bytes size) (W.Refused k) ≡ W.Refused n → (b ≡ false) × (k ≡ n)
-    go true e = let z : ◌≡◌ {A = ℕ} 0 1 = cc in absurd (omega arith)
-    go false e = (refl, cc)
-
--- where neither applies the plain one does not
-plain_zero : (v u : ℕ) → eqb (after v u) 0 ≡ true → eqb v 0 ≡ true
-plain_zero v u = go (eqb v 0) refl
-  where
-    go : (b : Bool) → eqb v 0 ≡ b → eqb (pick b u v) 0 ≡ true → eqb v 0 ≡ true
-    go true q e = q
-    go false q e = e
-
--- the profile's number, where it applies, is one of its two
-own : (p : Pdu) (src : List ℕ) → eqb (verdict p src) 0 ≡ false → one_of (verdict p src) counter_numbers ≡ true
+-- the profile's refusal, where it applies, is one of its own
+own : (p : Pdu) (src : List ℕ) (x : Refusal) → verdict p src ≡ Some x → is_own x ≡ true
 unfolding verdict
-own p src = go (writes p) (permitted p src)
+own p src x = go (writes p) (permitted p src)
   where
-    go : (a b : Bool) → eqb (pick a (pick b 0 21) 20) 0 ≡ false → one_of (pick a (pick b 0 21) 20) counter_numbers ≡ true
+    go : (a b : Bool) → pick a (pick b None (Some NotPermitted)) (Some WrongEnd) ≡ Some x → is_own x ≡ true
     go true true e = let z : ◌≡◌ {A = ℕ} 0 1 = cc in absurd (omega arith)
-    go true false e = refl
-    go false b e = refl
+    go true false e = let z : NotPermitted ≡ x = cc in ap is_own (sym z)
+    go false b e = let z : WrongEnd ≡ x = cc in ap is_own (sym z)
 
-other : (v u n : ℕ) → (eqb u 0 ≡ false → one_of u counter_numbers ≡ true) → one_of n counter_numbers ≡ false → eqb (after v u) 0 ≡ false → after v u ≡ n → (eqb v 0 ≡ false) × (v ≡ n)
-other v u n o h = go (eqb v 0) refl
-  where
-    go : (b : Bool) → eqb v 0 ≡ b → eqb (pick b u v) 0 ≡ false → pick b u v ≡ n → (eqb v 0 ≡ false) × (v ≡ n)
-    go true q z e =
-        let a : ◌≡◌ {A = Bool} true false = sym (o z) ∙ ap (λ (k : ℕ). one_of k counter_numbers) e ∙ h in
-        let z : ◌≡◌ {A = ℕ} 0 1 = cc in absurd (omega arith)
-    go false q z e = (q, e)
+plain_written : (p : Pdu) (src : List ℕ) (m n : ℕ) → counter_written p src m ≡ Ok n → written_of p src m ≡ Ok n
+unfolding counter_written
+plain_written p src m n e = granted (verdict p src) (written_of p src m) n e
 
-module _ (p : Pdu) (src : List ℕ) (m n : ℕ) where
-  abbrev v : ℕ
-  v = written_number p src m
+plain_refused : (p : Pdu) (src : List ℕ) (m : ℕ) (e : Refusal) → is_own e ≡ false → counter_written p src m ≡ Err e → written_of p src m ≡ Err e
+unfolding counter_written
+plain_refused p src m e h z = denied (verdict p src) (written_of p src m) e (own p src) h z
 
-  abbrev u : ℕ
-  u = verdict p src
+refused_first : (p : Pdu) (src : List ℕ) (m : ℕ) (e : Refusal) → written_of p src m ≡ Err e → counter_written p src m ≡ Err e
+unfolding counter_written
+refused_first p src m e z = stays (verdict p src) (written_of p src m) e z
 
-  as_plain : counter_written p src m ≡ W.Bytes n → (eqb (counter_number p src m) 0 ≡ true) × (eqb v 0 ≡ true)
-  unfolding counter_written counter_number
-  as_plain e =
-      let g = granted (size_of p) (after v u) n e in
-      (g, plain_zero v u g)
+untouched : (p : Pdu) (src out : List ℕ) (e : Refusal) → counter_written p src (length out) ≡ Err e → counter_out p src out ≡ out
+unfolding counter_out
+untouched p src out e z = rw z
 
-  plain_written : counter_written p src m ≡ W.Bytes n → written_of p src m ≡ W.Bytes n
-  unfolding counter_written written_of
-  plain_written e = let g = as_plain e in rw g.1 (rw g.0 at e)
-
-  plain_refused : one_of n counter_numbers ≡ false → counter_written p src m ≡ W.Refused n → written_of p src m ≡ W.Refused n
-  unfolding counter_written counter_number written_of
-  plain_refused h e =
-      let d = denied (size_of p) (after v u) n e in
-      let o = other v u n (own p src) h d.0 d.1 in
-      rw o.0 (ap W.Refused o.1)
-
-  refused_first : written_of p src m ≡ W.Refused n → counter_written p src m ≡ W.Refused n
-  unfolding counter_written counter_number written_of
-  refused_first e =
-      let d = denied (size_of p) v n e in
-      rw (d.0, d.0) (ap W.Refused d.1)
-
-untouched : (p : Pdu) (src out : List ℕ) (n : ℕ) → counter_written p src (length out) ≡ W.Refused n → counter_out p src out ≡ out
-unfolding counter_written counter_out
-untouched p src out n e = rw (denied (size_of p) (counter_number p src (length out)) n e).0
-
-same_memory : (p : Pdu) (src out : List ℕ) (n : ℕ) → counter_written p src (length out) ≡ W.Bytes n → counter_out p src out ≡ out_after_of p src out
+same_memory : (p : Pdu) (src out : List ℕ) (n : ℕ) → counter_written p src (length out) ≡ Ok n → counter_out p src out ≡ out_after_of p src out
 unfolding counter_out out_after_of
-same_memory p src out n e = let g = as_plain p src (length out) n e in rw (g.0, g.1)
+same_memory p src out n e = rw (e, plain_written p src (length out) n e)
 
 pub passes_plain : PassesPlain
 unfolding counter_read
 passes_plain =
     record {
       read = λ s p. passed_message (read_of s) p;
-      refused = λ s n. passed_refused (read_of s) n;
-      refused_first = λ s n. passed_first (read_of s) n;
+      refused = λ s e. passed_refused (read_of s) e;
+      refused_first = λ s e. passed_first (read_of s) e;
       written = λ p src m n. plain_written p src m n;
       same_memory = λ p src out n. same_memory p src out n;
-      unwritten = λ p src m n. plain_refused p src m n;
-      unwritten_first = λ p src m n. refused_first p src m n;
-      untouched = λ p src out n. untouched p src out n;
+      unwritten = λ p src m e. plain_refused p src m e;
+      unwritten_first = λ p src m e. refused_first p src m e;
+      untouched = λ p src out e. untouched p src out e;
     }

@@ -9,15 +9,10 @@ ghost use Rattle.pdu.specs.Writing.{grants};
 ghost use Rattle.pdu_words.specs.FromWords.{Stands, pdu_of};
 ghost use Rattle.profile.specs.Ends.{server_only, read_taken};
 ghost use Rattle.profile.specs.Programs.{begins, published, plain_flags};
-ghost use Rattle.pdu_read.specs.Told.{Told};
+ghost use Rattle.pdu_read.specs.Told.{Reads, Told};
 ghost use Rattle.profile.specs.Counter.{verdict, counter_read, CounterOutcome};
 
-use pdu::Written;
-
-// A kind from the wrong end; a program not permitted.
-const WRONG_END: u8 = 20;
-
-const NOT_PERMITTED: u8 = 21;
+use protocol::Refusal;
 
 // ---- the end that sends a message
 
@@ -83,45 +78,51 @@ fn is_permitted(flags: u32, at: u32, len: u32, src: &[u8]) -> bool
     has_plain_flags(flags) & is_published(&src[from..end])
 }
 
-// The number of the profile where the plain rules grant the words: 20, 21, or 0.
-fn verdict(w: &[u32; 12], src: &[u8]) -> u8
+// The refusal of the profile where the plain rules grant the words.
+fn verdict(w: &[u32; 12], src: &[u8]) -> Option<Refusal>
     ensures { Stands w.now → grants (pdu_of w.now) src.now ≡ true → result ≡ verdict (pdu_of w.now) src.now }
 {
     if is_server_only(w[0], w[1]) {
-        return WRONG_END;
+        return Some(Refusal::WrongEnd);
     }
     if w[0] != 0x01 {
-        return 0;
+        return None;
     }
     if is_permitted(w[1], w[2], w[3], src) {
-        0
+        None
     } else {
-        NOT_PERMITTED
+        Some(Refusal::NotPermitted)
     }
 }
 
 // ---- reading and writing
 
-// Reads a message: the number, and the words of its record where that is 0.
+// The words of the record of a message, or the first refusal.
+fn read(message: &[u8], words: &mut [u32; 12]) -> Result<(), Refusal>
+    ensures { Reads (counter_read message.now) words.old result words.new }
+{
+    let mut w = [0u32; 12];
+    pdu_read::read(message, &mut w)?;
+    if !is_read(w[0], w[1]) {
+        return Err(Refusal::WrongEnd);
+    }
+    *words = w;
+    Ok(())
+}
+
+// Reads a message: the number of the refusal, and the words of its record where that is 0.
 pub fn read_words(message: &[u8], words: &mut [u32; 12]) -> u32
     ensures { Told (counter_read message.now) words.old result words.new }
 {
-    let mut w = [0u32; 12];
-    let number = pdu_read::read_words(message, &mut w);
-    if number != 0 {
-        return number;
+    match read(message, words) {
+        Ok(()) => 0,
+        Err(refusal) => u32::from(refusal),
     }
-    if !is_read(w[0], w[1]) {
-        return WRONG_END as u32;
-    }
-    *words = w;
-    0
 }
 
 // Writes the record that words stand for, its strings taken from src, to the start of out.
-pub fn write_words(w: &[u32; 12], src: &[u8], out: &mut [u8]) -> Written
+pub fn write_words(w: &[u32; 12], src: &[u8], out: &mut [u8]) -> Result<usize, Refusal>
     ensures { CounterOutcome w.now src.now out.old result out.new }
 {
-    let number = verdict(w, src);
-    pdu_write::write_unless(w, src, out, number)
+    pdu_write::write_unless(w, src, out, verdict(w, src))
 }

@@ -1,6 +1,7 @@
 -- A chunk of the channel at the C boundary: the answer as one number, the words of a message. Assumes nothing.
 use Rattle.std.specs.Prelude.{ℕ, ◌%◌, ◌≡◌, List, length, eqb}
 use Rattle.wire.specs.Tests.{pick}
+use Rattle.protocol.specs.Refusals.{number_of}
 use Rattle.pdu.specs.Reading.{read_number, read_of}
 use Rattle.pdu_read.specs.Told.{words_after}
 use Rattle.chunk.specs.Chunk.{Answer, awaited, message, refused}
@@ -17,7 +18,7 @@ read_reply n len = pick (eqb n 0) (record { number = 0; count = 1; bytes = len }
 unfoldable pub chunk_reply : Answer → Reply
 chunk_reply (awaited got) = record { number = 0; count = 0; bytes = got }
 chunk_reply (message bytes) = read_reply (read_number bytes) (length bytes)
-chunk_reply (refused n) = record { number = n; count = 0; bytes = 0 }
+chunk_reply (refused e) = record { number = number_of e; count = 0; bytes = 0 }
 
 -- packed as the answers of the state calls are
 unfoldable pub chunk_packed : Answer → ℕ
@@ -31,7 +32,7 @@ ChunkUnpacks = (v : View) (chunk : List ℕ) → Unpacked (chunk_reply (answer_o
 unfoldable pub chunk_words : Answer → List ℕ → List ℕ
 chunk_words (awaited got) words = words
 chunk_words (message bytes) words = words_after (read_of bytes) words
-chunk_words (refused n) words = words
+chunk_words (refused e) words = words
 
 -- the answer with the memory afterwards; its number; the words afterwards
 pub record ChunkExport (mem chunk words : List ℕ) (r : ℕ) (mem' words' : List ℕ) : Type 0 where

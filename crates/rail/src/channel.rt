@@ -9,7 +9,10 @@ use chunk::Joined;
 pub extern "C" fn rail_chunk_reset(memory: &mut [u8]) -> u32
     ensures { ResetOutcome memory.old result memory.new }
 {
-    chunk_join::reset(memory) as u32
+    match chunk_join::reset(memory) {
+        Ok(()) => 0,
+        Err(refusal) => u32::from(refusal),
+    }
 }
 
 // Takes one chunk. The number; 256 times the messages handed out, 1 or 0; 65,536 times the bytes of the
@@ -19,8 +22,8 @@ pub extern "C" fn rail_chunk(memory: &mut [u8], bytes: &[u8], words: &mut [u32; 
     ensures { ChunkExport memory.old bytes.now words.old result memory.new words.new }
 {
     match chunk_join::join(memory, bytes) {
-        Joined::More(got) => 65536 * got,
-        Joined::Whole(len) => {
+        Ok(Joined::More(got)) => 65536 * got,
+        Ok(Joined::Whole(len)) => {
             let end = len as usize;
             let number = pdu_read::read_words(&memory[..end], words);
             if number != 0 {
@@ -28,6 +31,6 @@ pub extern "C" fn rail_chunk(memory: &mut [u8], bytes: &[u8], words: &mut [u32; 
             }
             256 + 65536 * len
         }
-        Joined::Refused(number) => number as u32,
+        Err(refusal) => u32::from(refusal),
     }
 }

@@ -13,7 +13,8 @@ impl ChunkMemory {
     // An empty one.
     pub(crate) fn new(alloc: Global) -> Result<ChunkMemory, AllocError> {
         let mut bytes = vec![in alloc; 0u8; chunk::MEMORY]?;
-        chunk_join::reset(&mut bytes);
+        // It is long enough.
+        let _ = chunk_join::reset(&mut bytes);
         Ok(ChunkMemory { bytes, missing: 0 })
     }
 

@@ -2,7 +2,7 @@
 use crate::channel::ChunkMemory;
 use crate::record::{Draft, Hex, Shown, Words};
 use chunk::Joined;
-use pdu::Written;
+use protocol::Refusal;
 use script::Stop;
 use std::io;
 
@@ -29,29 +29,16 @@ pub(crate) enum Item<'a> {
     Change(u32, u8),
 }
 
-fn read_number(answer: pdu::Read) -> u32 {
-    match answer {
-        pdu::Read::Message(_) => 0,
-        pdu::Read::Refused(number) => u32::from(number),
-    }
-}
-
-fn joined_number(answer: Joined) -> u32 {
-    match answer {
-        Joined::Refused(number) => u32::from(number),
-        _ => 0,
-    }
-}
-
 // The words of the record that a message is by the plain rules, or the number of the refusal.
 fn read_plain(message: &[u8]) -> Result<Words, u32> {
-    let answer = pdu_read_record::read_pdu(message);
-    let pdu::Read::Message(record) = answer else {
-        return Err(read_number(answer));
-    };
-    let mut words = [0u32; 12];
-    pdu_words_of::words_of(&mut words, record);
-    Ok(words)
+    match pdu_read_record::read_pdu(message) {
+        Ok(record) => {
+            let mut words = [0u32; 12];
+            pdu_words_of::words_of(&mut words, record);
+            Ok(words)
+        }
+        Err(refusal) => Err(u32::from(refusal)),
+    }
 }
 
 // The same by the counter profile.
@@ -64,9 +51,9 @@ fn read_counter(message: &[u8]) -> Result<Words, u32> {
 }
 
 // Writes a record by the plain rules.
-fn write_plain(draft: &Draft<'_>, out: &mut [u8]) -> Written {
+fn write_plain(draft: &Draft<'_>, out: &mut [u8]) -> Result<usize, Refusal> {
     if !pdu_words_rule::is_record(&draft.words) {
-        return Written::Refused(8);
+        return Err(Refusal::OutsideSet);
     }
     pdu_write::write_pdu(
         pdu_from_words::record_from(&draft.words),
@@ -83,7 +70,7 @@ impl Rules {
         }
     }
 
-    fn write(self, draft: &Draft<'_>, out: &mut [u8]) -> Written {
+    fn write(self, draft: &Draft<'_>, out: &mut [u8]) -> Result<usize, Refusal> {
         match self {
             Rules::Plain => write_plain(draft, out),
             Rules::Counter => profile_pdu::write_words(&draft.words, draft.strings, out),
@@ -108,10 +95,10 @@ fn tell_write(
 ) -> Result<(), Stop> {
     let mut out = vec![in rt.alloc(); script::UNTOUCHED; draft.size]?;
     match rules.write(&draft, &mut out) {
-        Written::Bytes(len) => println!(rt; "{kind} 0 {}", Hex(script::written(&out, len)?))?,
-        Written::Refused(number) => {
+        Ok(len) => println!(rt; "{kind} 0 {}", Hex(script::written(&out, len)?))?,
+        Err(refusal) => {
             script::written(&out, 0)?;
-            println!(rt; "{kind} {number}")?
+            println!(rt; "{kind} {}", u32::from(refusal))?
         }
     }
     Ok(())
@@ -119,12 +106,22 @@ fn tell_write(
 
 // Joins a chunk, and prints what the whole message is read as, the refusal, or that more is awaited.
 fn tell_chunk(rt: &impl Print, kind: char, memory: &mut [u8], chunk: &[u8]) -> io::Result<()> {
-    let answer = chunk_join::join(memory, chunk);
-    let Joined::Whole(len) = answer else {
-        return println!(rt; "{kind} {}", joined_number(answer));
-    };
-    let len = memory.len().min(len as usize);
-    tell_read(rt, kind, Rules::Plain, &memory[..len])
+    match chunk_join::join(memory, chunk) {
+        Ok(Joined::More(_)) => println!(rt; "{kind} 0"),
+        Ok(Joined::Whole(len)) => {
+            let len = memory.len().min(len as usize);
+            tell_read(rt, kind, Rules::Plain, &memory[..len])
+        }
+        Err(refusal) => println!(rt; "{kind} {}", u32::from(refusal)),
+    }
+}
+
+// Empties the memory of chunks, and prints the number of the refusal, 0 for none.
+fn tell_empty(rt: &impl Print, kind: char, memory: &mut [u8]) -> io::Result<()> {
+    match chunk_join::reset(memory) {
+        Ok(()) => println!(rt; "{kind} 0"),
+        Err(refusal) => println!(rt; "{kind} {}", u32::from(refusal)),
+    }
 }
 
 impl<'a> Item<'a> {
@@ -158,7 +155,7 @@ impl<'a> Item<'a> {
             Item::Read(rules, message) => tell_read(rt, kind, rules, message)?,
             Item::Write(rules, draft) => tell_write(rt, kind, rules, draft)?,
             Item::Chunk(chunk) => tell_chunk(rt, kind, memory.lend(), chunk)?,
-            Item::Empty => println!(rt; "{kind} {}", chunk_join::reset(memory.lend()))?,
+            Item::Empty => tell_empty(rt, kind, memory.lend())?,
             Item::Shorten(missing) => memory.shorten(usize::from(missing)),
             Item::Change(at, by) => memory.change(at as usize, by)?,
         }

@@ -7,6 +7,6 @@ pub returns-then-memory-lt-MEMORY : goal.returns-then-memory-lt-MEMORY
 unfolding emptied
 returns-then-memory-lt-MEMORY c = reset_short c.args.memory.now c.if-memory-lt-MEMORY.true
 
-pub returns : goal.returns
+pub returns-else-memory-lt-MEMORY : goal.returns-else-memory-lt-MEMORY
 unfolding emptied
-returns c = reset_long c.args.memory.now c.if-memory-lt-MEMORY.false _ c.note.ensures
+returns-else-memory-lt-MEMORY c = reset_long c.args.memory.now c.if-memory-lt-MEMORY.false _ c.note.ensures

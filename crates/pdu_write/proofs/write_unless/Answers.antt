@@ -1,8 +1,8 @@
--- The ladder: 8 where the words stand for no record or number 8 applies to it, 14, the further number, else the record is written.
+-- The ladder: outside their set where the words stand for no record or a number of it is, too small an output, the further refusal, else the record is written.
 use Rattle.std.proofs.Common.{◌∙◌, ne_eqb, sym}
 use borrow.Author.Tests.{not-true, not-false}
 use Rattle.pdu_words.specs.FromWords.{Stands}
-use Rattle.pdu_put.proofs.Ways.{judged_none, judged_8, judged_14, judged_bytes, unless_refused, unless_number, ready, wrote}
+use Rattle.pdu_put.proofs.Ways.{judged_none, judged_8, judged_14, judged_bytes, unless_refused, unless_further, ready, wrote}
 use Rattle.pdu_write.proofs.write_unless.Goals as goal
 
 pub returns-then-not-is_record : goal.returns-then-not-is_record
@@ -23,10 +23,10 @@ returns-then-out-n c =
     let stands : Stands c.args.w.now = record { holds = sym c.is_record.ensures ∙ c.if-not-is_record.false } in
     unless_refused (judged_14 (stands) c.args.src.now _ c.judge-j.result c.judge-j.ensures (not-false _ c.if-not-j.false) c.if-out-n.true)
 
-pub returns-then-number-ne0 : goal.returns-then-number-ne0
-returns-then-number-ne0 c =
+pub returns-in-Some : goal.returns-in-Some
+returns-in-Some c =
     let stands : Stands c.args.w.now = record { holds = sym c.is_record.ensures ∙ c.if-not-is_record.false } in
-    unless_number (judged_bytes (stands) c.args.src.now _ c.judge-j.result c.judge-j.ensures (not-false _ c.if-not-j.false) c.if-out-n.false) (ne_eqb _ 0 c.if-number-ne0.true)
+    unless_further (judged_bytes (stands) c.args.src.now _ c.judge-j.result c.judge-j.ensures (not-false _ c.if-not-j.false) c.if-out-n.false) c.in-Some.is
 
 pub put-requires : goal.put-requires
 put-requires c =
@@ -36,4 +36,4 @@ put-requires c =
 pub returns : goal.returns
 returns c =
     let stands : Stands c.args.w.now = record { holds = sym c.is_record.ensures ∙ c.if-not-is_record.false } in
-    wrote (stands) c.args.src.now c.args.out.now c.judge-j.result c.judge-j.ensures (not-false _ c.if-not-j.false) c.if-out-n.false c.if-number-ne0.false c.put.ensures
+    wrote (stands) c.args.src.now c.args.out.now c.judge-j.result c.judge-j.ensures (not-false _ c.if-not-j.false) c.if-out-n.false c.in_default.is c.put.ensures

@@ -1,11 +1,12 @@
 -- The lines 2, 3 and 4 of the ladder, then those of the type told.
 use Rattle.std.proofs.Common.{ℕ, ◌≡◌, List, false, refl, true}
-use Rattle.pdu.specs.declared.Read.TheVariants.{Refused}
+use Rattle.std.specs.Prelude.{Err}
+use Rattle.protocol.specs.declared.Refusal.TheVariants.{UnknownType}
 use Rattle.pdu.specs.Layout.{known}
 use Rattle.pdu.specs.Reading.{read_of, body_of}
 use Rattle.pdu_words.proofs.FromWords.{no_type}
 use Rattle.pdu_read.proofs.Ways.{short, other_length, unknown, body, told_refused, told_as}
-use Rattle.pdu_read.proofs.read_words.Goals as goal
+use Rattle.pdu_read.proofs.read.Goals as goal
 
 pub returns-then-message-lt4 : goal.returns-then-message-lt4
 unfolding known
@@ -125,5 +126,5 @@ pub returns-in_default : goal.returns-in_default
 unfolding known
 returns-in_default c =
     let message : List ℕ = c.args.message.now in
-    let other_type : known c.read_u16-kind.result ≡ false → Refused 4 ≡ read_of (message) = unknown (message) c.read_u16.result c.read_u16-kind.result c.read_u16.ensures c.if-message-lt4.false c.if-read_u16-message.false c.read_u16-kind.ensures in
+    let other_type : known c.read_u16-kind.result ≡ false → Err UnknownType ≡ read_of (message) = unknown (message) c.read_u16.result c.read_u16-kind.result c.read_u16.ensures c.if-message-lt4.false c.if-read_u16-message.false c.read_u16-kind.ensures in
     told_refused (other_type (no_type _ c.in_default.in_default-own.rest))
