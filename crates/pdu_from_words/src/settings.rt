@@ -1,7 +1,8 @@
 // The setting of words that are within its limits: its number stands in the second word, its data after it.
 ghost use Rattle.std.specs.Prelude.{◌≡◌, get_or};
-ghost use Rattle.pdu_words.specs.FromWords.{byte_most, area_most, setting_most, Within, area_from, scheme_from, setting_from, system_parameters_from};
+ghost use Rattle.pdu_words.specs.FromWords.{byte_most, area_most, setting_most, Within, area_from, scheme_from, setting_from};
 
+use crate::FromWords;
 use pdu::{HighContrast, Rectangle, Setting, Span, SystemParameters};
 
 // The body of a setting that is one byte, a rectangle, a color scheme.
@@ -36,6 +37,8 @@ pub fn high_contrast_from(w: &[u32; 12]) -> HighContrast
     }
 }
 
+#[inline(always)]
+#[tactic(auto, unfolding(pdu_words::specs::FromWords::data_from, pdu::specs::Settings::setting_with))]
 fn setting_from(w: &[u32; 12]) -> Setting
     requires { Within w.now (setting_most (get_or w.now 1 0)) }
     ensures { result ≡ setting_from w.now }
@@ -50,10 +53,12 @@ fn setting_from(w: &[u32; 12]) -> Setting
     Setting::HighContrast(high_contrast_from(w))
 }
 
-pub(crate) fn system_parameters_from(w: &[u32; 12]) -> SystemParameters
-    requires { Within w.now (setting_most (get_or w.now 1 0)) }
-    ensures { result ≡ system_parameters_from w.now }
-{
-    let s = setting_from(w);
-    SystemParameters { setting: s }
+impl FromWords for SystemParameters {
+    #[inline(always)]
+    #[tactic(auto, unfolding(pdu_words::specs::FromWords::record_from))]
+    fn from_words(w: &[u32; 12]) -> SystemParameters {
+        SystemParameters {
+            setting: setting_from(w),
+        }
+    }
 }

@@ -1,28 +1,35 @@
--- The ways through judging and writing a setting that words stand for, by the shape of its body. Assumes nothing.
+-- Judging and writing a setting that words stand for, by the shape of its body. Assumes nothing.
 use mathlib.Core.Path.{◌≡◌, refl, sym, ap, ◌∙◌, subst}
 use mathlib.Core.Bool.{true, false}
+use Rattle.std.specs.Prelude.{Option, Some}
 use mathlib.Core.List.{List, [], ◌∷◌, append-nil}
-use Prim.Native.Nat.{ℕ, ◌+◌, ◌≤◌}
+use Prim.Native.Nat.{ℕ, ◌≤◌}
 use lib.ListN.{length, get_or}
-use borrow.Author.Tests.{leb-true}
 use Rattle.wire.specs.Parts.{splice}
 use Rattle.wire.specs.Numbers.{put_all}
-use Rattle.wire.proofs.Tests.{both_left}
 use Rattle.pdu.specs.declared.Rectangle.{Rectangle}
 use Rattle.pdu.specs.declared.HighContrast as H
 use Rattle.pdu.specs.declared.Setting.TheVariants.{HighContrast}
 use Rattle.pdu.specs.declared.Pdu.{Pdu}
 use Rattle.pdu.specs.declared.Pdu.TheVariants.{SystemParameters}
-use Rattle.pdu.specs.Settings.{is_byte, is_area, setting_widths, Data, byte, area, scheme, data_of, setting_with, data_nums, data_size, data_spans, data_allowed}
+use Rattle.pdu.specs.Settings.{is_byte, is_area, setting_widths, Data, byte, area, scheme, setting_with, data_nums, data_size, data_spans, data_allowed}
 use Rattle.pdu.specs.Records.{size_of, spans_of}
 use Rattle.pdu.specs.Rules.{allowed}
-use Rattle.pdu.specs.Writing.{lies, joined, encode}
+use Rattle.pdu.specs.Writing.{joined, encode}
 use Rattle.pdu.proofs.Settings.{Shape, made, encode_made}
-use Rattle.pdu.proofs.Writing.{allowed_of, lie_of}
 use Rattle.pdu_words.specs.FromWords.{area_from, scheme_from, data_from, system_parameters_from}
 use Rattle.pdu_words.proofs.FromWords.{from_byte, from_area, from_scheme}
-use Rattle.pdu_put.specs.Judging.{Judges, Ready, Encoded, TextReady}
-use Rattle.pdu_put.proofs.Ways.{judges_as, ready_as, put_as}
+use Rattle.pdu_put.specs.Judging.{judged, Ready, Encoded}
+
+-- a record that is another
+pub judged_as : {p q : Pdu} (n : ℕ) {r : Option ℕ} → p ≡ q → r ≡ judged q n → r ≡ judged p n
+judged_as n e w = w ∙ ap (λ (t : Pdu). judged t n) (sym e)
+
+pub ready_as : {p q : Pdu} {src out : List ℕ} → p ≡ q → Ready p src out → Ready q src out
+ready_as {src = src} {out = out} e w = subst (λ (t : Pdu). Ready t src out) e w
+
+pub put_as : {p q : Pdu} {src out y : List ℕ} → p ≡ q → Encoded q src out y → Encoded p src out y
+put_as {src = src} {out = out} {y = y} e w = subst (λ (t : Pdu). Encoded t src out y) (sym e) w
 
 abbrev record_with : ℕ → Data → Pdu
 record_with c d = SystemParameters (record { setting = setting_with c d })
@@ -31,11 +38,9 @@ size_with : (c : ℕ) (d : Data) → Shape c d → size_of (record_with c d) ≡
 unfolding size_of
 size_with c d h = ap data_size (made c d h).body
 
-judged_with : (c : ℕ) (d : Data) (n m : ℕ) → Shape c d → data_allowed d ≡ true → data_spans d ≡ [] → m ≡ data_size d → Judges (record_with c d) n (record { ok = true; size = m })
+judged_with : (c : ℕ) (d : Data) (n m : ℕ) → Shape c d → data_allowed d ≡ true → data_spans d ≡ [] → m ≡ data_size d → Some m ≡ judged (record_with c d) n
 unfolding allowed spans_of size_of
-judged_with c d n m h a s z =
-    let b = (made c d h).body in
-    record { passes = rw (b, a, s); measures = z ∙ ap data_size (sym b) }
+judged_with c d n m h a s z = let b = (made c d h).body in rw (b, a, s) (ap Some z)
 
 encoded_with : (c : ℕ) (d : Data) {src out y : List ℕ} (ws ns : List ℕ) → Shape c d → data_spans d ≡ [] → 4 ∷ setting_widths c ≡ ws → c ∷ data_nums d ≡ ns
     → y ≡ splice out 0 (put_all (2 ∷ 2 ∷ ws) (0x03 ∷ data_size d ∷ ns)) → Encoded (record_with c d) src out y
@@ -62,9 +67,9 @@ module _ (w : List ℕ) where
     unfolding data_size
     byte_room {out = out} r = subst (λ (k : ℕ). k ≤ length out) (size_with c (byte (get_or w 2 0)) h) (ready_as is-byte r).room
 
-    pub byte_judged : (n : ℕ) → Judges p n (record { ok = true; size = 9 })
+    pub byte_judged : (n : ℕ) → Some 9 ≡ judged p n
     unfolding data_allowed data_spans data_size
-    byte_judged n = judges_as is-byte (judged_with c (byte (get_or w 2 0)) n 9 h refl refl refl)
+    byte_judged n = judged_as n is-byte (judged_with c (byte (get_or w 2 0)) n 9 h refl refl refl)
 
     pub byte_written : {v : ℕ} {src out y : List ℕ} → v ≡ get_or w 2 0 → y ≡ splice out 0 (put_all (2 ∷ 2 ∷ 4 ∷ 1 ∷ []) (0x03 ∷ 9 ∷ c ∷ v ∷ [])) → Encoded p src out y
     unfolding setting_widths data_nums data_spans data_size
@@ -79,9 +84,9 @@ module _ (w : List ℕ) where
     unfolding data_size
     area_room {out = out} r = subst (λ (k : ℕ). k ≤ length out) (size_with c (area (area_from w)) (g, h)) (ready_as is-area r).room
 
-    pub area_judged : (n : ℕ) → Judges p n (record { ok = true; size = 16 })
+    pub area_judged : (n : ℕ) → Some 16 ≡ judged p n
     unfolding data_allowed data_spans data_size
-    area_judged n = judges_as is-area (judged_with c (area (area_from w)) n 16 (g, h) refl refl refl)
+    area_judged n = judged_as n is-area (judged_with c (area (area_from w)) n 16 (g, h) refl refl refl)
 
     pub area_written : {a : Rectangle} {src out y : List ℕ} → a ≡ area_from w
         → y ≡ splice out 0 (put_all (2 ∷ 2 ∷ 4 ∷ 2 ∷ 2 ∷ 2 ∷ 2 ∷ []) (0x03 ∷ 16 ∷ c ∷ a.left ∷ a.top ∷ a.right ∷ a.bottom ∷ [])) → Encoded p src out y
@@ -94,14 +99,3 @@ module _ (w : List ℕ) where
     pub is_scheme : {e : H.HighContrast} → e ≡ scheme_from w → p ≡ SystemParameters (record { setting = HighContrast e })
     unfolding setting_with
     is_scheme q = is_with (from_scheme w c g h ∙ ap scheme (sym q))
-
-pub scheme_ready : {e : H.HighContrast} {src out : List ℕ} → Ready (SystemParameters (record { setting = HighContrast e })) src out
-    → TextReady e.color_scheme (18 + e.color_scheme.len) src out
-unfolding allowed spans_of size_of data_of data_allowed data_spans data_size
-scheme_ready {e} {src} {out} r =
-    let t = e.color_scheme in
-    let q = SystemParameters (record { setting = HighContrast e }) in
-    record {
-      text = record { small = leb-true t.len 520 (allowed_of q src r.granted); inside = leb-true (t.at + t.len) (length src) (both_left (lies (length src) t) true (lie_of q src r.granted)) };
-      room = r.room;
-    }

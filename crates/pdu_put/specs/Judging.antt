@@ -1,6 +1,6 @@
 -- What stands between judging a record and writing it. Assumes nothing.
-use Rattle.std.specs.Prelude.{ℕ, ◌+◌, ◌≤◌, true, List, ◌≡◌, length}
-use Rattle.wire.specs.Tests.{both}
+use Rattle.std.specs.Prelude.{ℕ, ◌+◌, ◌≤◌, true, List, ◌≡◌, Option, Some, None, length}
+use Rattle.wire.specs.Tests.{pick, both}
 use Rattle.wire.specs.Parts.{splice}
 use Rattle.pdu.specs.declared.Execute.{Execute}
 use Rattle.pdu.specs.declared.Span.{Span}
@@ -8,12 +8,10 @@ use Rattle.pdu.specs.declared.Pdu.{Pdu}
 use Rattle.pdu.specs.Records.{size_of, spans_of}
 use Rattle.pdu.specs.Rules.{allowed}
 use Rattle.pdu.specs.Writing.{all_lie, encode, grants}
-use Rattle.pdu_put.specs.declared.Judged.{Judged}
 
--- j judges p where src has n bytes
-pub record Judges (p : Pdu) (n : ℕ) (j : Judged) : Type 0 where
-  pub passes : j.ok ≡ both (allowed p) (all_lie n (spans_of p))
-  pub measures : j.size ≡ size_of p
+-- what p takes where number 8 does not apply to it, its strings in n bytes
+abbrev pub judged : Pdu → ℕ → Option ℕ
+judged p n = pick (both (allowed p) (all_lie n (spans_of p))) (Some (size_of p)) None
 
 -- p passes number 8, and out has room for it
 pub record Ready (p : Pdu) (src out : List ℕ) : Type 0 where

@@ -3,6 +3,7 @@ use Rattle.std.specs.Prelude.{ℕ, List, ◌≡◌, length, Option, Some, None, 
 use Rattle.wire.specs.Tests.{pick}
 use Rattle.protocol.specs.declared.Refusal.{Refusal}
 use Rattle.protocol.specs.declared.Refusal.TheVariants.{OutsideSet}
+use Rattle.pdu.specs.declared.Pdu.{Pdu}
 use Rattle.pdu.specs.Writing.{written_of, out_after_of}
 use Rattle.pdu_words.specs.FromWords.{stand, pdu_of}
 
@@ -27,6 +28,12 @@ unfoldable pub out_unless : Option Refusal → List ℕ → List ℕ → List �
 out_unless None out' out = out'
 out_unless (Some k) out' out = out
 
+-- writing the record p
+pub record MessageOutcome (p : Pdu) (src out : List ℕ) (k : Option Refusal) (r : Result ℕ Refusal) (out' : List ℕ) : Type 0 where
+  pub answer : r ≡ unless k (written_of p src (length out))
+  pub memory : out' ≡ out_unless k (out_after_of p src out) out
+
+-- writing the record that words stand for
 pub record UnlessOutcome (w src out : List ℕ) (k : Option Refusal) (r : Result ℕ Refusal) (out' : List ℕ) : Type 0 where
   pub answer : r ≡ unless k (words_written_of w src (length out))
   pub memory : out' ≡ out_unless k (words_out_after w src out) out

@@ -10,7 +10,7 @@ use lib.Seq.{drop-cons, drop-length}
 use lib.Dec.{leb, eqb}
 use lib.IntN.{ℤ}
 use lib.Signed.{mag}
-use borrow.Author.Tests.{leb-true, eqb-true, ne_eqb}
+use borrow.Author.Tests.{leb-true, ne_eqb}
 use mir.Syntax.{w16}
 use mir.Val.{of_z, to_z}
 use mir.ValLaws.{to_z-of_z}
@@ -31,7 +31,7 @@ use Rattle.pdu.specs.declared.MinMaxInfo as M0A
 use Rattle.pdu.specs.declared.SystemMenu as S0C
 use Rattle.pdu.proofs.Settings.{Shape, shape, setting_again, made, not_byte, not_area, by_shape}
 use Rattle.pdu_words.specs.Words.{setting_words, words_of, window_move_words, move_size_words, min_max_info_words, system_menu_words}
-use Rattle.pdu_words.specs.FromWords.{u32, nothing, most, byte_most, area_most, scheme_most, setting_most, limits, within, Within, position_words, is_position, Positions, fitting, stand, Stands, area_from, scheme_from, data_from, record_from, window_move_from, move_size_from, min_max_info_from, system_menu_from, pdu_of, fits}
+use Rattle.pdu_words.specs.FromWords.{u32, nothing, most, byte_most, area_most, scheme_most, setting_most, limits, within, Within, position_words, is_position, fitting, stand, Stands, area_from, scheme_from, data_from, record_from, pdu_of, fits}
 use Rattle.pdu.proofs.ReadBack.{is_yes_lem, rest}
 
 -- ---- limits
@@ -119,15 +119,6 @@ pub no_type : (k : ℕ) → Others k × (k ≡ 0x80 → ⊥) → known k ≡ fal
 no_type k h = others k h.0 ∙ ne_eqb k 0x80 h.1
 
 module _ (w : List ℕ) where
-  -- the words of a known type stand where each is within its field
-  pub standing : {k : ℕ} {r : Bool} → get_or w 0 0 ≡ k → known k ≡ true → r ≡ fitting k w → r ≡ stand w
-  unfolding stand
-  standing q u e = e ∙ rw (q, u)
-
-  pub not_standing : known (get_or w 0 0) ≡ false → false ≡ stand w
-  unfolding stand
-  not_standing u = rw u
-
   pub known_type : stand w ≡ true → known (get_or w 0 0) ≡ true
   unfolding stand
   known_type h = both_left (known (get_or w 0 0)) (fitting (get_or w 0 0) w) h
@@ -143,11 +134,7 @@ module _ (w : List ℕ) where
   pub within_type : stand w ≡ true → within w (limits (get_or w 0 0) (get_or w 1 0)) ≡ true
   within_type h = within_of (get_or w 0 0) (fitting_type h)
 
--- words that stand and have none of the other types have the last
-pub last_type : {w : List ℕ} → Stands w → Others (get_or w 0 0) → get_or w 0 0 ≡ 0x80
-last_type {w} h o = eqb-true (get_or w 0 0) 0x80 (sym (others (get_or w 0 0) o) ∙ known_type w h.holds)
-
-fitting_as : (k : ℕ) {w : List ℕ} → Stands w → get_or w 0 0 ≡ k → fitting k w ≡ true
+pub fitting_as : (k : ℕ) {w : List ℕ} → Stands w → get_or w 0 0 ≡ k → fitting k w ≡ true
 fitting_as k {w} h q = ap (λ (i : ℕ). fitting i w) (sym q) ∙ fitting_type w h.holds
 
 pub inside : (k : ℕ) {w : List ℕ} → Stands w → get_or w 0 0 ≡ k → Within w (limits k (get_or w 1 0))
@@ -181,9 +168,6 @@ setting_known w q = go (is_byte (get_or w 1 0)) (is_area (get_or w 1 0)) (eqb (g
     go false false true h = refl
     go false false false h = let z : ◌≡◌ {A = Bool} false true = rw q at h in z
 
-pub unknown_limits : (w : List ℕ) → get_or w 0 0 ≡ 0x03 → is_byte (get_or w 1 0) ≡ false → is_area (get_or w 1 0) ≡ false → eqb (get_or w 1 0) high_contrast ≡ false → false ≡ within w (setting_most (get_or w 1 0))
-unknown_limits w q f g h = rw (f, g, h, q)
-
 -- the record of words of type 0003, by the shape of its setting
 module _ (w : List ℕ) where
   pub from_byte : (c : ℕ) → is_byte c ≡ true → data_from c w ≡ byte (get_or w 2 0)
@@ -197,30 +181,6 @@ module _ (w : List ℕ) where
   pub from_scheme : (c : ℕ) → is_byte c ≡ false → is_area c ≡ false → data_from c w ≡ scheme (scheme_from w)
   unfolding data_from
   from_scheme c g h = rw (g, h)
-
--- and the positions are sign-extended
-two_positions : {w : List ℕ} (a : Bool) (i j : ℕ) → both (both a (is_position w i)) (is_position w j) ≡ true → Positions w i j
-two_positions {w} a i j h =
-    record {
-      first = both_right a (is_position w i) (both_left (both a (is_position w i)) (is_position w j) h);
-      second = both_right (both a (is_position w i)) (is_position w j) h;
-    }
-
-pub positions_08 : {w : List ℕ} → Stands w → get_or w 0 0 ≡ 0x08 → Positions w 2 3 × Positions w 4 5
-positions_08 {w} h q =
-    let a = within w (most 0x08) in
-    let b = both (both a (is_position w 2)) (is_position w 3) in
-    let f = fitting_as 0x08 h q in
-    (two_positions a 2 3 (both_left b (is_position w 4) (both_left (both b (is_position w 4)) (is_position w 5) f)), two_positions b 4 5 f)
-
-pub positions_09 : {w : List ℕ} → Stands w → get_or w 0 0 ≡ 0x09 → Positions w 4 5
-positions_09 {w} h q = two_positions (within w (most 0x09)) 4 5 (fitting_as 0x09 h q)
-
-pub positions_0_a : {w : List ℕ} → Stands w → get_or w 0 0 ≡ 0x0A → Positions w 4 5
-positions_0_a {w} h q = two_positions (within w (most 0x0A)) 4 5 (fitting_as 0x0A h q)
-
-pub positions_0_c : {w : List ℕ} → Stands w → get_or w 0 0 ≡ 0x0C → Positions w 2 3
-positions_0_c {w} h q = two_positions (within w (most 0x0C)) 2 3 (fitting_as 0x0C h q)
 
 of_type : (w : List ℕ) (k : ℕ) {p : Pdu} → get_or w 0 0 ≡ k → p ≡ record_from k w → pdu_of w ≡ p
 unfolding pdu_of
@@ -309,9 +269,6 @@ words_back p f = of_type (words_of p) (kind_of p) (kind_word p).0 (sym (record_a
 
 -- ---- positions as the machine has them: read back from their bits at every step
 
-pub value_16 : {r z : ℤ} → mag r < 32768 → r ≡ z → to_z w16 (of_z w16 r) ≡ z
-value_16 {r} h e = to_z-of_z w16 r (record { sfits = h }) ∙ e
-
 pub word_16 : {n : ℕ} (z : ℤ) → mag z < 32768 → n ≡ unsigned 4 (to_z w16 (of_z w16 z)) → n ≡ unsigned 4 z
 word_16 z h e = e ∙ ap (unsigned 4) (to_z-of_z w16 z (record { sfits = h }))
 
@@ -335,33 +292,6 @@ module _ (e : S0C.SystemMenu) where
   pub system_menu_laid : {x : List ℕ} {a b : ℕ} → x ≡ 0x0C ∷ e.window_id.id ∷ a ∷ b ∷ 0 ∷ 0 ∷ 0 ∷ 0 ∷ 0 ∷ 0 ∷ 0 ∷ 0 ∷ []
       → a ≡ unsigned 4 e.left → b ≡ unsigned 4 e.top → x ≡ system_menu_words e
   system_menu_laid ex ea eb = ex ∙ rw (ea, eb)
-
-module _ (w : List ℕ) where
-  abbrev Position : ℤ → ℕ → Type 0
-  Position z i = z ≡ signed 4 (get_or w i 0)
-
-  pub window_move_made : {a b d f : ℤ} → Position a 2 → Position b 3 → Position d 4 → Position f 5
-      → record { window_id = record { id = get_or w 1 0 }; left = a; top = b; right = d; bottom = f } ≡ window_move_from w
-  window_move_made ea eb ed ef = rw (ea, eb, ed, ef)
-
-  pub move_size_made : {a b : ℤ} → Position a 4 → Position b 5
-      → record { window_id = record { id = get_or w 1 0 }; is_start = is_yes (get_or w 2 0); move_size_type = get_or w 3 0; pos_x = a; pos_y = b } ≡ move_size_from w
-  move_size_made ea eb = rw (ea, eb)
-
-  pub min_max_info_made : {a b : ℤ} → Position a 4 → Position b 5
-      → record { window_id = record { id = get_or w 1 0 }; max_width = get_or w 2 0; max_height = get_or w 3 0; max_pos_x = a; max_pos_y = b; min_track_width = get_or w 6 0; min_track_height = get_or w 7 0; max_track_width = get_or w 8 0; max_track_height = get_or w 9 0 } ≡ min_max_info_from w
-  min_max_info_made ea eb = rw (ea, eb)
-
-  pub system_menu_made : {a b : ℤ} → Position a 2 → Position b 3
-      → record { window_id = record { id = get_or w 1 0 }; left = a; top = b } ≡ system_menu_from w
-  system_menu_made ea eb = rw (ea, eb)
-
--- tests that are joined, one by one
-pub joined_2 : {a b d a' b' d' : Bool} → a ≡ a' → b ≡ b' → d ≡ d' → both (both a b) d ≡ both (both a' b') d'
-joined_2 p q r = rw (p, q, r)
-
-pub joined_4 : {a b d e f a' b' d' e' f' : Bool} → a ≡ a' → b ≡ b' → d ≡ d' → e ≡ e' → f ≡ f' → both (both (both (both a b) d) e) f ≡ both (both (both (both a' b') d') e') f'
-joined_4 p q r s t = rw (p, q, r, s, t)
 
 -- ---- words that stand for a record are its words
 

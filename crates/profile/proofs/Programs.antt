@@ -1,45 +1,31 @@
--- A list begins with another, entry by entry; the program of an Execute. Assumes nothing.
-use mathlib.Core.Path.{◌≡◌, refl, ap, ◌∙◌}
-use mathlib.Core.Bool.{Bool, true, false}
+-- A list begins with another; the program of an Execute. Assumes nothing.
+use mathlib.Core.Path.{◌≡◌, refl, sym, ap, ◌∙◌}
+use mathlib.Core.Bool.{Bool, true, false, ◌&&◌}
 use mathlib.Core.List.{List, [], ◌∷◌}
-use Prim.Native.Nat.{ℕ, zero, suc, ◌+◌, ◌-◌, ◌≤◌, ◌<◌}
+use Prim.Native.Nat.{ℕ, ◌+◌, ◌-◌}
 use native.Mathlib.Nat.{add-sub_cancel_left}
-use native.Mathlib.Omega.{arith}
-use lib.ListN.{length, get_or, take, drop}
-use lib.Seq.{drop-cons}
+use lib.ListN.{length, take, drop}
 use lib.Dec.{eqb}
+use Rattle.std.specs.Cmp.Lexicographic.{pointwise}
+use borrow.Author.Tests.{eqb-true, eq-eqb}
 use Rattle.wire.specs.Tests.{both}
+use Rattle.wire.proofs.Tests.{same_test}
 use Rattle.wire.specs.Parts.{slice}
 use Rattle.profile.specs.Programs.{begins, published, plain_flags}
 
-drop_over : (l : List ℕ) (j : ℕ) → length l ≤ j → drop j l ≡ []
-drop_over [] zero h = refl
-drop_over [] (suc j) h = refl
-drop_over (x ∷ l) zero h = absurd (omega arith)
-drop_over (x ∷ l) (suc j) h = drop_over l j (omega arith)
+eqb_swap : (a b : ℕ) → eqb a b ≡ eqb b a
+eqb_swap a b = same_test (eqb a b) (eqb b a) (λ e. eq-eqb b a (sym (eqb-true a b e))) (λ e. eq-eqb a b (sym (eqb-true b a e)))
 
-module _ (s t : List ℕ) (i : ℕ) where
-  step : i < length s → i < length t → begins (drop i s) (drop i t) ≡ both (eqb (get_or s i 0) (get_or t i 0)) (begins (drop (suc i) s) (drop (suc i) t))
-  step h g = ap (λ (x : List ℕ). begins x (drop i t)) (drop-cons s i 0 h) ∙ ap (begins (get_or s i 0 ∷ drop (suc i) s)) (drop-cons t i 0 g)
+joined_as : (a : Bool) {b c : Bool} → b ≡ c → both a b ≡ (a && c)
+joined_as true e = e
+joined_as false e = refl
 
-  -- the first is at its end, the second not
-  pub begins_over : length s ≤ i → i < length t → begins (drop i s) (drop i t) ≡ false
-  begins_over h g = ap (λ (x : List ℕ). begins x (drop i t)) (drop_over s i h) ∙ ap (begins []) (drop-cons t i 0 g)
-
-  -- the entries differ; they are the same
-  pub begins_other : i < length s → i < length t → eqb (get_or s i 0) (get_or t i 0) ≡ false → begins (drop i s) (drop i t) ≡ false
-  begins_other h g e = step h g ∙ rw e
-
-  pub begins_next : i < length s → i < length t → eqb (get_or s i 0) (get_or t i 0) ≡ true → begins (drop i s) (drop i t) ≡ begins (drop (suc i) s) (drop (suc i) t)
-  begins_next h g e = step h g ∙ rw e
-
-begins_none : (s : List ℕ) → begins s [] ≡ true
-begins_none [] = refl
-begins_none (x ∷ s) = refl
-
--- the second is at its end
-pub begins_all : (s t : List ℕ) (i : ℕ) → length t ≤ i → begins (drop i s) (drop i t) ≡ true
-begins_all s t i h = ap (begins (drop i s)) (drop_over t i h) ∙ begins_none (drop i s)
+-- a list begins with t where its first entries are those of t
+pub begins_is : (s t : List ℕ) → begins s t ≡ pointwise eqb t (take (length t) s)
+begins_is [] [] = refl
+begins_is (y ∷ s) [] = refl
+begins_is [] (x ∷ t) = refl
+begins_is (y ∷ s) (x ∷ t) = ap (λ (b : Bool). both b (begins s t)) (eqb_swap y x) ∙ joined_as (eqb x y) (begins_is s t)
 
 -- ---- the program of an Execute
 

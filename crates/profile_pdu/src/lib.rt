@@ -12,51 +12,66 @@ ghost use Rattle.profile.specs.Programs.{begins, published, plain_flags};
 ghost use Rattle.pdu_read.specs.Told.{Reads, Told};
 ghost use Rattle.profile.specs.Counter.{verdict, counter_read, CounterOutcome};
 
+use pdu::{
+    ApplicationIdResponse, Execute, ExecuteResult, Handshake, HandshakeEx, Message, MinMaxInfo,
+    MoveSize, SystemParameters,
+};
 use protocol::Refusal;
+
+// The types of messages that the profile tells apart, as the first word.
+const EXECUTE: u32 = Execute::TYPE as u32;
+
+const SYSTEM_PARAMETERS: u32 = SystemParameters::TYPE as u32;
+
+const HANDSHAKE: u32 = Handshake::TYPE as u32;
+
+const MOVE_SIZE: u32 = MoveSize::TYPE as u32;
+
+const MIN_MAX_INFO: u32 = MinMaxInfo::TYPE as u32;
+
+const APPLICATION_ID_RESPONSE: u32 = ApplicationIdResponse::TYPE as u32;
+
+const HANDSHAKE_EX: u32 = HandshakeEx::TYPE as u32;
+
+const EXECUTE_RESULT: u32 = ExecuteResult::TYPE as u32;
+
+// The settings that a server sends.
+const SCREEN_SAVE_ACTIVE: u32 = 0x11;
+
+const SCREEN_SAVE_SECURE: u32 = 0x77;
 
 // ---- the end that sends a message
 
 // Only a server sends a message of this type, system parameters by their setting.
+#[tactic(auto, unfolding(profile::specs::Ends::server_only))]
 fn is_server_only(kind: u32, setting: u32) -> bool
     ensures { result ≡ server_only kind setting }
 {
-    if kind == 0x03 {
-        return (setting == 0x11) | (setting == 0x77);
+    if kind == SYSTEM_PARAMETERS {
+        return (setting == SCREEN_SAVE_ACTIVE) | (setting == SCREEN_SAVE_SECURE);
     }
-    (kind == 0x13) | (kind == 0x09) | (kind == 0x0A) | (kind == 0x0F) | (kind == 0x80)
+    (kind == HANDSHAKE_EX)
+        | (kind == MOVE_SIZE)
+        | (kind == MIN_MAX_INFO)
+        | (kind == APPLICATION_ID_RESPONSE)
+        | (kind == EXECUTE_RESULT)
 }
 
 // Reading takes a message of this type: Handshake from either end.
 fn is_read(kind: u32, setting: u32) -> bool
     ensures { result ≡ read_taken kind setting }
 {
-    (kind == 0x05) | is_server_only(kind, setting)
+    (kind == HANDSHAKE) | is_server_only(kind, setting)
 }
 
 // ---- the program that a message starts
-
-fn begins_with(s: &[u8], start: &[u8]) -> bool
-    ensures { result ≡ begins s.now start.now }
-{
-    let mut i = 0;
-    while i < start.len() {
-        if i >= s.len() {
-            return false;
-        }
-        if s[i] != start[i] {
-            return false;
-        }
-        i += 1;
-    }
-    true
-}
 
 // The name of a published program begins with two bars and is longer than that.
 fn is_published(name: &[u8]) -> bool
     ensures { result ≡ published name.now }
 {
     let prefix = b"|\x00|\x00";
-    (prefix.len() < name.len()) & begins_with(name, prefix)
+    (prefix.len() < name.len()) & name.starts_with(prefix)
 }
 
 // Neither 0002, 0004 nor 0010 is among the flags.
@@ -85,7 +100,7 @@ fn verdict(w: &[u32; 12], src: &[u8]) -> Option<Refusal>
     if is_server_only(w[0], w[1]) {
         return Some(Refusal::WrongEnd);
     }
-    if w[0] != 0x01 {
+    if w[0] != EXECUTE {
         return None;
     }
     if is_permitted(w[1], w[2], w[3], src) {

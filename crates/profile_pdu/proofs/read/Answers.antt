@@ -1,6 +1,5 @@
 -- A plain refusal stays; what was read is handed out where a server sends it.
-use Rattle.std.proofs.Common.{◌≡◌, ◌∙◌, sym, Ok, Err, rules, ap}
-use Rattle.pdu.specs.declared.Pdu.{Pdu}
+use Rattle.std.proofs.Common.{◌≡◌, ◌∙◌, sym, Err, rules}
 use Rattle.profile.proofs.Counter.{plain_refusal, wrong_end_lem, read_through}
 use Rattle.profile_pdu.proofs.read.Goals as goal
 

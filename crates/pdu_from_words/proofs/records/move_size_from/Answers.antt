@@ -1,7 +1,0 @@
--- Each number is its word, each position the value of its word.
-use Rattle.pdu_words.proofs.FromWords.{value_16, move_size_made}
-use Rattle.pdu_from_words.proofs.records.move_size_from.Goals as goal
-
-pub returns : goal.returns
-returns c =
-    move_size_made c.args.w.now (value_16 c.from_word.type_inv c.from_word.ensures) (value_16 c.from_word-2.type_inv c.from_word-2.ensures)
