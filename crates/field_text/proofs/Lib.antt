@@ -1,3 +1,1 @@
-pub mod Choices
-pub mod Numbers
-pub mod Parts
+pub mod Lists

@@ -1,4 +1,4 @@
-// The fields of a record as text: strings, rectangles, ids and pictures.
+// The fields of a record as text: strings, rectangles, ids and pictures, each as a type that prints as it.
 #![tactic(auto)]
 
 pub mod fields;

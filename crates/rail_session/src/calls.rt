@@ -2,51 +2,44 @@
 use crate::dump::Dump;
 use crate::item::Item;
 use crate::state::State;
+use lines::records::{ReadLine, WrittenLine};
+use lines::{FoundLine, ListsLine, ReplyLine, UpdateLine};
 use script::Stop;
 use session::{LookupTarget, Reply};
-use std::io;
-use update::Report;
 
-// More than the longest line that is laid in memory has.
-pub(crate) const LINE: usize = 262144;
-
-// Ends the line that was laid in memory, and prints it.
-fn tell_line(rt: &impl Print, line: &mut [u8], len: usize) -> Result<(), Stop> {
-    print::end_line(&mut io::writer(rt), line, len)?;
+fn tell_reply(rt: &impl Print, letter: u8, reply: Reply) -> Result<(), Stop> {
+    let kind = char::from(letter);
+    println!(rt; "{}", ReplyLine { kind, reply })?;
     Ok(())
 }
 
-fn tell_reply(rt: &impl Print, line: &mut [u8], letter: u8, reply: Reply) -> Result<(), Stop> {
-    let len = lines::reply(line, letter, reply);
-    tell_line(rt, line, len)
-}
-
-fn tell_report(rt: &impl Print, line: &mut [u8], report: Report) -> Result<(), Stop> {
-    let len = lines::updated(line, report);
-    tell_line(rt, line, len)
-}
-
 // W, N, C, S, H
-fn look(
-    rt: &impl Print,
-    line: &mut [u8],
-    letter: u8,
-    state: &mut State,
-    target: LookupTarget,
-) -> Result<(), Stop> {
+fn look(rt: &impl Print, letter: u8, state: &mut State, target: LookupTarget) -> Result<(), Stop> {
     let mut found = [0u8; lines::FOUND];
     let reply = state.look(target, &mut found);
-    let len = lines::found(line, letter, reply, target, &found);
-    tell_line(rt, line, len)
+    let line = FoundLine {
+        kind: char::from(letter),
+        reply,
+        target,
+        bytes: &found,
+    };
+    println!(rt; "{line}")?;
+    Ok(())
 }
 
 // I
-fn list(rt: &impl Print, line: &mut [u8], letter: u8, state: &mut State) -> Result<(), Stop> {
+fn list(rt: &impl Print, letter: u8, state: &mut State) -> Result<(), Stop> {
     let mut windows = [0u8; ids::LENGTH];
     let mut icons = [0u8; ids::LENGTH];
     let reply = state.list(&mut windows, &mut icons);
-    let len = lines::listed(line, letter, reply, &windows, &icons);
-    tell_line(rt, line, len)
+    let line = ListsLine {
+        kind: char::from(letter),
+        reply,
+        windows: &windows,
+        icons: &icons,
+    };
+    println!(rt; "{line}")?;
+    Ok(())
 }
 
 // The bytes that writing the session record wrote, by its reply.
@@ -58,43 +51,40 @@ fn record_len(reply: Reply) -> usize {
 }
 
 // O
-fn write_record(
-    rt: &(impl AllocGlobal + Print),
-    line: &mut [u8],
-    state: &mut State,
-    size: u16,
-) -> Result<(), Stop> {
+fn write_record(rt: &(impl AllocGlobal + Print), state: &mut State, size: u16) -> Result<(), Stop> {
     let mut out = vec![in rt.alloc(); script::UNTOUCHED; usize::from(size)]?;
     let reply = state.write_record(&mut out);
     let record = script::written(&out, record_len(reply))?;
-    let len = lines::records::written(line, reply, record);
-    tell_line(rt, line, len)
+    println!(rt; "{}", WrittenLine { reply, record })?;
+    Ok(())
 }
 
 // V
-fn read_record(rt: &impl Print, line: &mut [u8], record: &[u8]) -> Result<(), Stop> {
-    let len = lines::records::read(line, record);
-    tell_line(rt, line, len)
+fn read_record(rt: &impl Print, record: &[u8]) -> Result<(), Stop> {
+    println!(rt; "{}", ReadLine(record))?;
+    Ok(())
 }
 
 // Runs an item, and prints its line after its letter.
 pub(crate) fn run(
     rt: &(impl AllocGlobal + Print),
-    line: &mut [u8],
     letter: u8,
     item: Item<'_>,
     state: &mut State,
 ) -> Result<(), Stop> {
     match item {
-        Item::Reset => tell_reply(rt, line, letter, state.reset()),
-        Item::Mark => tell_reply(rt, line, letter, state.mark()),
-        Item::Deliver(order) => tell_reply(rt, line, letter, state.deliver(order)),
-        Item::Undo(steps) => tell_reply(rt, line, letter, state.undo(steps)),
-        Item::Update { limit, orders } => tell_report(rt, line, state.update(limit, orders)),
-        Item::Look(target) => look(rt, line, letter, state, target),
-        Item::Lists => list(rt, line, letter, state),
-        Item::WriteRecord(size) => write_record(rt, line, state, size),
-        Item::ReadRecord(record) => read_record(rt, line, record),
+        Item::Reset => tell_reply(rt, letter, state.reset()),
+        Item::Mark => tell_reply(rt, letter, state.mark()),
+        Item::Deliver(order) => tell_reply(rt, letter, state.deliver(order)),
+        Item::Undo(steps) => tell_reply(rt, letter, state.undo(steps)),
+        Item::Update { limit, orders } => Ok(println!(rt;
+            "{}",
+            UpdateLine(state.update(limit, orders))
+        )?),
+        Item::Look(target) => look(rt, letter, state, target),
+        Item::Lists => list(rt, letter, state),
+        Item::WriteRecord(size) => write_record(rt, state, size),
+        Item::ReadRecord(record) => read_record(rt, record),
         Item::Dump => Ok(println!(rt; "Z {}", Dump(state))?),
         Item::Lend(lengths) => {
             state.set_lengths(lengths);

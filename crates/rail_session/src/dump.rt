@@ -1,5 +1,6 @@
 // Z: the state memory and the places of the store in hex.
 use crate::state::State;
+use print::Hex;
 use std::fmt;
 
 // The most places that are printed.
@@ -8,23 +9,15 @@ const MOST: usize = 64;
 #[derive(Clone, Copy)]
 pub(crate) struct Dump<'a>(pub &'a State);
 
-// Writes bytes in hex.
-fn write_hex<W: fmt::Write>(f: &mut fmt::Formatter<W>, bytes: &[u8]) -> fmt::Result {
-    for byte in bytes {
-        write!(f, "{byte:02x}")?;
-    }
-    Ok(())
-}
-
 impl fmt::Display for Dump<'_> {
     fn fmt<W: fmt::Write>(&self, f: &mut fmt::Formatter<W>) -> fmt::Result {
         for part in self.0.memory() {
-            write_hex(f, part)?;
+            write!(f, "{}", Hex(part))?;
         }
         let mut left = MOST;
         for part in self.0.store() {
             for place in part.chunks_exact(store::PLACE).take(left) {
-                write_hex(f, place)?;
+                write!(f, "{}", Hex(place))?;
                 left = left.saturating_sub(1);
             }
         }

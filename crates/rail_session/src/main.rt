@@ -17,7 +17,6 @@ const USAGE: &str =
 // A proved loop has to end, and nothing says that the input does: the items are counted up to a number that no run reaches.
 fn run(rt: &(impl AllocGlobal + Input + Print)) -> Result<(), Stop> {
     let mut state = State::new(rt.alloc())?;
-    let mut line = vec![in rt.alloc(); 0u8; calls::LINE]?;
     let mut input = rt.reader();
     for _ in 0..u64::MAX {
         let Some(head) = script::head::<3, _>(&mut input)? else {
@@ -31,7 +30,7 @@ fn run(rt: &(impl AllocGlobal + Input + Print)) -> Result<(), Stop> {
         }
         let payload = script::payload(rt.alloc(), &mut input, len)?;
         let item = Item::parse(kind, payload.as_slice()).ok_or(Stop::BadItem)?;
-        calls::run(rt, &mut line, letter, item, &mut state)?;
+        calls::run(rt, letter, item, &mut state)?;
     }
     Ok(())
 }
