@@ -1,43 +1,23 @@
 // A holder of a picture by numbers.
 ghost use Rattle.std.specs.Prelude.{◌≡◌};
-ghost use Rattle.session.specs.Holders.{capped, holder_from};
+ghost use Rattle.session.specs.Holders.{holder_from};
 
 use protocol::{NotifyIconId, WindowId};
 use session::PictureHolder;
 
-fn cache_of(a: u32) -> u8
-    ensures { result ≡ capped 255 a }
-{
-    if 255 < a {
-        return 255;
-    }
-    a as u8
-}
-
-fn entry_of(b: u32) -> u16
-    ensures { result ≡ capped 65535 b }
-{
-    if 65535 < b {
-        return 65535;
-    }
-    b as u16
-}
-
 // 1 a window's small icon, 2 its big one, 3 a notification icon, 4 a window's overlay icon, any other a cell.
+#[tactic(auto, unfolding(session::specs::Holders::holder_from))]
 pub fn holder_of(kind: u8, a: u32, b: u32) -> PictureHolder
     ensures { result ≡ holder_from kind a b }
 {
-    if kind == 1 {
-        return PictureHolder::Small(WindowId { id: a });
+    match kind {
+        1 => PictureHolder::Small(WindowId { id: a }),
+        2 => PictureHolder::Big(WindowId { id: a }),
+        3 => PictureHolder::Notification(WindowId { id: a }, NotifyIconId { id: b }),
+        4 => PictureHolder::Overlay(WindowId { id: a }),
+        _ => PictureHolder::Cell(
+            u8::try_from(a).unwrap_or(255),
+            u16::try_from(b).unwrap_or(65535),
+        ),
     }
-    if kind == 2 {
-        return PictureHolder::Big(WindowId { id: a });
-    }
-    if kind == 3 {
-        return PictureHolder::Notification(WindowId { id: a }, NotifyIconId { id: b });
-    }
-    if kind == 4 {
-        return PictureHolder::Overlay(WindowId { id: a });
-    }
-    PictureHolder::Cell(cache_of(a), entry_of(b))
 }

@@ -9,4 +9,3 @@ pub mod Targets
 pub mod Handed
 pub mod HandedFigures
 pub mod Found
-pub mod HolderKinds

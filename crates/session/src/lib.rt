@@ -14,7 +14,7 @@ pub const BODIES: usize = table::BODIES;
 pub const JOURNAL: usize = journal::LENGTH;
 
 // The number of an answer and, where it is 0, how many orders stand after the mark and their bytes in all.
-#[derive(Clone, Copy)]
+#[derive(Clone, Copy, Debug, PartialEq, Eq)]
 pub struct Reply {
     pub number: u8,
     pub count: u32,
@@ -22,7 +22,7 @@ pub struct Reply {
 }
 
 // Who shows a picture: a cell by cache id and entry, a window's small, big or overlay icon, or a notification icon.
-#[derive(Clone, Copy)]
+#[derive(Clone, Copy, Debug, PartialEq, Eq)]
 pub enum PictureHolder {
     Cell(u8, u16),
     Small(WindowId),
@@ -33,7 +33,7 @@ pub enum PictureHolder {
 
 // What a lookup finds: a window by its id, a notification icon by its two ids, a cell by cache id and entry, the desktop state,
 // the ids of the listed windows or notification icons, or whether two holders share a place.
-#[derive(Clone, Copy)]
+#[derive(Clone, Copy, Debug, PartialEq, Eq)]
 pub enum LookupTarget {
     Window(WindowId),
     Notification(WindowId, NotifyIconId),
