@@ -239,12 +239,20 @@ pub fn judge_near(index: &[u8], s: &[u8], near: usize) -> Plan
     requires { sound_index index.now ≡ true }
     ensures { result ≡ plan_of index.now s.now }
 {
-    match order_judge::judge(s) {
-        Ok(Order::Window(o)) => plan_record(index, s, of_window(o), near),
-        Ok(Order::Notification(o)) => plan_record(index, s, of_notification(o), near),
-        Ok(Order::Desktop(o)) => Plan::ChangeDesktop(o.flags),
-        Err(fault) => Plan::Refuse(u8::from(fault.refusal)),
-    }
+    let order = match order_judge::judge(s) {
+        Ok(order) => order,
+        Err(fault) => {
+            return Plan::Refuse(u8::from(fault.refusal));
+        }
+    };
+    let o = match order {
+        Order::Window(o) => of_window(o),
+        Order::Notification(o) => of_notification(o),
+        Order::Desktop(o) => {
+            return Plan::ChangeDesktop(o.flags);
+        }
+    };
+    plan_record(index, s, o, near)
 }
 
 // The same with no slot known.
