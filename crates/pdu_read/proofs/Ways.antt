@@ -14,7 +14,7 @@ use Rattle.pdu.specs.declared.Pdu.TheVariants.{Execute, Activate, SystemCommand,
 use Rattle.std.specs.Prelude.{Result, Ok, Err}
 use Rattle.protocol.specs.declared.Refusal.{Refusal}
 use Rattle.protocol.specs.declared.Refusal.TheVariants.{TooShort, LengthDiffers, UnknownType, NotFilled, OutsideSet}
-use Rattle.protocol.specs.Refusals.{says}
+use Rattle.protocol.specs.Refusals.{says, number_of}
 use Rattle.pdu.specs.Layout.{known, widths}
 use Rattle.pdu.specs.Settings.{is_byte, is_area, high_contrast, known_setting, Data, data_of, setting_with, data_at, data_size, data_allowed, setting_widths}
 use Rattle.pdu.specs.Records.{span, is_yes, yes_number, record_of, size_of}
@@ -23,7 +23,7 @@ use Rattle.pdu.specs.Rules.{allowed}
 use Rattle.pdu.specs.Reading.{record_as, unknown_setting, lengths_agree, read_of, body_of}
 use Rattle.pdu.specs.RoundTrip.{ReadAgain, ReadOutcome}
 use Rattle.pdu_words.specs.Words.{setting_words, words_of}
-use Rattle.pdu_read.specs.Told.{words_after, Reads}
+use Rattle.pdu_read.specs.Told.{words_after, Told}
 use Rattle.pdu.proofs.Answers.{read_says_lem}
 use Rattle.pdu.proofs.Settings.{Shape, made, shape_known, byte_other, area_other, least_size}
 use Rattle.pdu.proofs.WriteBack.{writes_back}
@@ -143,16 +143,16 @@ module _ (k : ℕ) (n : eqb k 0x03 ≡ false) (s : List ℕ) where
 
 -- ---- what is told of an answer in words
 
-pub told_refused : {a : Result Pdu Refusal} {r : Refusal} {words : List ℕ} → Err r ≡ a → Reads a words (Err r) words
+pub told_refused : {a : Result Pdu Refusal} {r : Refusal} {words : List ℕ} → Err r ≡ a → Told a words (number_of r) words
 unfolding words_after
-told_refused {r = r} {words = words} e = subst (λ (a : Result Pdu Refusal). Reads a words (Err r) words) e (record { answer = refl; memory = refl })
+told_refused {r = r} {words = words} e = subst (λ (a : Result Pdu Refusal). Told a words (number_of r) words) e (record { answer = refl; memory = refl })
 
-pub told_message : {a : Result Pdu Refusal} {p : Pdu} {words ws : List ℕ} → Ok p ≡ a → ws ≡ words_of p → Reads a words (Ok tt) ws
+pub told_message : {a : Result Pdu Refusal} {p : Pdu} {words ws : List ℕ} → Ok p ≡ a → ws ≡ words_of p → Told a words 0 ws
 unfolding words_after
-told_message {words = words} {ws = ws} e w = subst (λ (a : Result Pdu Refusal). Reads a words (Ok tt) ws) e (record { answer = refl; memory = w })
+told_message {words = words} {ws = ws} e w = subst (λ (a : Result Pdu Refusal). Told a words 0 ws) e (record { answer = refl; memory = w })
 
-pub told_as : {a b : Result Pdu Refusal} {r : Result (Unit {0}) Refusal} {words ws : List ℕ} → a ≡ b → Reads a words r ws → Reads b words r ws
-told_as {r = r} {words = words} {ws = ws} e w = subst (λ (a : Result Pdu Refusal). Reads a words r ws) e w
+pub told_as : {a b : Result Pdu Refusal} {r : ℕ} {words ws : List ℕ} → a ≡ b → Told a words r ws → Told b words r ws
+told_as {r = r} {words = words} {ws = ws} e w = subst (λ (a : Result Pdu Refusal). Told a words r ws) e w
 
 -- ---- system parameters
 
@@ -219,7 +219,7 @@ module _ (s : List ℕ) where
       pub data_outside : lengths_agree 0x03 s ≡ true → data_allowed d ≡ false → Err OutsideSet ≡ body_of 0x03 s
       data_outside a w = named-outside 0x03 s named (SystemParameters (record { setting = setting_with c d })) r (size-of ∙ z) a (allowed-is ∙ w)
 
-      pub data_fine : {words ws : List ℕ} → lengths_agree 0x03 s ≡ true → data_allowed d ≡ true → ws ≡ setting_words c d → Reads (body_of 0x03 s) words (Ok tt) ws
+      pub data_fine : {words ws : List ℕ} → lengths_agree 0x03 s ≡ true → data_allowed d ≡ true → ws ≡ setting_words c d → Told (body_of 0x03 s) words 0 ws
       data_fine a w e = told_message (named-fine 0x03 s named (SystemParameters (record { setting = setting_with c d })) r (size-of ∙ z) a (allowed-is ∙ w)) (e ∙ words_are)
 
 -- ---- the ways through reading

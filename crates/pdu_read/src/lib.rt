@@ -14,19 +14,30 @@ use pdu::{
 };
 use protocol::{NotifyIconId, Refusal, WindowId};
 
+// The refusals of a message, by their numbers: a `Result` from each reader costs a quarter of all instructions more (Execute 75, then 94).
+const TOO_SHORT: u32 = Refusal::TooShort as u32;
+
+const LENGTH_DIFFERS: u32 = Refusal::LengthDiffers as u32;
+
+const UNKNOWN_TYPE: u32 = Refusal::UnknownType as u32;
+
+const NOT_FILLED: u32 = Refusal::NotFilled as u32;
+
+const OUTSIDE_SET: u32 = Refusal::OutsideSet as u32;
+
 // ---- the words of a message of each type, whose declared length is right
 
-fn read_execute(s: &[u8], words: &mut [u32; 12]) -> Result<(), Refusal>
-    ensures { Reads (body_of 0x01 s.now) words.old result words.new }
+fn read_execute(s: &[u8], words: &mut [u32; 12]) -> u32
+    ensures { Told (body_of 0x01 s.now) words.old result words.new }
 {
     if s.len() < 12 {
-        return Err(Refusal::NotFilled);
+        return NOT_FILLED;
     }
     let a = wire::read_u16(s, 6) as u32;
     let b = wire::read_u16(s, 8) as u32;
     let c = wire::read_u16(s, 10) as u32;
     if (12 + a + b + c) as usize != s.len() {
-        return Err(Refusal::NotFilled);
+        return NOT_FILLED;
     }
     let e = Execute {
         flags: wire::read_u16(s, 4),
@@ -38,17 +49,17 @@ fn read_execute(s: &[u8], words: &mut [u32; 12]) -> Result<(), Refusal>
         },
     };
     if !pdu_rule::execute_allowed(e) {
-        return Err(Refusal::OutsideSet);
+        return OUTSIDE_SET;
     }
     pdu_to_words::execute_words(words, e);
-    Ok(())
+    0
 }
 
-fn read_activate(s: &[u8], words: &mut [u32; 12]) -> Result<(), Refusal>
-    ensures { Reads (body_of 0x02 s.now) words.old result words.new }
+fn read_activate(s: &[u8], words: &mut [u32; 12]) -> u32
+    ensures { Told (body_of 0x02 s.now) words.old result words.new }
 {
     if s.len() != 9 {
-        return Err(Refusal::NotFilled);
+        return NOT_FILLED;
     }
     let e = Activate {
         window_id: WindowId {
@@ -57,17 +68,17 @@ fn read_activate(s: &[u8], words: &mut [u32; 12]) -> Result<(), Refusal>
         enabled: wire::read_u8(s, 8),
     };
     if !pdu_rule::activate_allowed(e) {
-        return Err(Refusal::OutsideSet);
+        return OUTSIDE_SET;
     }
     pdu_to_words::activate_words(words, e);
-    Ok(())
+    0
 }
 
-fn read_system_command(s: &[u8], words: &mut [u32; 12]) -> Result<(), Refusal>
-    ensures { Reads (body_of 0x04 s.now) words.old result words.new }
+fn read_system_command(s: &[u8], words: &mut [u32; 12]) -> u32
+    ensures { Told (body_of 0x04 s.now) words.old result words.new }
 {
     if s.len() != 10 {
-        return Err(Refusal::NotFilled);
+        return NOT_FILLED;
     }
     let e = SystemCommand {
         window_id: WindowId {
@@ -76,30 +87,30 @@ fn read_system_command(s: &[u8], words: &mut [u32; 12]) -> Result<(), Refusal>
         command: wire::read_u16(s, 8),
     };
     if !pdu_rule::system_command_allowed(e) {
-        return Err(Refusal::OutsideSet);
+        return OUTSIDE_SET;
     }
     pdu_to_words::system_command_words(words, e);
-    Ok(())
+    0
 }
 
-fn read_handshake(s: &[u8], words: &mut [u32; 12]) -> Result<(), Refusal>
-    ensures { Reads (body_of 0x05 s.now) words.old result words.new }
+fn read_handshake(s: &[u8], words: &mut [u32; 12]) -> u32
+    ensures { Told (body_of 0x05 s.now) words.old result words.new }
 {
     if s.len() != 8 {
-        return Err(Refusal::NotFilled);
+        return NOT_FILLED;
     }
     let e = Handshake {
         build_number: wire::read_u32(s, 4),
     };
     pdu_to_words::handshake_words(words, e);
-    Ok(())
+    0
 }
 
-fn read_notify_event(s: &[u8], words: &mut [u32; 12]) -> Result<(), Refusal>
-    ensures { Reads (body_of 0x06 s.now) words.old result words.new }
+fn read_notify_event(s: &[u8], words: &mut [u32; 12]) -> u32
+    ensures { Told (body_of 0x06 s.now) words.old result words.new }
 {
     if s.len() != 16 {
-        return Err(Refusal::NotFilled);
+        return NOT_FILLED;
     }
     let e = NotifyEvent {
         window_id: WindowId {
@@ -111,14 +122,14 @@ fn read_notify_event(s: &[u8], words: &mut [u32; 12]) -> Result<(), Refusal>
         message: wire::read_u32(s, 12),
     };
     pdu_to_words::notify_event_words(words, e);
-    Ok(())
+    0
 }
 
-fn read_window_move(s: &[u8], words: &mut [u32; 12]) -> Result<(), Refusal>
-    ensures { Reads (body_of 0x08 s.now) words.old result words.new }
+fn read_window_move(s: &[u8], words: &mut [u32; 12]) -> u32
+    ensures { Told (body_of 0x08 s.now) words.old result words.new }
 {
     if s.len() != 16 {
-        return Err(Refusal::NotFilled);
+        return NOT_FILLED;
     }
     let id = wire::read_u32(s, 4);
     let left = signs::read_word(s, 8);
@@ -126,7 +137,7 @@ fn read_window_move(s: &[u8], words: &mut [u32; 12]) -> Result<(), Refusal>
     let right = signs::read_word(s, 12);
     let bottom = signs::read_word(s, 14);
     pdu_to_words::four_words(words, 0x08, id, left, top, right, bottom);
-    Ok(())
+    0
 }
 
 // Any number but 0 is a start.
@@ -139,29 +150,29 @@ fn start_number(n: u16) -> u32
     1
 }
 
-fn read_move_size(s: &[u8], words: &mut [u32; 12]) -> Result<(), Refusal>
-    ensures { Reads (body_of 0x09 s.now) words.old result words.new }
+fn read_move_size(s: &[u8], words: &mut [u32; 12]) -> u32
+    ensures { Told (body_of 0x09 s.now) words.old result words.new }
 {
     if s.len() != 16 {
-        return Err(Refusal::NotFilled);
+        return NOT_FILLED;
     }
     let kind = wire::read_u16(s, 10);
     if !pdu_rule::move_size_type_allowed(kind) {
-        return Err(Refusal::OutsideSet);
+        return OUTSIDE_SET;
     }
     let id = wire::read_u32(s, 4);
     let start = start_number(wire::read_u16(s, 8));
     let x = signs::read_word(s, 12);
     let y = signs::read_word(s, 14);
     pdu_to_words::four_words(words, 0x09, id, start, kind as u32, x, y);
-    Ok(())
+    0
 }
 
-fn read_min_max_info(s: &[u8], words: &mut [u32; 12]) -> Result<(), Refusal>
-    ensures { Reads (body_of 0x0A s.now) words.old result words.new }
+fn read_min_max_info(s: &[u8], words: &mut [u32; 12]) -> u32
+    ensures { Told (body_of 0x0A s.now) words.old result words.new }
 {
     if s.len() != 24 {
-        return Err(Refusal::NotFilled);
+        return NOT_FILLED;
     }
     let id = wire::read_u32(s, 4);
     let width = wire::read_u16(s, 8) as u32;
@@ -174,40 +185,40 @@ fn read_min_max_info(s: &[u8], words: &mut [u32; 12]) -> Result<(), Refusal>
     let d = wire::read_u16(s, 22) as u32;
     pdu_to_words::four_words(words, 0x0A, id, width, height, pos_x, pos_y);
     pdu_to_words::track_words(words, a, b, c, d);
-    Ok(())
+    0
 }
 
-fn read_client_information(s: &[u8], words: &mut [u32; 12]) -> Result<(), Refusal>
-    ensures { Reads (body_of 0x0B s.now) words.old result words.new }
+fn read_client_information(s: &[u8], words: &mut [u32; 12]) -> u32
+    ensures { Told (body_of 0x0B s.now) words.old result words.new }
 {
     if s.len() != 8 {
-        return Err(Refusal::NotFilled);
+        return NOT_FILLED;
     }
     let e = ClientInformation {
         flags: wire::read_u32(s, 4),
     };
     pdu_to_words::client_information_words(words, e);
-    Ok(())
+    0
 }
 
-fn read_system_menu(s: &[u8], words: &mut [u32; 12]) -> Result<(), Refusal>
-    ensures { Reads (body_of 0x0C s.now) words.old result words.new }
+fn read_system_menu(s: &[u8], words: &mut [u32; 12]) -> u32
+    ensures { Told (body_of 0x0C s.now) words.old result words.new }
 {
     if s.len() != 12 {
-        return Err(Refusal::NotFilled);
+        return NOT_FILLED;
     }
     let id = wire::read_u32(s, 4);
     let left = signs::read_word(s, 8);
     let top = signs::read_word(s, 10);
     pdu_to_words::four_words(words, 0x0C, id, left, top, 0, 0);
-    Ok(())
+    0
 }
 
-fn read_get_application_id(s: &[u8], words: &mut [u32; 12]) -> Result<(), Refusal>
-    ensures { Reads (body_of 0x0E s.now) words.old result words.new }
+fn read_get_application_id(s: &[u8], words: &mut [u32; 12]) -> u32
+    ensures { Told (body_of 0x0E s.now) words.old result words.new }
 {
     if s.len() != 8 {
-        return Err(Refusal::NotFilled);
+        return NOT_FILLED;
     }
     let e = GetApplicationId {
         window_id: WindowId {
@@ -215,14 +226,14 @@ fn read_get_application_id(s: &[u8], words: &mut [u32; 12]) -> Result<(), Refusa
         },
     };
     pdu_to_words::get_application_id_words(words, e);
-    Ok(())
+    0
 }
 
-fn read_application_id_response(s: &[u8], words: &mut [u32; 12]) -> Result<(), Refusal>
-    ensures { Reads (body_of 0x0F s.now) words.old result words.new }
+fn read_application_id_response(s: &[u8], words: &mut [u32; 12]) -> u32
+    ensures { Told (body_of 0x0F s.now) words.old result words.new }
 {
     if s.len() != 528 {
-        return Err(Refusal::NotFilled);
+        return NOT_FILLED;
     }
     let e = ApplicationIdResponse {
         window_id: WindowId {
@@ -231,18 +242,18 @@ fn read_application_id_response(s: &[u8], words: &mut [u32; 12]) -> Result<(), R
         application_id: Span { at: 8, len: 520 },
     };
     pdu_to_words::application_id_response_words(words, e);
-    Ok(())
+    0
 }
 
-fn read_execute_result(s: &[u8], words: &mut [u32; 12]) -> Result<(), Refusal>
-    ensures { Reads (body_of 0x80 s.now) words.old result words.new }
+fn read_execute_result(s: &[u8], words: &mut [u32; 12]) -> u32
+    ensures { Told (body_of 0x80 s.now) words.old result words.new }
 {
     if s.len() < 16 {
-        return Err(Refusal::NotFilled);
+        return NOT_FILLED;
     }
     let a = wire::read_u16(s, 14) as u32;
     if (16 + a) as usize != s.len() {
-        return Err(Refusal::NotFilled);
+        return NOT_FILLED;
     }
     let e = ExecuteResult {
         flags: wire::read_u16(s, 4),
@@ -251,31 +262,31 @@ fn read_execute_result(s: &[u8], words: &mut [u32; 12]) -> Result<(), Refusal>
         exe_or_file: Span { at: 16, len: a },
     };
     if !pdu_rule::execute_result_allowed(e) {
-        return Err(Refusal::OutsideSet);
+        return OUTSIDE_SET;
     }
     pdu_to_words::execute_result_words(words, e);
-    Ok(())
+    0
 }
 
 // System parameters by the shape of the body: one byte, a rectangle, a color scheme.
-fn read_byte_setting(s: &[u8], number: u32, words: &mut [u32; 12]) -> Result<(), Refusal>
+fn read_byte_setting(s: &[u8], number: u32, words: &mut [u32; 12]) -> u32
     requires { (number ≡ num_at 4 s.now 4) × (is_byte number ≡ true) }
-    ensures { Reads (body_of 0x03 s.now) words.old result words.new }
+    ensures { Told (body_of 0x03 s.now) words.old result words.new }
 {
     if s.len() != 9 {
-        return Err(Refusal::NotFilled);
+        return NOT_FILLED;
     }
     let value = wire::read_u8(s, 8);
     pdu_to_words::byte_setting_words(words, number, value);
-    Ok(())
+    0
 }
 
-fn read_area_setting(s: &[u8], number: u32, words: &mut [u32; 12]) -> Result<(), Refusal>
+fn read_area_setting(s: &[u8], number: u32, words: &mut [u32; 12]) -> u32
     requires { (number ≡ num_at 4 s.now 4) × (is_byte number ≡ false) × (is_area number ≡ true) }
-    ensures { Reads (body_of 0x03 s.now) words.old result words.new }
+    ensures { Told (body_of 0x03 s.now) words.old result words.new }
 {
     if s.len() != 16 {
-        return Err(Refusal::NotFilled);
+        return NOT_FILLED;
     }
     let place = Rectangle {
         left: wire::read_u16(s, 8),
@@ -284,40 +295,40 @@ fn read_area_setting(s: &[u8], number: u32, words: &mut [u32; 12]) -> Result<(),
         bottom: wire::read_u16(s, 14),
     };
     pdu_to_words::area_setting_words(words, number, place);
-    Ok(())
+    0
 }
 
 // The outer length of a color scheme takes in the inner one, 2 bytes.
-fn read_high_contrast(s: &[u8], words: &mut [u32; 12]) -> Result<(), Refusal>
+fn read_high_contrast(s: &[u8], words: &mut [u32; 12]) -> u32
     requires { high_contrast ≡ num_at 4 s.now 4 }
-    ensures { Reads (body_of 0x03 s.now) words.old result words.new }
+    ensures { Told (body_of 0x03 s.now) words.old result words.new }
 {
     if s.len() < 18 {
-        return Err(Refusal::NotFilled);
+        return NOT_FILLED;
     }
     let n = wire::read_u16(s, 16) as u32;
     if (18 + n) as usize != s.len() {
-        return Err(Refusal::NotFilled);
+        return NOT_FILLED;
     }
     if wire::read_u32(s, 12) != n + 2 {
-        return Err(Refusal::NotFilled);
+        return NOT_FILLED;
     }
     let e = HighContrast {
         flags: wire::read_u32(s, 8),
         color_scheme: Span { at: 18, len: n },
     };
     if !pdu_rule::high_contrast_allowed(e) {
-        return Err(Refusal::OutsideSet);
+        return OUTSIDE_SET;
     }
     pdu_to_words::high_contrast_words(words, e);
-    Ok(())
+    0
 }
 
-fn read_system_parameters(s: &[u8], words: &mut [u32; 12]) -> Result<(), Refusal>
-    ensures { Reads (body_of 0x03 s.now) words.old result words.new }
+fn read_system_parameters(s: &[u8], words: &mut [u32; 12]) -> u32
+    ensures { Told (body_of 0x03 s.now) words.old result words.new }
 {
     if s.len() < 8 {
-        return Err(Refusal::NotFilled);
+        return NOT_FILLED;
     }
     let number = wire::read_u32(s, 4);
     if pdu_rule::is_byte_setting(number) {
@@ -329,34 +340,34 @@ fn read_system_parameters(s: &[u8], words: &mut [u32; 12]) -> Result<(), Refusal
     if number == 0x43 {
         return read_high_contrast(s, words);
     }
-    Err(Refusal::OutsideSet)
+    OUTSIDE_SET
 }
 
-fn read_handshake_ex(s: &[u8], words: &mut [u32; 12]) -> Result<(), Refusal>
-    ensures { Reads (body_of 0x13 s.now) words.old result words.new }
+fn read_handshake_ex(s: &[u8], words: &mut [u32; 12]) -> u32
+    ensures { Told (body_of 0x13 s.now) words.old result words.new }
 {
     if s.len() != 12 {
-        return Err(Refusal::NotFilled);
+        return NOT_FILLED;
     }
     let e = HandshakeEx {
         build_number: wire::read_u32(s, 4),
         flags: wire::read_u32(s, 8),
     };
     pdu_to_words::handshake_ex_words(words, e);
-    Ok(())
+    0
 }
 
 // ---- any message
 
-// The words of the record of a message, its strings where they stand in it, or the first refusal.
-pub fn read(message: &[u8], words: &mut [u32; 12]) -> Result<(), Refusal>
-    ensures { Reads (read_of message.now) words.old result words.new }
+// The number of a message, and the words of its record where that is 0; its strings are where they stand in it.
+pub fn read_words(message: &[u8], words: &mut [u32; 12]) -> u32
+    ensures { Told (read_of message.now) words.old result words.new }
 {
     if message.len() < 4 {
-        return Err(Refusal::TooShort);
+        return TOO_SHORT;
     }
     if wire::read_u16(message, 2) as usize != message.len() {
-        return Err(Refusal::LengthDiffers);
+        return LENGTH_DIFFERS;
     }
     let kind = wire::read_u16(message, 0);
     // a copy of the slice: the readers' calls take its address, and message itself stays in registers
@@ -377,16 +388,16 @@ pub fn read(message: &[u8], words: &mut [u32; 12]) -> Result<(), Refusal>
         0x03 => read_system_parameters(whole, words),
         0x13 => read_handshake_ex(whole, words),
         0x80 => read_execute_result(whole, words),
-        _ => Err(Refusal::UnknownType),
+        _ => UNKNOWN_TYPE,
     }
 }
 
-// The same with the number of the refusal, 0 for none.
-pub fn read_words(message: &[u8], words: &mut [u32; 12]) -> u32
-    ensures { Told (read_of message.now) words.old result words.new }
+// The words of a message's record, or its refusal.
+pub fn read(message: &[u8], words: &mut [u32; 12]) -> Result<(), Refusal>
+    ensures { Reads (read_of message.now) words.old result words.new }
 {
-    match read(message, words) {
-        Ok(()) => 0,
-        Err(refusal) => u32::from(refusal),
+    match Refusal::try_from(read_words(message, words)) {
+        Ok(refusal) => Err(refusal),
+        Err(_) => Ok(()),
     }
 }

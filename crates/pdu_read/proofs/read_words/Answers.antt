@@ -6,7 +6,7 @@ use Rattle.pdu.specs.Layout.{known}
 use Rattle.pdu.specs.Reading.{read_of, body_of}
 use Rattle.pdu_words.proofs.FromWords.{no_type}
 use Rattle.pdu_read.proofs.Ways.{short, other_length, unknown, body, told_refused, told_as}
-use Rattle.pdu_read.proofs.read.Goals as goal
+use Rattle.pdu_read.proofs.read_words.Goals as goal
 
 pub returns-then-message-lt4 : goal.returns-then-message-lt4
 unfolding known
