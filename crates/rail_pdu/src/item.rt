@@ -29,16 +29,24 @@ pub(crate) enum Item<'a> {
     Change(u32, u8),
 }
 
+// The number of what a call was refused for, 0 for nothing.
+fn number_of<T>(answer: &Result<T, Refusal>) -> u32 {
+    match answer {
+        Ok(_) => 0,
+        Err(refusal) => u32::from(*refusal),
+    }
+}
+
 // The words of the record that a message is by the plain rules, or the number of the refusal.
 fn read_plain(message: &[u8]) -> Result<Words, u32> {
-    match pdu_read_record::read_pdu(message) {
-        Ok(record) => {
-            let mut words = [0u32; 12];
-            pdu_words_of::words_of(&mut words, record);
-            Ok(words)
-        }
-        Err(refusal) => Err(u32::from(refusal)),
-    }
+    let answer = pdu_read_record::read_pdu(message);
+    let number = number_of(&answer);
+    let Ok(record) = answer else {
+        return Err(number);
+    };
+    let mut words = [0u32; 12];
+    pdu_words_of::words_of(&mut words, record);
+    Ok(words)
 }
 
 // The same by the counter profile.
@@ -106,22 +114,19 @@ fn tell_write(
 
 // Joins a chunk, and prints what the whole message is read as, the refusal, or that more is awaited.
 fn tell_chunk(rt: &impl Print, kind: char, memory: &mut [u8], chunk: &[u8]) -> io::Result<()> {
-    match chunk_join::join(memory, chunk) {
-        Ok(Joined::More(_)) => println!(rt; "{kind} 0"),
-        Ok(Joined::Whole(len)) => {
-            let len = memory.len().min(len as usize);
-            tell_read(rt, kind, Rules::Plain, &memory[..len])
-        }
-        Err(refusal) => println!(rt; "{kind} {}", u32::from(refusal)),
-    }
+    let answer = chunk_join::join(memory, chunk);
+    let number = number_of(&answer);
+    let Ok(Joined::Whole(len)) = answer else {
+        return println!(rt; "{kind} {number}");
+    };
+    let len = memory.len().min(len as usize);
+    tell_read(rt, kind, Rules::Plain, &memory[..len])
 }
 
 // Empties the memory of chunks, and prints the number of the refusal, 0 for none.
 fn tell_empty(rt: &impl Print, kind: char, memory: &mut [u8]) -> io::Result<()> {
-    match chunk_join::reset(memory) {
-        Ok(()) => println!(rt; "{kind} 0"),
-        Err(refusal) => println!(rt; "{kind} {}", u32::from(refusal)),
-    }
+    let number = number_of(&chunk_join::reset(memory));
+    println!(rt; "{kind} {number}")
 }
 
 impl<'a> Item<'a> {
