@@ -1,11 +1,13 @@
 // The desktop: its fields, and the figure of the windows that are shown.
-ghost use Rattle.std.specs.Prelude.{Some};
-ghost use Rattle.std.specs.Fmt.{WritesOnOk};
-ghost use Rattle.desktop_text.specs.Desktop.{fields_text, figure_text, desktop_text};
+ghost use Rattle.std.specs.Prelude.{◌≡◌};
+ghost use Rattle.wire.specs.Tests.{pick};
+ghost use Rattle.print.specs.Laid.{Laid};
+ghost use Rattle.desktop_text.specs.Desktop.{modes_text, fields_text, figure_text, desktop_text};
 
 use field_text::FOUND;
-use field_text::fields::Ids;
-use std::fmt;
+use field_text::fields::stack;
+use print::fill::numbers;
+use protocol::WindowId;
 use view::DesktopRecord;
 
 // The figure stands after the record: the windows that are shown, and the lower and the upper half of their pixels.
@@ -18,45 +20,46 @@ const PIXELS_HIGH: usize = PIXELS_LOW + 4;
 // The numbers of 4 bytes.
 const HALF: u64 = 4294967296;
 
-// The active window, whether the desktop is hooked and synchronizes, and the stacking list.
-#[tactic(auto, unfolding(crate::specs::Desktop::fields_text))]
-fn fields<W: fmt::Write>(f: &mut fmt::Formatter<W>, d: &DesktopRecord) -> fmt::Result
-    ensures { WritesOnOk W.write_str_gives f.old result (fields_text d.now) f.new }
+// 1 for yes.
+fn yes_number(b: bool) -> u64
+    ensures { result ≡ pick b 1 0 }
 {
-    let active = d.active.id;
-    let (hooked, syncing) = (d.hooked as u8, d.syncing as u8);
-    let stack = Ids(&d.stack);
-    write!(
-        f,
-        " active={active} hooked={hooked} syncing={syncing} stack={stack}"
-    )
+    if b { 1 } else { 0 }
+}
+
+// The active window, and whether the desktop is hooked and synchronizes.
+fn modes(out: &mut [u8], at: usize, active: WindowId, hooked: u64, syncing: u64) -> usize
+    ensures { Laid out.old at (modes_text active hooked syncing) out.new result }
+{
+    let ns = [active.id as u64, hooked, syncing];
+    numbers(out, at, b" active=# hooked=# syncing=#", &ns)
+}
+
+// Its modes and its stacking list.
+fn fields(out: &mut [u8], at: usize, d: DesktopRecord) -> usize
+    ensures { Laid out.old at (fields_text d) out.new result }
+{
+    let hooked = yes_number(d.hooked);
+    let syncing = yes_number(d.syncing);
+    let n = modes(out, at, d.active, hooked, syncing);
+    stack(out, n, d.stack)
 }
 
 // The windows that are shown, and their pixels.
-#[tactic(auto, unfolding(crate::specs::Desktop::figure_text))]
-fn figure<W: fmt::Write>(f: &mut fmt::Formatter<W>, shown: u32, low: u32, high: u32) -> fmt::Result
-    ensures { WritesOnOk W.write_str_gives f.old result (figure_text shown low high) f.new }
+fn figure(out: &mut [u8], at: usize, bytes: &[u8; FOUND]) -> usize
+    ensures { Laid out.old at (figure_text bytes.now) out.new result }
 {
-    let pixels = low as u64 + HALF * high as u64;
-    write!(f, " shown={shown} pixels={pixels}")
+    let shown = wire::read_u32(bytes, SHOWN) as u64;
+    let low = wire::read_u32(bytes, PIXELS_LOW) as u64;
+    let high = wire::read_u32(bytes, PIXELS_HIGH) as u64;
+    numbers(out, at, b" shown=# pixels=#", &[shown, low + HALF * high])
 }
 
 // The desktop that the bytes are.
-#[derive(Clone, Copy)]
-pub struct Desktop<'a>(pub &'a [u8; FOUND]);
-
-impl fmt::Display for Desktop<'_> {
-    ghost output = { λ x. Some (desktop_text x.0.now) };
-
-    #[tactic(auto, unfolding(crate::specs::Desktop::desktop_text))]
-    fn fmt<W: fmt::Write>(&self, f: &mut fmt::Formatter<W>) -> fmt::Result {
-        let bytes = self.0;
-        fields(f, &view::desktop(bytes))?;
-        figure(
-            f,
-            wire::read_u32(bytes, SHOWN),
-            wire::read_u32(bytes, PIXELS_LOW),
-            wire::read_u32(bytes, PIXELS_HIGH),
-        )
-    }
+pub fn line(out: &mut [u8], at: usize, bytes: &[u8; FOUND]) -> usize
+    ensures { Laid out.old at (desktop_text bytes.now) out.new result }
+{
+    let d = view::desktop(bytes);
+    let n = fields(out, at, d);
+    figure(out, n, bytes)
 }

@@ -1,4 +1,4 @@
-// The desktop as text, and its notification icons, each as a type that prints as it.
+// The desktop as text, and its notification icons.
 #![tactic(auto)]
 
 pub mod desktop;

@@ -1,81 +1,64 @@
 // A notification icon: its fields and its picture.
-ghost use Rattle.std.specs.Prelude.{Some};
-ghost use Rattle.std.specs.Fmt.{WritesOnOk};
-ghost use Rattle.desktop_text.specs.Notifications.{ids_text, tip_text, balloon_text, shown_as, notification_text};
+ghost use Rattle.print.specs.Laid.{Laid};
+ghost use Rattle.desktop_text.specs.Notifications.{ids_text, limits_text, tip_text, balloon_text, notification_text};
 
 use field_text::FOUND;
-use field_text::fields::Words;
+use field_text::fields::words;
 use field_text::pictures::icon;
+use print::field;
+use print::fill::numbers;
 use protocol::{NotifyIconId, WindowId};
-use std::fmt;
 use view::NotificationRecord;
 
-// The notification icon that the bytes are.
-#[derive(Clone, Copy)]
-pub struct Notification<'a> {
-    pub window: WindowId,
-    pub icon: NotifyIconId,
-    pub bytes: &'a [u8; FOUND],
-}
+// Its picture stands after its record.
+const PICTURE: usize = layout::NOTIFICATION;
 
 // Its ids and its version.
-#[tactic(auto, unfolding(crate::specs::Notifications::ids_text))]
-fn ids<W: fmt::Write>(
-    f: &mut fmt::Formatter<W>,
-    window: WindowId,
-    icon: NotifyIconId,
-    version: u32,
-) -> fmt::Result
-    ensures { WritesOnOk W.write_str_gives f.old result (ids_text window icon version) f.new }
+fn ids(out: &mut [u8], at: usize, window: WindowId, icon: NotifyIconId, version: u32) -> usize
+    ensures { Laid out.old at (ids_text window icon version) out.new result }
 {
-    write!(
-        f,
-        " window={} icon={} version={version}",
-        window.id, icon.id
-    )
+    let ns = [window.id as u64, icon.id as u64, version as u64];
+    numbers(out, at, b" window=# icon=# version=#", &ns)
+}
+
+// The timeout and the flags of its balloon.
+fn limits(out: &mut [u8], at: usize, timeout: u32, flags: u32) -> usize
+    ensures { Laid out.old at (limits_text timeout flags) out.new result }
+{
+    let ns = [timeout as u64, flags as u64];
+    numbers(out, at, b" timeout=# flags=#", &ns)
 }
 
 // Its tip, and what limits its balloon.
-#[tactic(auto, unfolding(crate::specs::Notifications::tip_text))]
-fn tip<W: fmt::Write>(f: &mut fmt::Formatter<W>, r: &NotificationRecord) -> fmt::Result
-    ensures { WritesOnOk W.write_str_gives f.old result (tip_text r.now) f.new }
+fn tip(out: &mut [u8], at: usize, r: NotificationRecord) -> usize
+    ensures { Laid out.old at (tip_text r) out.new result }
 {
-    let tip = Words(&r.tip);
-    write!(f, " tip={tip} timeout={} flags={}", r.timeout, r.flags)
+    let n = words(out, at, b" tip=", r.tip);
+    limits(out, n, r.timeout, r.flags)
 }
 
 // The text and the title of its balloon, and its state.
-#[tactic(auto, unfolding(crate::specs::Notifications::balloon_text))]
-fn balloon<W: fmt::Write>(f: &mut fmt::Formatter<W>, r: &NotificationRecord) -> fmt::Result
-    ensures { WritesOnOk W.write_str_gives f.old result (balloon_text r.now) f.new }
+fn balloon(out: &mut [u8], at: usize, r: NotificationRecord) -> usize
+    ensures { Laid out.old at (balloon_text r) out.new result }
 {
-    let (text, title) = (Words(&r.text), Words(&r.title));
-    write!(f, " text={text} title={title} state={}", r.state)
+    let n = words(out, at, b" text=", r.text);
+    let n = words(out, n, b" title=", r.title);
+    field(out, n, b" state=", r.state as u64)
 }
 
-// Its fields, and its picture, which stands after its record.
-#[tactic(auto, unfolding(crate::specs::Notifications::shown_as))]
-fn fields<W: fmt::Write>(
-    f: &mut fmt::Formatter<W>,
+// The notification icon that the bytes are.
+pub fn line(
+    out: &mut [u8],
+    at: usize,
     window: WindowId,
     notify: NotifyIconId,
     bytes: &[u8; FOUND],
-    r: &NotificationRecord,
-) -> fmt::Result
-    ensures { WritesOnOk W.write_str_gives f.old result (shown_as window notify bytes.now r.now) f.new }
+) -> usize
+    ensures { Laid out.old at (notification_text window notify bytes.now) out.new result }
 {
-    ids(f, window, notify, r.version)?;
-    tip(f, r)?;
-    balloon(f, r)?;
-    icon(f, " picture=", r.icon, bytes, layout::NOTIFICATION)
-}
-
-impl fmt::Display for Notification<'_> {
-    ghost output = { λ x. Some (notification_text x.window x.icon x.bytes.now) };
-
-    #[tactic(auto, unfolding(crate::specs::Notifications::notification_text))]
-    fn fmt<W: fmt::Write>(&self, f: &mut fmt::Formatter<W>) -> fmt::Result {
-        let bytes = self.bytes;
-        fields(f, self.window, self.icon, bytes, &view::notification(bytes))
-    }
+    let r = view::notification(bytes);
+    let n = ids(out, at, window, notify, r.version);
+    let n = tip(out, n, r);
+    let n = balloon(out, n, r);
+    icon(out, n, b" picture=", r.icon, bytes, PICTURE)
 }

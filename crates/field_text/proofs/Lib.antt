@@ -1,1 +1,3 @@
-pub mod Lists
+pub mod Choices
+pub mod Numbers
+pub mod Parts

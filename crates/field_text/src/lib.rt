@@ -1,4 +1,4 @@
-// The fields of a record as text: strings, rectangles, ids and pictures, each as a type that prints as it.
+// The fields of a record as text: strings, rectangles, ids and pictures.
 #![tactic(auto)]
 
 pub mod fields;

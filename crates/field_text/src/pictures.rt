@@ -1,83 +1,80 @@
 // A picture: in a cell a name=value for each field, in a record the values in one.
-ghost use Rattle.std.specs.Prelude.{Some, ◌≤◌, length, drop};
-ghost use Rattle.std.specs.Fmt.{WritesOnOk};
-ghost use Rattle.field_text.specs.Pictures.{cell_text, values_text, icon_text, named_icon};
+ghost use Rattle.std.specs.Prelude.{◌≤◌, length, drop};
+ghost use Rattle.print.specs.Laid.{Laid};
+ghost use Rattle.field_text.specs.Pictures.{sides_text, lying_text, content_text, cell_text, values_text, icon_text};
 ghost use Rattle.view.specs.Views.{picture_view};
 
-use print::Hex;
-use std::fmt;
+use print::fill::numbers;
+use print::{string, text};
 use view::PictureRecord;
 
-// The fields of a picture. Mask, color table and color lie one after the other.
-fn fields<W: fmt::Write>(f: &mut fmt::Formatter<W>, p: &PictureRecord) -> fmt::Result
-    ensures { WritesOnOk W.write_str_gives f.old result (cell_text p.now) f.new }
+// Bits per pixel, width and height, as a template has them.
+fn sides(out: &mut [u8], at: usize, p: PictureRecord, template: &[u8]) -> usize
+    ensures { Laid out.old at (sides_text template.now p) out.new result }
 {
-    let (bits, width, height) = (p.bits, p.width, p.height);
-    let (m, t, c) = (p.mask as usize, p.table as usize, p.color as usize);
-    let mask = Hex::part(&p.bytes, 0, m);
-    let table = Hex::part(&p.bytes, m, t);
-    let color = Hex::part(&p.bytes, m + t, c);
-    write!(
-        f,
-        " bpp={bits} width={width} height={height} mask={mask} table={table} color={color}"
+    numbers(
+        out,
+        at,
+        template,
+        &[p.bits as u64, p.width as u64, p.height as u64],
     )
 }
 
-// Its values, parted by commas.
-fn values<W: fmt::Write>(f: &mut fmt::Formatter<W>, p: &PictureRecord) -> fmt::Result
-    ensures { WritesOnOk W.write_str_gives f.old result (values_text p.now) f.new }
-{
-    let (bits, width, height) = (p.bits, p.width, p.height);
-    let (m, t, c) = (p.mask as usize, p.table as usize, p.color as usize);
-    let mask = Hex::part(&p.bytes, 0, m);
-    let table = Hex::part(&p.bytes, m, t);
-    let color = Hex::part(&p.bytes, m + t, c);
-    write!(f, "{bits},{width},{height},{mask},{table},{color}")
-}
-
-// The fields of the picture in a cell.
-#[derive(Clone, Copy)]
-pub struct Cell<'a>(pub &'a [u8]);
-
-impl fmt::Display for Cell<'_> {
-    ghost output = { λ x. Some (cell_text (picture_view x.0.now)) };
-
-    fn fmt<W: fmt::Write>(&self, f: &mut fmt::Formatter<W>) -> fmt::Result {
-        fields(f, &view::picture(self.0))
-    }
-}
-
-// What an icon shows: the values of its picture, or none.
-#[derive(Clone, Copy)]
-struct Shown<'a> {
-    shown: bool,
-    bytes: &'a [u8],
-}
-
-impl fmt::Display for Shown<'_> {
-    ghost output = { λ x. Some (icon_text x.shown x.bytes.now) };
-
-    #[tactic(auto, unfolding(crate::specs::Pictures::icon_text))]
-    fn fmt<W: fmt::Write>(&self, f: &mut fmt::Formatter<W>) -> fmt::Result {
-        if !self.shown {
-            return f.write_str("none");
-        }
-        values(f, &view::picture(self.bytes))
-    }
-}
-
-// The icon whose picture stands at index at of the bytes, after its name.
-#[tactic(auto, unfolding(crate::specs::Pictures::named_icon))]
-pub fn icon<W: fmt::Write>(
-    f: &mut fmt::Formatter<W>,
-    name: &str,
-    shown: bool,
-    bytes: &[u8],
+// Mask, color table and color, each after its name. They lie one after the other.
+fn lying(
+    out: &mut [u8],
     at: usize,
-) -> fmt::Result
-    requires { at ≤ length bytes.now }
-    ensures { WritesOnOk W.write_str_gives f.old result (named_icon name.now shown (drop at bytes.now)) f.new }
+    s: &[u8],
+    mask: u16,
+    table: u16,
+    color: u16,
+    a: &[u8],
+    b: &[u8],
+    c: &[u8],
+) -> usize
+    ensures { Laid out.old at (lying_text s.now mask table color a.now b.now c.now) out.new result }
 {
-    let bytes = &bytes[at..];
-    write!(f, "{name}{}", Shown { shown, bytes })
+    let m = mask as usize;
+    let t = table as usize;
+    let n = string(out, at, a, s, 0, m);
+    let n = string(out, n, b, s, m, t);
+    string(out, n, c, s, m + t, color as usize)
+}
+
+// The content of a picture.
+fn content(out: &mut [u8], at: usize, p: PictureRecord, a: &[u8], b: &[u8], c: &[u8]) -> usize
+    ensures { Laid out.old at (content_text a.now b.now c.now p) out.new result }
+{
+    let bytes = p.bytes;
+    lying(out, at, &bytes, p.mask, p.table, p.color, a, b, c)
+}
+
+// The fields of a cell.
+pub fn cell(out: &mut [u8], at: usize, bytes: &[u8]) -> usize
+    ensures { Laid out.old at (cell_text (picture_view bytes.now)) out.new result }
+{
+    let p = view::picture(bytes);
+    let n = sides(out, at, p, b" bpp=# width=# height=#");
+    content(out, n, p, b" mask=", b" table=", b" color=")
+}
+
+// The values of a picture.
+fn values(out: &mut [u8], at: usize, bytes: &[u8]) -> usize
+    ensures { Laid out.old at (values_text (picture_view bytes.now)) out.new result }
+{
+    let p = view::picture(bytes);
+    let n = sides(out, at, p, b"#,#,#");
+    content(out, n, p, b",", b",", b",")
+}
+
+// The field of an icon, which may show none; its picture stands at index from of the bytes.
+pub fn icon(out: &mut [u8], at: usize, name: &[u8], there: bool, bytes: &[u8], from: usize) -> usize
+    requires { from ≤ length bytes.now }
+    ensures { Laid out.old at (icon_text name.now there (drop from bytes.now)) out.new result }
+{
+    let n = text(out, at, name);
+    if there {
+        return values(out, n, &bytes[from..]);
+    }
+    text(out, n, b"none")
 }

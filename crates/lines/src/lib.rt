@@ -1,180 +1,86 @@
-// The lines of a call script's answers, each as a type that prints as it, without the line's end: what a call answers, and the record
-// that a lookup hands out, a name=value for each field.
+// The lines of a call script's answers: what a call answers, and the record that a lookup hands out, a name=value for each field.
 #![tactic(auto)]
 
-ghost use Rattle.std.specs.Prelude.{Some};
-ghost use Rattle.std.specs.Fmt.{WritesOnOk};
-ghost use Rattle.lines.specs.Lines.{answer_text, stands_text, granted_text, reply_text, update_text, shared_text, record_text, found_text, lists_text};
+ghost use Rattle.print.specs.Laid.{Laid};
+ghost use Rattle.lines.specs.Lines.{reply_text, update_text, shared_text, record_text, found_text, lists_text};
 
-use desktop_text::desktop::Desktop;
-use desktop_text::notifications::Notification;
-use field_text::pictures::Cell;
-use list_text::Both;
+use print::{field, fill};
 use session::{LookupTarget, Reply};
-use std::fmt;
 use update::Report;
-use window_text::Window;
 
 pub mod records;
 
 // The most bytes that a lookup hands out.
 pub const FOUND: usize = field_text::FOUND;
 
-// The kind and the number of an answer.
-#[tactic(auto, unfolding(crate::specs::Lines::answer_text))]
-pub(crate) fn answer<W: fmt::Write>(
-    f: &mut fmt::Formatter<W>,
-    kind: char,
-    number: u8,
-) -> fmt::Result
-    ensures { WritesOnOk W.write_str_gives f.old result (answer_text kind number) f.new }
-{
-    write!(f, "{kind} {number}")
-}
-
-// What stands after the mark.
-#[tactic(auto, unfolding(crate::specs::Lines::stands_text))]
-fn stands<W: fmt::Write>(f: &mut fmt::Formatter<W>, count: u32, bytes: u32) -> fmt::Result
-    ensures { WritesOnOk W.write_str_gives f.old result (stands_text count bytes) f.new }
-{
-    write!(f, " {count} {bytes}")
-}
-
 // The kind and the number, and for a granted call the count and the bytes.
-#[tactic(auto, unfolding(crate::specs::Lines::reply_text))]
-pub(crate) fn reply_line<W: fmt::Write>(
-    f: &mut fmt::Formatter<W>,
-    kind: char,
-    r: Reply,
-) -> fmt::Result
-    ensures { WritesOnOk W.write_str_gives f.old result (reply_text kind r) f.new }
+pub fn reply(out: &mut [u8], kind: u8, r: Reply) -> usize
+    ensures { Laid out.old 0 (reply_text kind r) out.new result }
 {
-    answer(f, kind, r.number)?;
+    let n = field(out, 0, &[kind, b' '], r.number as u64);
     if r.number != 0 {
-        return Ok(());
+        return n;
     }
-    stands(f, r.count, r.bytes)
-}
-
-// The line of a call.
-#[derive(Clone, Copy)]
-pub struct ReplyLine {
-    pub kind: char,
-    pub reply: Reply,
-}
-
-impl fmt::Display for ReplyLine {
-    ghost output = { λ x. Some (reply_text x.kind x.reply) };
-
-    fn fmt<W: fmt::Write>(&self, f: &mut fmt::Formatter<W>) -> fmt::Result {
-        reply_line(f, self.kind, self.reply)
-    }
-}
-
-// What an update granted, and what then stands.
-#[tactic(auto, unfolding(crate::specs::Lines::granted_text))]
-fn granted<W: fmt::Write>(f: &mut fmt::Formatter<W>, r: &Report) -> fmt::Result
-    ensures { WritesOnOk W.write_str_gives f.old result (granted_text r.now) f.new }
-{
-    write!(f, " {} {} {} {}", r.orders, r.granted, r.count, r.bytes)
+    fill::numbers(out, n, b" # #", &[r.count as u64, r.bytes as u64])
 }
 
 // The line of an update: the number, and where the memory is fit what was granted, and what stands.
-#[derive(Clone, Copy)]
-pub struct UpdateLine(pub Report);
-
-impl fmt::Display for UpdateLine {
-    ghost output = { λ x. Some (update_text x.0) };
-
-    #[tactic(auto, unfolding(crate::specs::Lines::update_text))]
-    fn fmt<W: fmt::Write>(&self, f: &mut fmt::Formatter<W>) -> fmt::Result {
-        answer(f, 'U', self.0.number)?;
-        if self.0.number == 1 {
-            return Ok(());
-        }
-        granted(f, &self.0)
+pub fn updated(out: &mut [u8], r: Report) -> usize
+    ensures { Laid out.old 0 (update_text r) out.new result }
+{
+    let n = field(out, 0, b"U ", r.number as u64);
+    if r.number == 1 {
+        return n;
     }
+    let ns = [
+        r.orders as u64,
+        r.granted as u64,
+        r.count as u64,
+        r.bytes as u64,
+    ];
+    fill::numbers(out, n, b" # # # #", &ns)
 }
 
 // Whether two holders share a picture.
-#[tactic(auto, unfolding(crate::specs::Lines::shared_text))]
-fn shared<W: fmt::Write>(f: &mut fmt::Formatter<W>, bytes: &[u8; FOUND]) -> fmt::Result
-    ensures { WritesOnOk W.write_str_gives f.old result (shared_text bytes.now) f.new }
+fn shared(out: &mut [u8], at: usize, bytes: &[u8; FOUND]) -> usize
+    ensures { Laid out.old at (shared_text bytes.now) out.new result }
 {
-    write!(f, " shared={}", wire::read_u8(bytes, 0))
+    field(out, at, b" shared=", wire::read_u8(bytes, 0) as u64)
 }
 
 // The record in the bytes that were handed out.
-#[tactic(auto, unfolding(crate::specs::Lines::record_text))]
-fn handed_out<W: fmt::Write>(
-    f: &mut fmt::Formatter<W>,
-    target: LookupTarget,
-    bytes: &[u8; FOUND],
-) -> fmt::Result
-    ensures { WritesOnOk W.write_str_gives f.old result (record_text target bytes.now) f.new }
+fn handed_out(out: &mut [u8], at: usize, target: LookupTarget, bytes: &[u8; FOUND]) -> usize
+    ensures { Laid out.old at (record_text target bytes.now) out.new result }
 {
     match target {
-        LookupTarget::Window(id) => write!(f, "{}", Window { id, bytes }),
-        LookupTarget::Notification(window, icon) => write!(
-            f,
-            "{}",
-            Notification {
-                window,
-                icon,
-                bytes
-            }
-        ),
-        LookupTarget::Cell(_, _) => write!(f, "{}", Cell(bytes)),
-        LookupTarget::Desktop => write!(f, "{}", Desktop(bytes)),
-        LookupTarget::Windows | LookupTarget::Notifications => Ok(()),
-        LookupTarget::Shares(_, _) => shared(f, bytes),
+        LookupTarget::Window(w) => window_text::line(out, at, w, bytes),
+        LookupTarget::Notification(w, n) => desktop_text::notifications::line(out, at, w, n, bytes),
+        LookupTarget::Cell(_, _) => field_text::pictures::cell(out, at, bytes),
+        LookupTarget::Desktop => desktop_text::desktop::line(out, at, bytes),
+        LookupTarget::Windows => at,
+        LookupTarget::Notifications => at,
+        LookupTarget::Shares(_, _) => shared(out, at, bytes),
     }
 }
 
 // The line of a lookup.
-#[derive(Clone, Copy)]
-pub struct FoundLine<'a> {
-    pub kind: char,
-    pub reply: Reply,
-    pub target: LookupTarget,
-    pub bytes: &'a [u8; FOUND],
-}
-
-impl fmt::Display for FoundLine<'_> {
-    ghost output = { λ x. Some (found_text x.kind x.reply x.target x.bytes.now) };
-
-    #[tactic(auto, unfolding(crate::specs::Lines::found_text))]
-    fn fmt<W: fmt::Write>(&self, f: &mut fmt::Formatter<W>) -> fmt::Result {
-        reply_line(f, self.kind, self.reply)?;
-        if self.reply.number != 0 {
-            return Ok(());
-        }
-        handed_out(f, self.target, self.bytes)
+pub fn found(out: &mut [u8], kind: u8, r: Reply, target: LookupTarget, bytes: &[u8; FOUND]) -> usize
+    ensures { Laid out.old 0 (found_text kind r target bytes.now) out.new result }
+{
+    let n = reply(out, kind, r);
+    if r.number != 0 {
+        return n;
     }
+    handed_out(out, n, target, bytes)
 }
 
 // The line of the two lists of ids.
-#[derive(Clone, Copy)]
-pub struct ListsLine<'a> {
-    pub kind: char,
-    pub reply: Reply,
-    pub windows: &'a [u8],
-    pub icons: &'a [u8],
-}
-
-impl fmt::Display for ListsLine<'_> {
-    ghost output = { λ x. Some (lists_text x.kind x.reply x.windows.now x.icons.now) };
-
-    #[tactic(auto, unfolding(crate::specs::Lines::lists_text))]
-    fn fmt<W: fmt::Write>(&self, f: &mut fmt::Formatter<W>) -> fmt::Result {
-        reply_line(f, self.kind, self.reply)?;
-        if self.reply.number != 0 {
-            return Ok(());
-        }
-        let both = Both {
-            windows: self.windows,
-            icons: self.icons,
-        };
-        write!(f, "{both}")
+pub fn listed(out: &mut [u8], kind: u8, r: Reply, windows: &[u8], icons: &[u8]) -> usize
+    ensures { Laid out.old 0 (lists_text kind r windows.now icons.now) out.new result }
+{
+    let n = reply(out, kind, r);
+    if r.number != 0 {
+        return n;
     }
+    list_text::both(out, n, windows, icons)
 }

@@ -1,86 +1,54 @@
 // The lines of the session record: as it is written, and as it is read.
-ghost use Rattle.std.specs.Prelude.{Some};
-ghost use Rattle.std.specs.Fmt.{WritesOnOk};
-ghost use Rattle.lines.specs.Records.{record_hex, count_text, bodies_text, contents_text, written_text, read_text};
+ghost use Rattle.print.specs.Laid.{Laid};
+ghost use Rattle.lines.specs.Records.{written_text, bodies_text, contents_text, read_text};
 
-use crate::{answer, reply_line};
-use print::{Hex, Parting};
+use print::field;
+use print::fill::numbers;
 use session::Reply;
-use std::fmt;
-
-// A record in hex.
-#[tactic(auto, unfolding(crate::specs::Records::record_hex))]
-fn hex<W: fmt::Write>(f: &mut fmt::Formatter<W>, bytes: &[u8]) -> fmt::Result
-    ensures { WritesOnOk W.write_str_gives f.old result (record_hex bytes.now) f.new }
-{
-    write!(f, " {}", Hex(bytes))
-}
 
 // The line of a write: the answer, and of a granted one the record.
-#[derive(Clone, Copy)]
-pub struct WrittenLine<'a> {
-    pub reply: Reply,
-    pub record: &'a [u8],
-}
-
-impl fmt::Display for WrittenLine<'_> {
-    ghost output = { λ x. Some (written_text x.reply x.record.now) };
-
-    #[tactic(auto, unfolding(crate::specs::Records::written_text))]
-    fn fmt<W: fmt::Write>(&self, f: &mut fmt::Formatter<W>) -> fmt::Result {
-        reply_line(f, 'O', self.reply)?;
-        if self.reply.number != 0 {
-            return Ok(());
-        }
-        hex(f, self.record)
-    }
-}
-
-// How many bodies follow.
-#[tactic(auto, unfolding(crate::specs::Records::count_text))]
-fn count<W: fmt::Write>(f: &mut fmt::Formatter<W>, n: usize) -> fmt::Result
-    ensures { WritesOnOk W.write_str_gives f.old result (count_text n) f.new }
+pub fn written(out: &mut [u8], r: Reply, s: &[u8]) -> usize
+    ensures { Laid out.old 0 (written_text r s.now) out.new result }
 {
-    write!(f, " {n} bodies=")
+    let n = crate::reply(out, b'O', r);
+    if r.number != 0 {
+        return n;
+    }
+    print::string(out, n, b" ", s, 0, s.len())
 }
 
-// The first n bodies, parted by commas.
-#[tactic(auto, using(crate::proofs::Bodies::no_bodies))]
-fn bodies<W: fmt::Write>(f: &mut fmt::Formatter<W>, s: &[u8], n: usize) -> fmt::Result
-    ensures { WritesOnOk W.write_str_gives f.old result (bodies_text s.now n) f.new }
+// The first k bodies, parted by commas.
+fn bodies(out: &mut [u8], at: usize, s: &[u8], k: usize) -> usize
+    ensures { Laid out.old at (bodies_text s.now k) out.new result }
 {
-    for i in 0..n {
-        let body = record::body(s, i);
-        write!(f, "{}{}", Parting(',', i), Hex(body))?;
+    let mut n = at;
+    let mut i = 0;
+    while i < k {
+        n = print::parting(out, n, i, b',');
+        n = print::hex(out, n, record::body(s, i));
+        i += 1;
     }
-    Ok(())
+    n
 }
 
 // The number of a record, and where that is 0 its bodies, so many.
-#[tactic(auto, unfolding(crate::specs::Records::contents_text))]
-fn contents<W: fmt::Write>(f: &mut fmt::Formatter<W>, s: &[u8], number: u8, n: usize) -> fmt::Result
-    ensures { WritesOnOk W.write_str_gives f.old result (contents_text s.now number n) f.new }
+fn contents(out: &mut [u8], s: &[u8], number: u8, count: usize) -> usize
+    ensures { Laid out.old 0 (contents_text s.now number count) out.new result }
 {
-    answer(f, 'V', number)?;
+    let n = field(out, 0, b"V ", number as u64);
     if number != 0 {
-        return Ok(());
+        return n;
     }
-    count(f, n)?;
-    bodies(f, s, n)
+    let n = numbers(out, n, b" # bodies=", &[count as u64]);
+    bodies(out, n, s, count)
 }
 
 // The line of a record read.
-#[derive(Clone, Copy)]
-pub struct ReadLine<'a>(pub &'a [u8]);
-
-impl fmt::Display for ReadLine<'_> {
-    ghost output = { λ x. Some (read_text x.0.now) };
-
-    fn fmt<W: fmt::Write>(&self, f: &mut fmt::Formatter<W>) -> fmt::Result {
-        let bytes = self.0;
-        match record::inspect(bytes) {
-            Ok(told) => contents(f, bytes, 0, told.count),
-            Err(refusal) => contents(f, bytes, u8::from(refusal), 0),
-        }
+pub fn read(out: &mut [u8], s: &[u8]) -> usize
+    ensures { Laid out.old 0 (read_text s.now) out.new result }
+{
+    match record::inspect(s) {
+        Ok(told) => contents(out, s, 0, told.count),
+        Err(refusal) => contents(out, s, u8::from(refusal), 0),
     }
 }

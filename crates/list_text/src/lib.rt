@@ -1,73 +1,56 @@
-// The lists of ids as text, each as a type that prints as it.
+// The lists of ids as text.
 #![tactic(auto)]
 
-ghost use Rattle.std.specs.Prelude.{Some, ◌≡◌};
-ghost use Rattle.list_text.specs.Lists.{laid_of, windows_text, icons_text, both_text};
+ghost use Rattle.std.specs.Prelude.{◌≡◌};
+ghost use Rattle.print.specs.Laid.{Laid};
+ghost use Rattle.list_text.specs.Lists.{entry_text, entries_text, laid_of, both_text};
 
-use ids::typed;
-use print::Parting;
-use std::fmt;
+use print::{decimal, text};
 
-// The most ids that are printed of a list.
-const MOST: u32 = 32;
+// The most ids that a list has.
+const MOST: u8 = 32;
 
-// How many ids of a list are printed.
-fn printed(bytes: &[u8]) -> u8
+// How many ids of a list are laid.
+fn laid(bytes: &[u8]) -> u8
     ensures { result ≡ laid_of bytes.now }
 {
-    typed::count(bytes).min(MOST) as u8
+    let n = ids::typed::count(bytes);
+    if n < (MOST as u32) { n as u8 } else { MOST }
 }
 
-// The ids of the list of windows, parted by commas.
-#[derive(Clone, Copy)]
-struct Windows<'a>(&'a [u8]);
-
-impl fmt::Display for Windows<'_> {
-    ghost output = { λ x. Some (windows_text x.0.now (laid_of x.0.now)) };
-
-    #[tactic(auto, using(crate::proofs::Items::no_windows))]
-    fn fmt<W: fmt::Write>(&self, f: &mut fmt::Formatter<W>) -> fmt::Result {
-        let bytes = self.0;
-        for i in 0..printed(bytes) {
-            let window = typed::window(bytes, i).id;
-            write!(f, "{}{window}", Parting(',', i as usize))?;
-        }
-        Ok(())
+// Id i of a list; of a notification icon both.
+fn entry(out: &mut [u8], at: usize, bytes: &[u8], i: u8, icons: bool) -> usize
+    ensures { Laid out.old at (entry_text icons bytes.now i) out.new result }
+{
+    if icons {
+        let p = ids::typed::notification(bytes, i);
+        return print::pair(out, at, b"", p.window.id as u64, b'/', p.icon.id as u64);
     }
+    let w = ids::typed::window(bytes, i);
+    decimal(out, at, w.id as u64)
 }
 
-// The ids of the list of notification icons, parted by commas: of each its window's and its own.
-#[derive(Clone, Copy)]
-struct Icons<'a>(&'a [u8]);
-
-impl fmt::Display for Icons<'_> {
-    ghost output = { λ x. Some (icons_text x.0.now (laid_of x.0.now)) };
-
-    #[tactic(auto, using(crate::proofs::Items::no_icons))]
-    fn fmt<W: fmt::Write>(&self, f: &mut fmt::Formatter<W>) -> fmt::Result {
-        let bytes = self.0;
-        for i in 0..printed(bytes) {
-            let ids = typed::notification(bytes, i);
-            let (window, icon) = (ids.window.id, ids.icon.id);
-            write!(f, "{}{window}/{icon}", Parting(',', i as usize))?;
-        }
-        Ok(())
+// The ids of a list, parted by commas.
+fn entries(out: &mut [u8], at: usize, bytes: &[u8], icons: bool) -> usize
+    ensures { Laid out.old at (entries_text icons bytes.now (laid_of bytes.now)) out.new result }
+{
+    let k = laid(bytes);
+    let mut n = at;
+    let mut i: u8 = 0;
+    while i < k {
+        n = print::parting(out, n, i as usize, b',');
+        n = entry(out, n, bytes, i, icons);
+        i += 1;
     }
+    n
 }
 
 // The two lists.
-#[derive(Clone, Copy)]
-pub struct Both<'a> {
-    pub windows: &'a [u8],
-    pub icons: &'a [u8],
-}
-
-impl fmt::Display for Both<'_> {
-    ghost output = { λ x. Some (both_text x.windows.now x.icons.now) };
-
-    #[tactic(auto, unfolding(crate::specs::Lists::both_text))]
-    fn fmt<W: fmt::Write>(&self, f: &mut fmt::Formatter<W>) -> fmt::Result {
-        let (windows, icons) = (Windows(self.windows), Icons(self.icons));
-        write!(f, " windows={windows} icons={icons}")
-    }
+pub fn both(out: &mut [u8], at: usize, windows: &[u8], icons: &[u8]) -> usize
+    ensures { Laid out.old at (both_text windows.now icons.now) out.new result }
+{
+    let n = text(out, at, b" windows=");
+    let n = entries(out, n, windows, false);
+    let n = text(out, n, b" icons=");
+    entries(out, n, icons, true)
 }

@@ -1,13 +1,9 @@
--- The three icons, one after the other.
-use Rattle.std.proofs.Common.{rules}
-use Rattle.std.proofs.Output.{has_written_append}
+-- One text after the other.
+use Rattle.print.proofs.Laid.{then}
+use Rattle.print.specs.Templates.{ascii, ascii_from}
 use Rattle.window_text.specs.Windows.{icons_text}
 use Rattle.window_text.proofs.icons.Goals as goal
 
 pub returns : goal.returns
-unfolding icons_text
-returns g c = λ plain ok.
-    let small = c.icon.ensures plain (search rules) in
-    let big = c.icon-2.ensures small.plain (search rules) in
-    let overlay = c.icon-3.ensures big.plain ok in
-    has_written_append _ _ _ _ _ _ small (has_written_append _ _ _ _ _ _ big overlay)
+unfolding icons_text ascii ascii_from
+returns c = then (then c.icon-n.ensures c.icon-n-2.ensures) c.icon.ensures

@@ -1,8 +1,10 @@
--- Each part of the content that is lent is the part of the definition.
-use Rattle.std.proofs.Common.{rules}
+-- One text after the other, of the picture that the bytes are.
+use Rattle.std.proofs.Common.{ap}
+use Rattle.print.proofs.Laid.{as_text, then}
+use Rattle.print.specs.Templates.{ascii, ascii_from}
 use Rattle.field_text.specs.Pictures.{values_text}
 use Rattle.field_text.proofs.pictures.values.Goals as goal
 
 pub returns : goal.returns
-unfolding values_text
-returns g c = rw (← c.part-mask.ensures, ← c.part-table.ensures, ← c.part-color.ensures) (search rules)
+unfolding values_text ascii ascii_from
+returns c = as_text (ap values_text c.picture-p.ensures) (then c.sides-n.ensures c.content.ensures)

@@ -1,10 +1,20 @@
--- The bodies so far, and one more behind what parts it from them.
-use Rattle.std.proofs.Common.{rules}
-use Rattle.std.proofs.Output.{has_written_append, has_written_of_eq}
-use Rattle.lines.proofs.Bodies.{more_bodies}
+-- From turn to turn the bodies passed are laid.
+use Rattle.std.proofs.Common.{◌-◌, ◌≡◌, ap, arith, rules}
+use Rattle.print.specs.Texts.{hex_text, list_text}
+use Rattle.print.proofs.Laid.{nothing, as_text}
+use Rattle.print.proofs.Texts.{list_next}
+use Rattle.lines.specs.Records.{bodies_text}
 use Rattle.lines.proofs.records.bodies.Goals as goal
 
+pub loop-i-init : goal.loop-i-init
+unfolding bodies_text list_text
+loop-i-init c = (nothing c.args.out.now c.args.at, search rules, search rules)
+
 pub loop-i-preserved : goal.loop-i-preserved
-loop-i-preserved g c = λ plain.
-    has_written_of_eq _ _ _ _ _ (more_bodies _ _)
-    (has_written_append _ _ _ _ _ _ (c.loop-i.invariant plain) (rw (← c.body-body.ensures) (search rules)))
+unfolding bodies_text list_text
+loop-i-preserved c =
+    (list_next _ _ c.loop-i.i c.loop-i.invariant.0 c.parting-n.ensures (as_text (ap hex_text c.body.ensures) c.hex-n.ensures), search rules, search rules)
+
+pub returns : goal.returns
+unfolding bodies_text list_text
+returns c = let e : c.loop-i.i ≡ c.args.k = omega arith in as_text (ap (bodies_text c.args.s.now) e) c.loop-i.invariant.0

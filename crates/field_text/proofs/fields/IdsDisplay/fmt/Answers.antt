@@ -1,9 +1,0 @@
--- The ids so far, and one more behind what parts it from them.
-use Rattle.std.proofs.Common.{rules}
-use Rattle.std.proofs.Output.{has_written_append, has_written_of_eq}
-use Rattle.field_text.proofs.Lists.{more_ids}
-use Rattle.field_text.proofs.fields.IdsDisplay.fmt.Goals as goal
-
-pub loop-i-preserved : goal.loop-i-preserved
-loop-i-preserved g c = λ plain.
-    has_written_of_eq _ _ _ _ _ (more_ids _ _) (has_written_append _ _ _ _ _ _ (c.loop-i.invariant plain) (search rules))

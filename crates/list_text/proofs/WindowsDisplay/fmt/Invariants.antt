@@ -1,6 +1,0 @@
-use Rattle.std.specs.Fmt.{HasWritten, IsPlainFormatter}
-use Rattle.list_text.specs.Lists.{windows_text}
-use Rattle.list_text.proofs.WindowsDisplay.fmt.Given as goal
-
-abbrev pub invariant-loop-i : goal.invariant-loop-i
-invariant-loop-i g l = IsPlainFormatter l.initial.f → HasWritten g.W.Write.write_str_gives l.initial.f (windows_text l.bytes l.i) l.f

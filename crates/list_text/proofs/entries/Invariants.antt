@@ -1,0 +1,10 @@
+use Rattle.std.proofs.Common.{◌-◌, ◌≡◌, ◌≤◌, length}
+use Rattle.print.specs.Laid.{Laid}
+use Rattle.list_text.specs.Lists.{entries_text}
+use Rattle.list_text.proofs.entries.Given as goal
+
+abbrev pub invariant-loop-i : goal.invariant-loop-i
+invariant-loop-i l = Laid l.initial.out l.at (entries_text l.icons l.bytes l.i) l.out l.n × (l.i ≤ l.k) × (length l.out ≡ length l.initial.out)
+
+abbrev pub decreases-loop-i : goal.decreases-loop-i
+decreases-loop-i l = l.k - l.i
