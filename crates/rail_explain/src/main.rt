@@ -2,6 +2,8 @@
 // the second one with the order. Prints the number, its words and, where it is not 0, the offset of the field at fault.
 #![tactic(auto)]
 
+ghost use Rattle.std.specs.Prelude.{◌≤◌, length, IfSome};
+
 use explain::Explanation;
 use protocol::Refusal;
 use std::fs::File;
@@ -25,19 +27,16 @@ fn open<R: Env + Files>(rt: &R, i: usize) -> Option<R::File> {
     File::open(rt, name).ok()
 }
 
-// The file that argument i names, as much of it as so many bytes. None where nothing of it can be read.
-fn read(
-    rt: &(impl AllocGlobal + Env + Files),
-    i: usize,
-    most: usize,
-) -> io::Result<Option<Vec<u8>>> {
-    let Some(mut file) = open(rt, i) else {
-        return Ok(None);
-    };
-    let mut content = vec![in rt.alloc(); 0u8; most]?;
-    let (len, ended) = input::fill(&mut file, content.as_mut_slice());
-    content.truncate(len);
-    Ok(Some(content).filter(|content| !content.is_empty() || ended.is_ok()))
+// The file that argument i names, as much of it as the memory has room for. None where nothing of it can be read.
+fn read<'m>(rt: &(impl Env + Files), i: usize, memory: &'m mut [u8]) -> Option<&'m [u8]>
+    ensures { IfSome result (λ content. length content.now ≤ length memory.old) }
+{
+    let mut file = open(rt, i)?;
+    let (len, ended) = input::fill(&mut file, memory);
+    if len == 0 && ended.is_err() {
+        return None;
+    }
+    Some(&memory[..len])
 }
 
 // Prints what is told of the order.
@@ -68,17 +67,22 @@ fn tell_unfit(rt: &(impl Env + Eprint), has_state: bool, has_order: bool) -> io:
     Ok(())
 }
 
-fn run(rt: &(impl AllocGlobal + Env + Eprint + Files + Print)) -> io::Result<()> {
-    let state = read(rt, 1, STATE)?;
-    let order = read(rt, 2, ORDER)?;
-    let told = explain_call::in_one(
-        state.as_deref().unwrap_or(&[]),
-        order.as_deref().unwrap_or(&[]),
-    );
-    tell(rt, told)?;
+fn run(
+    rt: &(impl Env + Eprint + Files + Print),
+    state: &mut [u8; STATE],
+    order: &mut [u8; ORDER],
+) -> io::Result<()> {
+    let state = read(rt, 1, state);
+    let order = read(rt, 2, order);
+    tell(
+        rt,
+        explain_call::in_one(state.unwrap_or(&[]), order.unwrap_or(&[])),
+    )?;
     tell_unfit(rt, state.is_some(), order.is_some())
 }
 
 fn main(rt: HostRuntime) -> io::Result<()> {
-    run(&rt)
+    let mut state = [0u8; STATE];
+    let mut order = [0u8; ORDER];
+    run(&rt, &mut state, &mut order)
 }

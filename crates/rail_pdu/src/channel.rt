@@ -1,21 +1,21 @@
 // The memory that calls on chunks are lent.
+ghost use Rattle.std.specs.Prelude.{◌≡◌, ◌-◌, length, take};
+
 use script::Stop;
-use std::alloc::{AllocError, Global};
 
 #[derive(Drop)]
-pub(crate) struct ChunkMemory {
-    bytes: Vec<u8>,
+pub(crate) struct ChunkMemory<'m> {
+    bytes: &'m mut [u8],
     // How many bytes the next call lacks.
     missing: usize,
 }
 
-impl ChunkMemory {
+impl<'m> ChunkMemory<'m> {
     // An empty one.
-    pub(crate) fn new(alloc: Global) -> Result<ChunkMemory, AllocError> {
-        let mut bytes = vec![in alloc; 0u8; chunk::MEMORY]?;
+    pub(crate) fn new(bytes: &'m mut [u8; chunk::MEMORY]) -> ChunkMemory<'m> {
         // It is long enough.
-        let _ = chunk_join::reset(&mut bytes);
-        Ok(ChunkMemory { bytes, missing: 0 })
+        let _ = chunk_join::reset(bytes);
+        ChunkMemory { bytes, missing: 0 }
     }
 
     // The next call lacks so many bytes.
@@ -31,7 +31,9 @@ impl ChunkMemory {
     }
 
     // What a call is lent; the one after it is lent the whole again.
-    pub(crate) fn lend(&mut self) -> &mut [u8] {
+    pub(crate) fn lend(&mut self) -> &mut [u8]
+        ensures { result.now ≡ take (length self.old.bytes.now - self.old.missing) self.old.bytes.now }
+    {
         let len = self.bytes.len().saturating_sub(self.missing);
         self.missing = 0;
         &mut self.bytes[..len]

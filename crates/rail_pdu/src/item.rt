@@ -1,10 +1,14 @@
-// The items of a script: each is a kind (1 byte), a length (2) and a payload.
+// The items of a script: each is a kind (1 byte), a length (2) and a payload. A function whose name begins with lay lays a line
+// without its end, and answers where it ends.
 use crate::channel::ChunkMemory;
-use crate::record::{Draft, Hex, Shown, Words};
+use crate::record;
+use crate::record::{Draft, Words};
 use chunk::Joined;
 use protocol::Refusal;
 use script::Stop;
-use std::io;
+
+// The most output memory that an item can ask for.
+const SIZE_MAX: usize = 17408;
 
 // The rules by which a message is read or written.
 #[derive(Clone, Copy, Debug, PartialEq, Eq)]
@@ -86,47 +90,60 @@ impl Rules {
     }
 }
 
-// Prints what a message is read as.
-fn tell_read(rt: &impl Print, kind: char, rules: Rules, message: &[u8]) -> io::Result<()> {
+// The line of an answer that is a number alone.
+fn lay_number(out: &mut [u8], kind: u8, number: u32) -> usize {
+    print::field(out, 0, &[kind, b' '], u64::from(number))
+}
+
+// The line of what a message is read as.
+fn lay_read(out: &mut [u8], kind: u8, rules: Rules, message: &[u8]) -> usize {
     match rules.read(message) {
-        Ok(words) => println!(rt; "{kind} 0 {}", Shown { words, message }),
-        Err(number) => println!(rt; "{kind} {number}"),
+        Ok(words) => {
+            let at = print::byte(out, 0, kind);
+            let at = print::text(out, at, b" 0 type=");
+            record::lay(out, at, &words, message)
+        }
+        Err(number) => lay_number(out, kind, number),
     }
 }
 
-// Writes a record to memory of its own, and prints what became of it.
-fn tell_write(
-    rt: &(impl AllocGlobal + Print),
-    kind: char,
-    rules: Rules,
-    draft: Draft<'_>,
-) -> Result<(), Stop> {
-    let mut out = vec![in rt.alloc(); script::UNTOUCHED; draft.size]?;
-    match rules.write(&draft, &mut out) {
-        Ok(len) => println!(rt; "{kind} 0 {}", Hex(script::written(&out, len)?))?,
+// The line of bytes that were written.
+fn lay_bytes(out: &mut [u8], kind: u8, bytes: &[u8]) -> usize {
+    let at = print::text(out, 0, &[kind, b' ', b'0', b' ']);
+    print::hex(out, at, bytes)
+}
+
+// Writes a record to memory of its own. The line of what became of it; bad where the memory asked for is too large.
+fn lay_write(out: &mut [u8], kind: u8, rules: Rules, draft: &Draft<'_>) -> Result<usize, Stop> {
+    let mut memory = [script::UNTOUCHED; SIZE_MAX];
+    let memory = memory.get_mut(..draft.size).ok_or(Stop::BadItem)?;
+    match rules.write(draft, memory) {
+        Ok(len) => {
+            let bytes = script::written(memory, len)?;
+            Ok(lay_bytes(out, kind, bytes))
+        }
         Err(refusal) => {
-            script::written(&out, 0)?;
-            println!(rt; "{kind} {}", u32::from(refusal))?
+            script::written(memory, 0)?;
+            Ok(lay_number(out, kind, u32::from(refusal)))
         }
     }
-    Ok(())
 }
 
-// Joins a chunk, and prints what the whole message is read as, the refusal, or that more is awaited.
-fn tell_chunk(rt: &impl Print, kind: char, memory: &mut [u8], chunk: &[u8]) -> io::Result<()> {
+// Joins a chunk. The line of what the whole message is read as, of the refusal, or that more is awaited.
+fn lay_chunk(out: &mut [u8], kind: u8, memory: &mut [u8], chunk: &[u8]) -> usize {
     let answer = chunk_join::join(memory, chunk);
     let number = number_of(&answer);
     let Ok(Joined::Whole(len)) = answer else {
-        return println!(rt; "{kind} {number}");
+        return lay_number(out, kind, number);
     };
     let len = memory.len().min(len as usize);
-    tell_read(rt, kind, Rules::Plain, &memory[..len])
+    lay_read(out, kind, Rules::Plain, &memory[..len])
 }
 
-// Empties the memory of chunks, and prints the number of the refusal, 0 for none.
-fn tell_empty(rt: &impl Print, kind: char, memory: &mut [u8]) -> io::Result<()> {
+// Empties the memory of chunks. The line of the number of the refusal, 0 for none.
+fn lay_empty(out: &mut [u8], kind: u8, memory: &mut [u8]) -> usize {
     let number = number_of(&chunk_join::reset(memory));
-    println!(rt; "{kind} {number}")
+    lay_number(out, kind, number)
 }
 
 impl<'a> Item<'a> {
@@ -149,21 +166,26 @@ impl<'a> Item<'a> {
         }
     }
 
-    // Runs it, and prints its line after its kind.
+    // Runs it, and lays its line after its kind. Answers where the line ends, none for an item that has no line.
     pub(crate) fn run(
         self,
-        rt: &(impl AllocGlobal + Print),
-        kind: char,
-        memory: &mut ChunkMemory,
-    ) -> Result<(), Stop> {
+        kind: u8,
+        memory: &mut ChunkMemory<'_>,
+        out: &mut [u8],
+    ) -> Result<Option<usize>, Stop> {
         match self {
-            Item::Read(rules, message) => tell_read(rt, kind, rules, message)?,
-            Item::Write(rules, draft) => tell_write(rt, kind, rules, draft)?,
-            Item::Chunk(chunk) => tell_chunk(rt, kind, memory.lend(), chunk)?,
-            Item::Empty => tell_empty(rt, kind, memory.lend())?,
-            Item::Shorten(missing) => memory.shorten(usize::from(missing)),
-            Item::Change(at, by) => memory.change(at as usize, by)?,
+            Item::Read(rules, message) => Ok(Some(lay_read(out, kind, rules, message))),
+            Item::Write(rules, draft) => Ok(Some(lay_write(out, kind, rules, &draft)?)),
+            Item::Chunk(chunk) => Ok(Some(lay_chunk(out, kind, memory.lend(), chunk))),
+            Item::Empty => Ok(Some(lay_empty(out, kind, memory.lend()))),
+            Item::Shorten(missing) => {
+                memory.shorten(usize::from(missing));
+                Ok(None)
+            }
+            Item::Change(at, by) => {
+                memory.change(at as usize, by)?;
+                Ok(None)
+            }
         }
-        Ok(())
     }
 }

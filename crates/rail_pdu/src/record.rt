@@ -1,11 +1,7 @@
 // A record as its twelve words: its type, then a word for each field, and two for a string, its place and its length.
 use crate::fields::{Field, Form, Shape};
-use std::fmt;
 
 pub(crate) type Words = [u32; 12];
-
-// The most output memory that an item can ask for.
-const SIZE_MAX: usize = 17408;
 
 // The bytes of an item before its fields: the size of the output memory, and the type.
 const FIELDS_AT: usize = 4;
@@ -30,7 +26,7 @@ fn number(field: &[u8], form: Form) -> u32 {
 }
 
 impl<'a> Draft<'a> {
-    // None where the type is not listed, fields and strings do not fill the payload, or the output memory is too large.
+    // None where the type is not listed, or fields and strings do not fill the payload.
     pub(crate) fn parse(payload: &'a [u8]) -> Option<Draft<'a>> {
         let kind = u32::from(wire::read_u16(payload, 2));
         let shape = Shape::of(kind, wire::read_u32(payload, 4))?;
@@ -48,68 +44,47 @@ impl<'a> Draft<'a> {
             }
             *next.next()? = value;
         }
-        let size = usize::from(wire::read_u16(payload, 0));
-        if string_at != payload.len() || size > SIZE_MAX {
+        if string_at != payload.len() {
             return None;
         }
         Some(Draft {
             words,
             strings: payload,
-            size,
+            size: usize::from(wire::read_u16(payload, 0)),
         })
     }
 }
 
-// Bytes in hex.
-#[derive(Clone, Copy)]
-pub(crate) struct Hex<'a>(pub &'a [u8]);
-
-impl fmt::Display for Hex<'_> {
-    fn fmt<W: fmt::Write>(&self, f: &mut fmt::Formatter<W>) -> fmt::Result {
-        for byte in self.0 {
-            write!(f, "{byte:02x}")?;
-        }
-        Ok(())
-    }
+// Lays the name of a field, and answers the index after it.
+fn lay_name(out: &mut [u8], at: usize, name: &str) -> usize {
+    let at = print::byte(out, at, b' ');
+    let at = print::text(out, at, name.as_bytes());
+    print::byte(out, at, b'=')
 }
 
-// A record as it is printed, its strings in the bytes of the message.
-#[derive(Clone, Copy)]
-pub(crate) struct Shown<'a> {
-    pub words: Words,
-    pub message: &'a [u8],
-}
-
-impl Shown<'_> {
-    // The bytes of a string.
-    fn string(&self, at: u32, len: u32) -> Hex<'_> {
-        let Some(rest) = self.message.get(at as usize..) else {
-            return Hex(&[]);
-        };
-        Hex(&rest[..rest.len().min(len as usize)])
-    }
-}
-
-impl fmt::Display for Shown<'_> {
-    fn fmt<W: fmt::Write>(&self, f: &mut fmt::Formatter<W>) -> fmt::Result {
-        let [kind, setting, ..] = self.words;
-        write!(f, "type={kind:04x}")?;
-        let Some(shape) = Shape::of(kind, setting) else {
-            return Ok(());
-        };
-        let mut words = self.words[1..].iter().copied();
-        for Field(name, form) in shape.fields() {
-            let word = words.next().unwrap_or(0);
-            match form {
-                Form::Byte | Form::Flag | Form::Word | Form::Long => write!(f, " {name}={word}")?,
-                Form::Signed => write!(f, " {name}={}", signs::signed32(word))?,
-                Form::Setting => write!(f, " {name}={word:08x}")?,
-                Form::Text => {
-                    let len = words.next().unwrap_or(0);
-                    write!(f, " {name}={}", self.string(word, len))?
-                }
+// Lays a record, its strings in the message, and answers the index after it.
+pub(crate) fn lay(out: &mut [u8], at: usize, words: &Words, message: &[u8]) -> usize {
+    let [kind, setting, ..] = *words;
+    let Some(shape) = Shape::of(kind, setting) else {
+        return at;
+    };
+    let [_, _, high, low] = kind.to_be_bytes();
+    let mut at = print::hex(out, at, &[high, low]);
+    let mut words = words[1..].iter().copied();
+    for Field(name, form) in shape.fields() {
+        at = lay_name(out, at, name);
+        let word = words.next().unwrap_or(0);
+        at = match form {
+            Form::Byte | Form::Flag | Form::Word | Form::Long => {
+                print::decimal(out, at, u64::from(word))
             }
-        }
-        Ok(())
+            Form::Signed => print::signed(out, at, signs::signed32(word)),
+            Form::Setting => print::hex(out, at, &word.to_be_bytes()),
+            Form::Text => {
+                let len = words.next().unwrap_or(0);
+                print::string(out, at, b"", message, word as usize, len as usize)
+            }
+        };
     }
+    at
 }

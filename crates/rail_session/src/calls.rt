@@ -1,45 +1,27 @@
-// The calls of items, and the lines that tell what they answer.
-use crate::dump::Dump;
+// The calls of items, and the lines that tell what they answer. A function whose name begins with lay lays a line without its end,
+// and answers where it ends.
+use crate::dump;
 use crate::item::Item;
 use crate::state::State;
-use lines::records::{ReadLine, WrittenLine};
-use lines::{FoundLine, ListsLine, ReplyLine, UpdateLine};
 use script::Stop;
 use session::{LookupTarget, Reply};
 
-fn tell_reply(rt: &impl Print, letter: u8, reply: Reply) -> Result<(), Stop> {
-    let kind = char::from(letter);
-    println!(rt; "{}", ReplyLine { kind, reply })?;
-    Ok(())
-}
+// The most memory that an item lends for a session record.
+const RECORD: usize = 65535;
 
 // W, N, C, S, H
-fn look(rt: &impl Print, letter: u8, state: &mut State, target: LookupTarget) -> Result<(), Stop> {
+fn lay_found(out: &mut [u8], letter: u8, state: &mut State<'_>, target: LookupTarget) -> usize {
     let mut found = [0u8; lines::FOUND];
     let reply = state.look(target, &mut found);
-    let line = FoundLine {
-        kind: char::from(letter),
-        reply,
-        target,
-        bytes: &found,
-    };
-    println!(rt; "{line}")?;
-    Ok(())
+    lines::found(out, letter, reply, target, &found)
 }
 
 // I
-fn list(rt: &impl Print, letter: u8, state: &mut State) -> Result<(), Stop> {
+fn lay_lists(out: &mut [u8], letter: u8, state: &mut State<'_>) -> usize {
     let mut windows = [0u8; ids::LENGTH];
     let mut icons = [0u8; ids::LENGTH];
     let reply = state.list(&mut windows, &mut icons);
-    let line = ListsLine {
-        kind: char::from(letter),
-        reply,
-        windows: &windows,
-        icons: &icons,
-    };
-    println!(rt; "{line}")?;
-    Ok(())
+    lines::listed(out, letter, reply, &windows, &icons)
 }
 
 // The bytes that writing the session record wrote, by its reply.
@@ -51,46 +33,45 @@ fn record_len(reply: Reply) -> usize {
 }
 
 // O
-fn write_record(rt: &(impl AllocGlobal + Print), state: &mut State, size: u16) -> Result<(), Stop> {
-    let mut out = vec![in rt.alloc(); script::UNTOUCHED; usize::from(size)]?;
-    let reply = state.write_record(&mut out);
-    let record = script::written(&out, record_len(reply))?;
-    println!(rt; "{}", WrittenLine { reply, record })?;
-    Ok(())
+fn lay_record(out: &mut [u8], state: &mut State<'_>, size: u16) -> Result<usize, Stop> {
+    let mut memory = [script::UNTOUCHED; RECORD];
+    let memory = &mut memory[..usize::from(size)];
+    let reply = state.write_record(memory);
+    let record = script::written(memory, record_len(reply))?;
+    Ok(lines::records::written(out, reply, record))
 }
 
-// V
-fn read_record(rt: &impl Print, record: &[u8]) -> Result<(), Stop> {
-    println!(rt; "{}", ReadLine(record))?;
-    Ok(())
-}
-
-// Runs an item, and prints its line after its letter.
+// Makes the call of an item, and lays its line after its letter. None for an item that is no call.
 pub(crate) fn run(
-    rt: &(impl AllocGlobal + Print),
+    out: &mut [u8],
     letter: u8,
     item: Item<'_>,
-    state: &mut State,
-) -> Result<(), Stop> {
+    state: &mut State<'_>,
+) -> Result<Option<usize>, Stop> {
     match item {
-        Item::Reset => tell_reply(rt, letter, state.reset()),
-        Item::Mark => tell_reply(rt, letter, state.mark()),
-        Item::Deliver(order) => tell_reply(rt, letter, state.deliver(order)),
-        Item::Undo(steps) => tell_reply(rt, letter, state.undo(steps)),
-        Item::Update { limit, orders } => Ok(println!(rt;
-            "{}",
-            UpdateLine(state.update(limit, orders))
-        )?),
-        Item::Look(target) => look(rt, letter, state, target),
-        Item::Lists => list(rt, letter, state),
-        Item::WriteRecord(size) => write_record(rt, state, size),
-        Item::ReadRecord(record) => read_record(rt, record),
-        Item::Dump => Ok(println!(rt; "Z {}", Dump(state))?),
+        Item::Reset => Ok(Some(lines::reply(out, letter, state.reset()))),
+        Item::Mark => Ok(Some(lines::reply(out, letter, state.mark()))),
+        Item::Deliver(order) => Ok(Some(lines::reply(out, letter, state.deliver(order)))),
+        Item::Undo(steps) => Ok(Some(lines::reply(out, letter, state.undo(steps)))),
+        Item::Update { limit, orders } => {
+            Ok(Some(lines::updated(out, state.update(limit, orders))))
+        }
+        Item::Look(target) => Ok(Some(lay_found(out, letter, state, target))),
+        Item::Lists => Ok(Some(lay_lists(out, letter, state))),
+        Item::WriteRecord(size) => Ok(Some(lay_record(out, state, size)?)),
+        Item::ReadRecord(record) => Ok(Some(lines::records::read(out, record))),
+        Item::Dump => Ok(Some(dump::lay(out, state))),
         Item::Lend(lengths) => {
             state.set_lengths(lengths);
-            Ok(())
+            Ok(None)
         }
-        Item::Shorten { part, missing } => state.shorten(part, usize::from(missing)),
-        Item::Change { part, at, by } => state.change(part, at as usize, by),
+        Item::Shorten { part, missing } => {
+            state.shorten(part, usize::from(missing))?;
+            Ok(None)
+        }
+        Item::Change { part, at, by } => {
+            state.change(part, at as usize, by)?;
+            Ok(None)
+        }
     }
 }

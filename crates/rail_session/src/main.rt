@@ -15,8 +15,12 @@ const USAGE: &str =
     "rail_session < SCRIPT, a call script of state calls (docs/FORMATS.md); second session < SCRIPT tells which item is bad";
 
 // A proved loop has to end, and nothing says that the input does: the items are counted up to a number that no run reaches.
-fn run(rt: &(impl AllocGlobal + Input + Print)) -> Result<(), Stop> {
-    let mut state = State::new(rt.alloc())?;
+fn run(
+    rt: &(impl Input + Print),
+    state: &mut State<'_>,
+    payload: &mut [u8; script::PAYLOAD],
+    out: &mut [u8; dump::LINE],
+) -> Result<(), Stop> {
     let mut input = rt.reader();
     for _ in 0..u64::MAX {
         let Some(head) = script::head::<3, _>(&mut input)? else {
@@ -28,13 +32,38 @@ fn run(rt: &(impl AllocGlobal + Input + Print)) -> Result<(), Stop> {
         if !kind.fits(len) {
             return Err(Stop::BadItem);
         }
-        let payload = script::payload(rt.alloc(), &mut input, len)?;
-        let item = Item::parse(kind, payload.as_slice()).ok_or(Stop::BadItem)?;
-        calls::run(rt, letter, item, &mut state)?;
+        let payload = script::payload(&mut input, payload, len)?;
+        let item = Item::parse(kind, payload).ok_or(Stop::BadItem)?;
+        if let Some(end) = calls::run(out, letter, item, state)? {
+            if !print::end_line(&mut io::writer(rt), out, end)? {
+                break;
+            }
+        }
     }
     Ok(())
 }
 
 fn main(rt: HostRuntime) -> io::Result<()> {
-    script::end(&rt, run(&rt), USAGE)
+    let mut index = [0xEEu8; session::INDEX];
+    let mut bodies = [0xEEu8; session::BODIES];
+    let mut journal = [0xEEu8; session::JOURNAL];
+    let mut a = [0xEEu8; state::ROOM];
+    let mut b = [0xEEu8; state::ROOM];
+    let mut c = [0xEEu8; state::ROOM];
+    let mut d = [0xEEu8; state::ROOM];
+    let mut e = [0xEEu8; state::ROOM];
+    let mut payload = [0u8; script::PAYLOAD];
+    let mut out = [0u8; dump::LINE];
+    let mut state = State::new(
+        &mut index,
+        &mut bodies,
+        &mut journal,
+        &mut a,
+        &mut b,
+        &mut c,
+        &mut d,
+        &mut e,
+    );
+    let ran = run(&rt, &mut state, &mut payload, &mut out);
+    script::end(&rt, ran, USAGE)
 }

@@ -1,11 +1,12 @@
 // The memory of a run: the state memory in three parts and the store in five, and the calls on what of it is lent.
+ghost use Rattle.std.specs.Prelude.{◌≡◌, ◌-◌, min, length, take};
+
 use script::Stop;
 use session::{LookupTarget, Reply};
-use std::alloc::{AllocError, Global};
 use update::Report;
 
 // The room of a part of the store.
-const ROOM: usize = 65536;
+pub(crate) const ROOM: usize = 65536;
 
 // At first four parts of the store are lent with 15 places and one with 4.
 const MANY: usize = 15 * store::PLACE;
@@ -14,73 +15,89 @@ const FEW: usize = 4 * store::PLACE;
 
 // A part of the memory.
 #[derive(Drop)]
-struct Part {
-    bytes: Vec<u8>,
+struct Part<'m> {
+    bytes: &'m mut [u8],
     // How many of them are lent.
     lent: usize,
     // How many bytes fewer the next call is lent.
     missing: usize,
 }
 
-impl Part {
-    fn new(alloc: Global, room: usize, lent: usize) -> Result<Part, AllocError> {
-        let bytes = vec![in alloc; 0xEEu8; room]?;
-        Ok(Part {
+impl<'m> Part<'m> {
+    fn new(bytes: &'m mut [u8], lent: usize) -> Part<'m>
+        ensures { (result.bytes.now ≡ bytes.old) × (result.lent ≡ lent) × (result.missing ≡ 0) }
+    {
+        Part {
             bytes,
             lent,
             missing: 0,
-        })
+        }
     }
 
     // What the next call is lent. One that has fewer bytes than are missing is lent empty.
-    fn lend(&self) -> &[u8] {
+    fn lend(&self) -> &[u8]
+        ensures { result.now ≡ take (min (self.now.lent - self.now.missing) (length self.now.bytes.now)) self.now.bytes.now }
+    {
         let len = self.lent.saturating_sub(self.missing).min(self.bytes.len());
         &self.bytes[..len]
     }
 
-    fn lend_mut(&mut self) -> &mut [u8] {
+    fn lend_mut(&mut self) -> &mut [u8]
+        ensures { result.now ≡ take (min (self.old.lent - self.old.missing) (length self.old.bytes.now)) self.old.bytes.now }
+    {
         let len = self.lent.saturating_sub(self.missing).min(self.bytes.len());
         &mut self.bytes[..len]
     }
 
     // What is lent where nothing is missing.
-    fn whole(&self) -> &[u8] {
+    fn whole(&self) -> &[u8]
+        ensures { result.now ≡ take (min self.now.lent (length self.now.bytes.now)) self.now.bytes.now }
+    {
         let len = self.lent.min(self.bytes.len());
         &self.bytes[..len]
     }
 }
 
 #[derive(Drop)]
-pub(crate) struct State {
-    index: Part,
-    bodies: Part,
-    journal: Part,
-    a: Part,
-    b: Part,
-    c: Part,
-    d: Part,
-    e: Part,
+pub(crate) struct State<'m> {
+    index: Part<'m>,
+    bodies: Part<'m>,
+    journal: Part<'m>,
+    a: Part<'m>,
+    b: Part<'m>,
+    c: Part<'m>,
+    d: Part<'m>,
+    e: Part<'m>,
 }
 
-impl State {
-    // An empty one.
-    pub(crate) fn new(alloc: Global) -> Result<State, AllocError> {
+impl<'m> State<'m> {
+    // An empty one, over memory for each part.
+    pub(crate) fn new(
+        index: &'m mut [u8; session::INDEX],
+        bodies: &'m mut [u8; session::BODIES],
+        journal: &'m mut [u8; session::JOURNAL],
+        a: &'m mut [u8; ROOM],
+        b: &'m mut [u8; ROOM],
+        c: &'m mut [u8; ROOM],
+        d: &'m mut [u8; ROOM],
+        e: &'m mut [u8; ROOM],
+    ) -> State<'m> {
         let mut state = State {
-            index: Part::new(alloc, session::INDEX, session::INDEX)?,
-            bodies: Part::new(alloc, session::BODIES, session::BODIES)?,
-            journal: Part::new(alloc, session::JOURNAL, session::JOURNAL)?,
-            a: Part::new(alloc, ROOM, MANY)?,
-            b: Part::new(alloc, ROOM, MANY)?,
-            c: Part::new(alloc, ROOM, MANY)?,
-            d: Part::new(alloc, ROOM, MANY)?,
-            e: Part::new(alloc, ROOM, FEW)?,
+            index: Part::new(index, session::INDEX),
+            bodies: Part::new(bodies, session::BODIES),
+            journal: Part::new(journal, session::JOURNAL),
+            a: Part::new(a, MANY),
+            b: Part::new(b, MANY),
+            c: Part::new(c, MANY),
+            d: Part::new(d, MANY),
+            e: Part::new(e, FEW),
         };
         state.reset();
-        Ok(state)
+        state
     }
 
     // A part by its number: those of the state memory, then those of the store. Bad where there is none.
-    fn part(&mut self, number: u8) -> Result<&mut Part, Stop> {
+    fn part(&mut self, number: u8) -> Result<&mut Part<'m>, Stop> {
         match number {
             0 => Ok(&mut self.index),
             1 => Ok(&mut self.bodies),

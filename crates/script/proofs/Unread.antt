@@ -6,8 +6,8 @@ use Rattle.std.specs.Result.{IsErrAnd, OnOk}
 use Rattle.std.specs.declared.io.Error.{Error}
 use Rattle.std.specs.Io.KnownBytes.{Consumes, IsAtEnd}
 use Rattle.script.specs.declared.Stop.{Stop}
-use Rattle.script.specs.declared.Stop.TheVariants.{BadItem, MemoryChanged, Failed}
-use Rattle.script.specs.Reading.{IsOver, IsRead, IsCut, IsFailed, IsFailure, Unread}
+use Rattle.script.specs.declared.Stop.TheVariants.{Failed}
+use Rattle.script.specs.Reading.{IsOver, IsRead, IsCut, IsFailed, Unread}
 
 -- nothing is consumed
 pub consumes_none : (old : Option (List ℕ)) → Consumes old old []
@@ -18,13 +18,6 @@ consumes_none (Some xs) = refl
 pub unread_failed : {A : Type 0} (P : A → Type 0) (least size : ℕ) (old new : Option (List ℕ)) (r : Result A Stop) (error : Error) → IsErr r → IsErrAnd r (λ stop. stop ≡ Failed error) → IsFailed old new → MatchResult r P (λ stop. Unread least size old new stop)
 unread_failed {A} P least size old new (Ok v) error is gives failed = search rules
 unread_failed {A} P least size old new (Err stop) error is gives failed = subst (Unread least size old new) (sym gives) failed
-
--- the same where it is known alone that something failed
-pub unread_failure : {A : Type 0} (P : A → Type 0) (least size : ℕ) (old new : Option (List ℕ)) (r : Result A Stop) → IsErr r → IsErrAnd r IsFailure → IsFailed old new → MatchResult r P (λ stop. Unread least size old new stop)
-unread_failure {A} P least size old new (Ok v) is gives failed = search rules
-unread_failure {A} P least size old new (Err BadItem) is gives failed = search rules
-unread_failure {A} P least size old new (Err MemoryChanged) is gives failed = search rules
-unread_failure {A} P least size old new (Err (Failed error)) is gives failed = failed
 
 -- what is known of a read that went well
 on_ok_is : {A E : Type 0} (r : Result A E) (v : A) (P : Type 0) → r ≡ Ok v → OnOk r P → P

@@ -1,5 +1,5 @@
 -- What reading a part of an item does to the bytes that are left, where those are known. Assumes nothing.
-use Rattle.std.specs.Prelude.{◌≡◌, ℕ, ◌<◌, ◌≤◌, List, [], length, Option, ⊤}
+use Rattle.std.specs.Prelude.{◌≡◌, ℕ, ◌<◌, ◌≤◌, List, [], length, Option}
 use Rattle.std.specs.Io.KnownBytes.{Consumes, IsAtEnd}
 use Rattle.script.specs.declared.Stop.{Stop}
 use Rattle.script.specs.declared.Stop.TheVariants.{BadItem, MemoryChanged, Failed}
@@ -32,9 +32,3 @@ abbrev pub Unread : ℕ → ℕ → Option (List ℕ) → Option (List ℕ) → 
 Unread least size old new BadItem = IsCut least size old new
 Unread least size old new MemoryChanged = ⊥
 Unread least size old new (Failed error) = IsFailed old new
-
--- memory could not be had, or a read or a write failed
-abbrev pub IsFailure : Stop → Type 0
-IsFailure BadItem = ⊥
-IsFailure MemoryChanged = ⊥
-IsFailure (Failed error) = ⊤

@@ -1,12 +1,12 @@
 // What the programs that run a script share: an item read in parts, what ends a run, and the memory that a call is lent for its output.
+// Nothing is allocated: each part is read into memory of the caller.
 #![tactic(auto)]
 
 ghost use Rattle.std.specs.Prelude.{◌≡◌, ◌<◌, ◌≤◌, ◌↔◌, length, take, drop, All, IsOk, IfOk, IfErr, MatchResult, MatchOption};
 ghost use Rattle.script.specs.declared.Stop.TheVariants as S;
 ghost use Rattle.script.specs.Ending.{Ended};
-ghost use Rattle.script.specs.Reading.{IsFailure, IsOver, IsRead, Unread};
+ghost use Rattle.script.specs.Reading.{IsOver, IsRead, Unread};
 
-use std::alloc::{AllocError, Global};
 use std::io;
 use std::io::Read;
 
@@ -17,7 +17,7 @@ pub enum Stop {
     BadItem,
     // A call changed more of the memory lent for its output than it says.
     MemoryChanged,
-    // Memory that cannot be had, or a read or a write that failed.
+    // A read or a write that failed.
     Failed(io::Error),
 }
 
@@ -29,13 +29,8 @@ impl From<io::Error> for Stop {
     }
 }
 
-impl From<AllocError> for Stop {
-    ghost from_gives = { λ _ stop. IsFailure stop };
-
-    fn from(error: AllocError) -> Stop {
-        Stop::Failed(io::Error::from(error))
-    }
-}
+// The most bytes of a payload.
+pub const PAYLOAD: usize = 65535;
 
 // Reads the head of an item. None at the end of the input.
 pub fn head<const N: usize, R: Read>(input: &mut R) -> Result<Option<[u8; N]>, Stop>
@@ -53,12 +48,16 @@ pub fn head<const N: usize, R: Read>(input: &mut R) -> Result<Option<[u8; N]>, S
     Ok(Some(head))
 }
 
-// Reads the payload of an item.
-pub fn payload<R: Read>(alloc: Global, input: &mut R, len: u16) -> Result<Vec<u8>, Stop>
-    ensures { MatchResult result (λ bytes. IsRead len (R.remaining input.old) (R.remaining input.new) bytes.items) (λ stop. Unread 0 len (R.remaining input.old) (R.remaining input.new) stop) }
+// Reads the payload of an item to the start of the memory, and answers that part of it.
+pub fn payload<'m, R: Read>(
+    input: &mut R,
+    memory: &'m mut [u8; PAYLOAD],
+    len: u16,
+) -> Result<&'m [u8], Stop>
+    ensures { MatchResult result (λ bytes. IsRead len (R.remaining input.old) (R.remaining input.new) bytes.now) (λ stop. Unread 0 len (R.remaining input.old) (R.remaining input.new) stop) }
 {
-    let mut payload = vec![in alloc; 0u8; usize::from(len)]?;
-    let (got, ended) = input::fill(input, payload.as_mut_slice());
+    let payload = &mut memory[..usize::from(len)];
+    let (got, ended) = input::fill(input, payload);
     ended?;
     if got < payload.len() {
         return Err(Stop::BadItem);
