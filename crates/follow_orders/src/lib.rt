@@ -178,10 +178,13 @@ fn follow_desktop(m: &mut [u8], s: &[u8], p: Plan)
 
 // What an order that has been judged, at index q of the journal, makes of what is wanted.
 #[tactic(auto, unfolding(follow::specs::Follow::followed_of))]
-pub fn follow(m: &mut [u8], s: &[u8], p: Plan, q: u16, want: Want)
-    requires { (length m.old ≡ room_for (Some want)) × Follows s.now p }
-    ensures { m.new ≡ followed_of (Some want) q s.now p m.old }
+pub fn follow(m: &mut [u8], s: &[u8], p: Plan, q: u16, want: Option<Want>)
+    requires { (length m.old ≡ room_for want) × Follows s.now p }
+    ensures { m.new ≡ followed_of want q s.now p m.old }
 {
+    let Some(want) = want else {
+        return;
+    };
     match want {
         Want::Window(w) => { follow_record(m, s, p, q, Family::Windows, w, NotifyIconId { id: 0 }) }
         Want::Notification(w, n) => follow_record(m, s, p, q, Family::Notifications, w, n),

@@ -34,7 +34,7 @@ fn follow_order(d: &mut [u8], m: &mut [u8], s: &[u8], q: u16, want: Want, near: 
     ensures followed_is_after_the_order { m.new ≡ followed_after (Some want) q d.old s.now m.old }
 {
     let p = index_plan::judge_near(d, s, near);
-    follow_orders::follow(m, s, p, q, want);
+    follow_orders::follow(m, s, p, q, Some(want));
     index_change::apply(d, p);
     let number = index_plan::number(p);
     let slot = index_plan::slot(p);

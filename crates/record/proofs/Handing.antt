@@ -246,6 +246,18 @@ pub opened : (s : Bor (List ℕ)) → 0 ≡ record_number s.now → Opens s (Ok 
 unfolding left_of
 opened s e = record { number = e; lent = refl; left = sym (granted_bodies s.now (sym e)) }
 
+-- a reader of any record has its bodies left
+module _ (s : Bor (List ℕ)) {A : Type 0} (x : Result A Refusal) (e : refused_by x ≡ record_number s.now) where
+  pub over_refused : is_err x ≡ true → (c : ℕ) → c ≡ count_in s.now → left_of (record { «record» = s; next = c }) ≡ bodies_of s.now
+  unfolding left_of
+  over_refused h c is =
+      rw (none_of s.now (ap (λ (n : ℕ). eqb n 0) (sym e) ∙ refused x h))
+      (drop_of_length-le (parts_of s.now) {i = c} (omega (arith, length_parts s.now, is)))
+
+  pub over_granted : is_err x ≡ false → left_of (record { «record» = s; next = 0 }) ≡ bodies_of s.now
+  unfolding left_of
+  over_granted h = sym (granted_bodies s.now (sym e ∙ granted x h))
+
 module _ (r : List ℕ) (i : ℕ) where
   pub left_none : None ≡ turn_of r i → drop i (parts_of r) ≡ []
   left_none e = go (ltb i (count_in r)) refl e

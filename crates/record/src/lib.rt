@@ -12,7 +12,7 @@ ghost use Rattle.journal.specs.Journal.{orders_from, within_from};
 ghost use Rattle.record.specs.Layout.{head_of, layout_from, table_of, record_of};
 ghost use Rattle.record.specs.Reading.{count_in, record_number, parts_of, bodies_of, inspected_of, place_of};
 ghost use Rattle.record.specs.Writing.{Within, fits_in, out_after_of};
-ghost use Rattle.record.specs.Handing.{turn_of, Opens};
+ghost use Rattle.record.specs.Handing.{turn_of, left_of, Opens};
 
 use protocol::Refusal;
 
@@ -169,6 +169,20 @@ impl<'a> Reader<'a> {
         check(record)?;
         Ok(Reader { record, next: 0 })
     }
+
+    // A reader of any record. That of a refused one begins past its last entry, and so has nothing left.
+    #[tactic(auto, using(crate::proofs::Handing::over_refused, crate::proofs::Handing::over_granted))]
+    pub fn over(record: &'a [u8]) -> Reader<'a>
+        ensures lent { result.«record» ≡ «record».entry }
+        ensures left { left_of result ≡ bodies_of «record».now }
+    {
+        let refused = check(record).is_err();
+        if refused {
+            let past = wire::read_u16(record, 0) as usize;
+            return Reader { record, next: past };
+        }
+        Reader { record, next: 0 }
+    }
 }
 
 // Its bodies, each as the part of the record where it lies.
@@ -196,11 +210,8 @@ impl<'a> Iterator for Reader<'a> {
 pub fn total(record: &[u8]) -> usize
     ensures { result ≡ bytes_in (bodies_of «record».now) }
 {
-    let Ok(reader) = Reader::new(record) else {
-        return 0;
-    };
     let mut sum = 0;
-    for body in reader {
+    for body in Reader::over(record) {
         sum += body.len();
     }
     sum
