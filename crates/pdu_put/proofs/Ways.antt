@@ -19,6 +19,7 @@ use Rattle.wire.specs.Numbers.{fits_in, all_fit}
 use Rattle.protocol.specs.declared.Refusal.{Refusal}
 use Rattle.protocol.specs.declared.Refusal.TheVariants.{OutsideSet, OutputTooSmall}
 use Rattle.protocol.specs.Refusals.{says}
+use Rattle.protocol.specs.Refusals as R
 use Rattle.signs.specs.TwosComplement.{unsigned}
 use Rattle.signs.proofs.TwosComplement.{unsigned_small}
 use Rattle.signs.proofs.Bits.{holds_16}
@@ -41,11 +42,11 @@ use Rattle.pdu.proofs.ReadBack.{execute_small, result_small, size_small}
 use Rattle.pdu.proofs.RoundTrip.{after_reads}
 use Rattle.pdu.proofs.WriteBack.{err_no_ok}
 use Rattle.pdu_words.specs.Words.{words_of}
-use Rattle.pdu_words.specs.FromWords.{stand, pdu_of}
+use Rattle.pdu_words.specs.FromWords.{stand, Stands, pdu_of}
 use Rattle.pdu_words.proofs.FromWords.{words_stand, words_back, positions_hold}
 use Rattle.pdu_words.proofs.FromWordsFit.{memory_fits, HeldData, held_data}
 use Rattle.pdu_put.specs.Judging.{judged, Ready, Encoded}
-use Rattle.pdu_put.specs.WordsWritten.{words_written_of, words_out_after, WordsOutcome, unless, out_unless, MessageOutcome, UnlessOutcome}
+use Rattle.pdu_put.specs.WordsWritten.{words_written_of, words_out_after, WordsOutcome, unless, out_unless, UnlessOutcome, IsUnless, MessageOutcome, FurtherOutcome}
 
 yes_small : (b : Bool) → yes_number b < 65536
 yes_small true = omega arith
@@ -156,53 +157,114 @@ unfolding unless
 unless_err None e = refl
 unless_err (Some x) e = refl
 
-pub out_same : (k : Option Refusal) {out' out : List ℕ} → out ≡ out' → out ≡ out_unless k out' out
+pub out_same : {E : Type 0} (k : Option E) {out' out : List ℕ} → out ≡ out' → out ≡ out_unless k out' out
 unfolding out_unless
 out_same None e = e
 out_same (Some x) e = refl
 
-refused : {p : Pdu} {src out : List ℕ} (k : Option Refusal) {e : Refusal} → Err e ≡ written_of p src (length out) → MessageOutcome p src out k (Err e) out
-unfolding out_after_of
-refused {p} {src} {out} k {e} q =
-    record { answer = unless_err k e ∙ ap (unless k) q; memory = out_same k (ap (λ (a : Result ℕ Refusal). out_with a (encode p src) out) q) }
+-- an answer that is another
+unless_as : {E : Type 0} (gives : Refusal → E → Type 0) (k : Option E) (r : Result ℕ E) {a b : Result ℕ Refusal} → a ≡ b → IsUnless gives k a r → IsUnless gives k b r
+unless_as gives k r e h = subst (λ (a : Result ℕ Refusal). IsUnless gives k a r) e h
 
-module _ (p : Pdu) (src out : List ℕ) (k : Option Refusal) where
-  pub outside : None ≡ judged p (length src) → MessageOutcome p src out k (Err OutsideSet) out
+module _ (p : Pdu) (src out : List ℕ) {n : ℕ} (e : Some n ≡ judged p (length src)) (h : n ≤ length out) where
+  pub ready : Ready p src out
+  ready = let s = sized p src e in record { granted = s.granted; room = rw s.size at h }
+
+  passed : Ok n ≡ written_of p src (length out)
   unfolding written_of
-  outside e = refused k (rw (not_granted p src e))
+  passed = let s = sized p src e in rw (s.granted, le-leb (size_of p) (length out) (rw s.size at h)) (ap Ok s.size)
+
+module _ {E : Type 0} (gives : Refusal → E → Type 0) (p : Pdu) (src out : List ℕ) (k : Option E) where
+  refused : {e : Refusal} {x : E} → gives e x → Err e ≡ written_of p src (length out) → MessageOutcome gives p src out k (Err x) out
+  unfolding out_after_of
+  refused {x = x} g q =
+      record { answer = unless_as gives k (Err x) q g; memory = out_same k (ap (λ (a : Result ℕ Refusal). out_with a (encode p src) out) q) }
+
+  pub outside : {x : E} → gives OutsideSet x → None ≡ judged p (length src) → MessageOutcome gives p src out k (Err x) out
+  unfolding written_of
+  outside g e = refused g (rw (not_granted p src e))
 
   module _ {n : ℕ} (e : Some n ≡ judged p (length src)) where
-    pub too_small : length out < n → MessageOutcome p src out k (Err OutputTooSmall) out
+    pub too_small : {x : E} → gives OutputTooSmall x → length out < n → MessageOutcome gives p src out k (Err x) out
     unfolding written_of
-    too_small h = let s = sized p src e in refused k (rw (s.granted, lt-leb (size_of p) (length out) (rw s.size at h)))
+    too_small g h = let s = sized p src e in refused g (rw (s.granted, lt-leb (size_of p) (length out) (rw s.size at h)))
 
     module _ (h : n ≤ length out) where
-      pub ready : Ready p src out
-      ready = let s = sized p src e in record { granted = s.granted; room = rw s.size at h }
+      pub further : {x : E} → k ≡ Some x → MessageOutcome gives p src out k (Err x) out
+      unfolding out_unless
+      further {x} z = record { answer = unless_as gives k (Err x) (passed p src out e h) (rw z); memory = rw z }
 
-      passed : Ok n ≡ written_of p src (length out)
-      unfolding written_of
-      passed = let s = sized p src e in rw (s.granted, le-leb (size_of p) (length out) (rw s.size at h)) (ap Ok s.size)
-
-      pub further : {r : Refusal} → k ≡ Some r → MessageOutcome p src out k (Err r) out
-      unfolding unless out_unless
-      further z = record { answer = rw (z, ← passed); memory = rw z }
-
-      pub wrote : {y : List ℕ} → k ≡ None → Encoded p src out y → MessageOutcome p src out k (Ok n) y
-      unfolding unless out_unless
-      wrote {y} z b = record { answer = rw z passed; memory = rw z (done p src out n y ready.granted ready.room (sized p src e).size b.bytes).1 }
+      pub wrote : {y : List ℕ} → k ≡ None → Encoded p src out y → MessageOutcome gives p src out k (Ok n) y
+      unfolding out_unless
+      wrote {y} z b =
+          let r = ready p src out e h in
+          record { answer = unless_as gives k (Ok n) (passed p src out e h) (rw z); memory = rw z (done p src out n y r.granted r.room (sized p src e).size b.bytes).1 }
 
 -- ---- the same of words
 
-pub standing : {w src out y : List ℕ} {p : Pdu} {k : Option Refusal} {r : Result ℕ Refusal} → stand w ≡ true → p ≡ pdu_of w → MessageOutcome p src out k r y → UnlessOutcome w src out k r y
-unfolding words_written_of words_out_after
-standing {w} {src} {out} {y} {p} {k} {r} st e o =
-    let m = subst (λ (q : Pdu). MessageOutcome q src out k r y) e o in
-    record { answer = m.answer ∙ rw st; memory = m.memory ∙ rw st }
+-- the answer of each step, for words that stand for a record and what judging it gives
+pub judged_none : (w src : List ℕ) (m : ℕ) → false ≡ stand w → Err OutsideSet ≡ words_written_of w src m
+unfolding words_written_of
+judged_none w src m e = rw (← e)
 
-pub no_record : {w src out : List ℕ} (k : Option Refusal) → stand w ≡ false → UnlessOutcome w src out k (Err OutsideSet) out
-unfolding words_written_of words_out_after
-no_record k e = record { answer = unless_err k OutsideSet ∙ rw e; memory = out_same k (rw e) }
+module _ {w : List ℕ} (st : Stands w) (src : List ℕ) (m : ℕ) (j : Option ℕ) (is_judged : j ≡ judged (pdu_of w) (length src)) where
+  as_record : {r : Result ℕ Refusal} → r ≡ written_of (pdu_of w) src m → r ≡ words_written_of w src m
+  unfolding words_written_of
+  as_record e = rw st.holds e
+
+  pub judged_8 : j ≡ None → Err OutsideSet ≡ words_written_of w src m
+  unfolding written_of
+  judged_8 t = as_record (rw (not_granted (pdu_of w) src (sym t ∙ is_judged)))
+
+  module _ {n : ℕ} (t : j ≡ Some n) where
+    words_sized : Sized (pdu_of w) src n
+    words_sized = sized (pdu_of w) src (sym t ∙ is_judged)
+
+    pub judged_14 : m < n → Err OutputTooSmall ≡ words_written_of w src m
+    unfolding written_of
+    judged_14 h = let s = words_sized in as_record (rw (s.granted, lt-leb (size_of (pdu_of w)) m (rw s.size at h)))
+
+    pub judged_bytes : n ≤ m → Ok n ≡ words_written_of w src m
+    unfolding written_of
+    judged_bytes h = let s = words_sized in as_record (rw (s.granted, le-leb (size_of (pdu_of w)) m (rw s.size at h)) (ap Ok s.size))
+
+-- a refusal leaves the output memory
+untouched : (w src out : List ℕ) {e : Refusal} → Err e ≡ words_written_of w src (length out) → out ≡ words_out_after w src out
+unfolding words_written_of words_out_after out_after_of
+untouched w src out {e} q = go (stand w) (written_of (pdu_of w) src (length out)) q
+  where
+    go : (b : Bool) (a : Result ℕ Refusal) → Err e ≡ pick b a (Err OutsideSet) → out ≡ pick b (out_with a (encode (pdu_of w) src) out) out
+    go true (Ok n) q = absurd (err_no_ok q)
+    go true (Err x) q = refl
+    go false a q = refl
+
+module _ {E : Type 0} (gives : Refusal → E → Type 0) {w src out : List ℕ} where
+  pub unless_refused : (k : Option E) {e : Refusal} {x : E} → gives e x → Err e ≡ words_written_of w src (length out) → FurtherOutcome gives w src out k (Err x) out
+  unless_refused k {x = x} g q = record { answer = unless_as gives k (Err x) q g; memory = out_same k (untouched w src out q) }
+
+  pub unless_number : (x : E) {n : ℕ} → Ok n ≡ words_written_of w src (length out) → FurtherOutcome gives w src out (Some x) (Err x) out
+  unfolding out_unless
+  unless_number x q = record { answer = unless_as gives (Some x) (Err x) q refl; memory = refl }
+
+  pub no_record : (k : Option E) {x : E} → gives OutsideSet x → stand w ≡ false → FurtherOutcome gives w src out k (Err x) out
+  no_record k g e = unless_refused k g (judged_none w src (length out) (sym e))
+
+  pub standing : {p : Pdu} {k : Option E} {r : Result ℕ E} {y : List ℕ} → stand w ≡ true → p ≡ pdu_of w → MessageOutcome gives p src out k r y → FurtherOutcome gives w src out k r y
+  unfolding words_written_of words_out_after
+  standing {k = k} {r = r} {y = y} st e o =
+      let m = subst (λ (q : Pdu). MessageOutcome gives q src out k r y) e o in
+      record { answer = unless_as gives k r (rw st) m.answer; memory = m.memory ∙ rw st }
+
+-- where the errors are the refusals
+is_unless : (k : Option Refusal) (a r : Result ℕ Refusal) → IsUnless (λ (e x : Refusal). x ≡ e) k a r → r ≡ unless k a
+unfolding unless
+is_unless None (Ok n) r h = h
+is_unless (Some x) (Ok n) r h = h
+is_unless k (Err e) (Ok n) h = absurd h
+is_unless k (Err e) (Err x) h = ap Err h ∙ unless_err k e
+
+pub as_refusal : {w src out y : List ℕ} {k : Option Refusal} {r : Result ℕ Refusal} → FurtherOutcome (λ (e x : Refusal). x ≡ e) w src out k r y → UnlessOutcome w src out k r y
+as_refusal {w} {src} {out} {k = k} {r = r} o = record { answer = is_unless k (words_written_of w src (length out)) r o.answer; memory = o.memory }
 
 -- what an answer of n bytes says
 pub record Wrote (p : Pdu) (src : List ℕ) (m n : ℕ) : Type 0 where
@@ -235,6 +297,16 @@ bytes_small {w} {src} {out} {n = n} o q = go (stand w) (sym q ∙ o.answer)
         let g = wrote_says (pdu_of w) src (length out) n e in
         omega (arith, g.size, size_small (pdu_of w) (allowed_of (pdu_of w) src g.granted))
     go false e = absurd (err_no_ok (sym e))
+
+pub number_small : {w src out y : List ℕ} {r : Result ℕ Refusal} {e : Refusal} → WordsOutcome w src out r y → r ≡ Err e → R.number_of e < 256
+unfolding words_written_of written_of
+number_small {w} {src} {out} {e = e} o q = go (stand w) (grants (pdu_of w) src) (leb (size_of (pdu_of w)) (length out)) (sym q ∙ o.answer)
+  where
+    go : (b g t : Bool) → Err e ≡ pick b (pick g (pick t (Ok (size_of (pdu_of w))) (Err OutputTooSmall)) (Err OutsideSet)) (Err OutsideSet) → R.number_of e < 256
+    go true true true d = absurd (err_no_ok d)
+    go true true false d = let z : e ≡ OutputTooSmall = cc in rw z (omega arith)
+    go true false t d = let z : e ≡ OutsideSet = cc in rw z (omega arith)
+    go false g t d = let z : e ≡ OutsideSet = cc in rw z (omega arith)
 
 -- ---- a record is written as its words are
 

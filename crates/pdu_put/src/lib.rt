@@ -3,6 +3,7 @@
 
 mod kinds;
 mod numbers;
+mod positions;
 mod settings;
 mod shapes;
 mod strings;
@@ -11,6 +12,7 @@ ghost use Rattle.std.specs.Prelude.{◌≡◌};
 ghost use Rattle.pdu_put.specs.Judging.{judged, Ready, Encoded};
 
 use pdu::Message;
+pub use positions::{MinMaxInfoWords, MoveSizeWords, SystemMenuWords, WindowMoveWords};
 pub use settings::SettingWords;
 
 // A kind of message that is written.

@@ -2,7 +2,7 @@
 use mathlib.Core.Path.{◌≡◌, refl, sym, ap, ◌∙◌, subst}
 use mathlib.Core.Bool.{true, false}
 use mathlib.Core.List.{List}
-use Prim.Native.Nat.{ℕ, suc, ◌+◌, ◌^◌, ◌≤◌}
+use Prim.Native.Nat.{ℕ, suc, ◌+◌, ◌^◌, ◌≤◌, ◌<◌}
 use native.Mathlib.Omega.{arith}
 use lib.Dec.{leb}
 use borrow.Author.Tests.{le-leb}
@@ -14,13 +14,15 @@ use Rattle.signs.proofs.TwosComplement.{num_under, held_2, word_short}
 use Rattle.pdu.specs.declared.Pdu.{Pdu}
 use Rattle.std.specs.Prelude.{Result, Ok, Err}
 use Rattle.protocol.specs.declared.Refusal.{Refusal}
+use Rattle.protocol.specs.declared.Refusal.TheVariants.{UnfitMemory, TooShort, LengthDiffers, UnknownType, UnknownFlag, FlagsClash, NotFilled, OutsideSet, WrongId, TableFull, NoCell, HistoryFull, TooManySteps, OutputTooSmall, ChunkTooShort, BadChunk, NoPlace, RecordCut, RecordDiffers, WrongEnd, NotPermitted}
+use Rattle.protocol.specs.Refusals.{number_of, refused_by}
 use Rattle.pdu.specs.Layout.{types, known, widths}
 use Rattle.pdu.specs.declared.Rectangle.{Rectangle}
 use Rattle.pdu.specs.Settings.{high_contrast, known_setting}
 use Rattle.pdu.specs.Settings as S
 use Rattle.pdu.specs.Records.{is_yes, record_of, positions_of}
 use Rattle.pdu.specs.RoundTrip.{all_hold}
-use Rattle.pdu.specs.Reading.{setting_at, record_as, unknown_setting, read_of}
+use Rattle.pdu.specs.Reading.{setting_at, record_as, unknown_setting, read_of, read_number}
 use Rattle.pdu.proofs.Settings.{by_shape, byte_is, area_is, scheme_is}
 use Rattle.pdu.proofs.WriteBack.{reading, err_no_ok}
 use Rattle.pdu_words.specs.Words.{words_of}
@@ -94,6 +96,40 @@ module _ (s : List ℕ) (ok : Bytes s) where
   read_fits p e =
       let g = reading s p e in
       subst (λ (q : Pdu). fits q ≡ true) g.same_record_lem (one_of_lem Fits types (num_at 2 s 0) g.kind_known each_fits g.named)
+
+-- ---- the numbers of refusals are numbers of one byte
+
+pub refusal_small : (e : Refusal) → number_of e < 256
+refusal_small UnfitMemory = omega arith
+refusal_small TooShort = omega arith
+refusal_small LengthDiffers = omega arith
+refusal_small UnknownType = omega arith
+refusal_small UnknownFlag = omega arith
+refusal_small FlagsClash = omega arith
+refusal_small NotFilled = omega arith
+refusal_small OutsideSet = omega arith
+refusal_small WrongId = omega arith
+refusal_small TableFull = omega arith
+refusal_small NoCell = omega arith
+refusal_small HistoryFull = omega arith
+refusal_small TooManySteps = omega arith
+refusal_small OutputTooSmall = omega arith
+refusal_small ChunkTooShort = omega arith
+refusal_small BadChunk = omega arith
+refusal_small NoPlace = omega arith
+refusal_small RecordCut = omega arith
+refusal_small RecordDiffers = omega arith
+refusal_small WrongEnd = omega arith
+refusal_small NotPermitted = omega arith
+
+-- the ladder's numbers
+pub number_small : (s : List ℕ) → read_number s < 256
+unfolding read_number
+number_small s = go (read_of s)
+  where
+    go : (a : Result Pdu Refusal) → refused_by a < 256
+    go (Ok p) = omega arith
+    go (Err e) = refusal_small e
 
 -- ---- the answer
 

@@ -11,6 +11,9 @@ pub fn read_pdu(s: &[u8]) -> Result<Pdu, Refusal>
     ensures { ReadOutcome s.now result }
 {
     let mut words = [0u32; 12];
-    pdu_read::read(s, &mut words)?;
-    Ok(pdu_from_words::record_from(&words))
+    let read = match pdu_read::read(s, &mut words) {
+        Ok(()) => Ok(pdu_from_words::record_from(&words)),
+        Err(refusal) => Err(refusal),
+    };
+    read
 }

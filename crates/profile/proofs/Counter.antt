@@ -4,11 +4,12 @@ use mathlib.Core.Bool.{Bool, true, false}
 use mathlib.Core.List.{List}
 use Prim.Native.Nat.{ℕ}
 use lib.ListN.{length, get_or}
-use lib.Dec.{leb, eqb}
-use Rattle.std.specs.Prelude.{Option, Some, None, Result, Ok, Err}
+use lib.Dec.{eqb}
+use Rattle.std.specs.Prelude.{Option, Some, None, Result, Ok, Err, option_map}
 use Rattle.wire.specs.Tests.{pick, either}
 use Rattle.protocol.specs.declared.Refusal.{Refusal}
 use Rattle.protocol.specs.declared.Refusal.TheVariants.{OutsideSet, WrongEnd, NotPermitted}
+use Rattle.protocol.specs.Refusals.{number_of}
 use Rattle.pdu.specs.declared.Pdu.{Pdu}
 use Rattle.pdu.specs.Records.{kind_of}
 use Rattle.pdu.specs.Reading.{read_of}
@@ -63,6 +64,10 @@ module _ {w : List ℕ} (st : Stands w) (src : List ℕ) where
   pub verdict_end : server_words w ≡ true → Some WrongEnd ≡ verdict (pdu_of w) src
   unfolding verdict
   verdict_end t = rw (record_end w st, t)
+
+  -- the same by its number
+  pub verdict_20 : server_words w ≡ true → Some 20 ≡ option_map number_of (verdict (pdu_of w) src)
+  verdict_20 t = ap (option_map number_of) (verdict_end t)
 
   pub verdict_other : server_words w ≡ false → (get_or w 0 0 ≡ 0x01 → ⊥) → None ≡ verdict (pdu_of w) src
   unfolding verdict

@@ -6,15 +6,15 @@ use Rattle.pdu_put.proofs.Ways.{no_record, standing}
 use Rattle.pdu_write.proofs.write_setting.Goals as goal
 
 pub returns-then-not-stand : goal.returns-then-not-stand
-returns-then-not-stand c = no_record c.args.further (sym c.stand.ensures ∙ c.if-not-stand.true)
+returns-then-not-stand g c = no_record _ c.args.further c.from.ensures (sym c.stand.ensures ∙ c.if-not-stand.true)
 
 pub invariant_of-write_message : goal.invariant_of-write_message
-invariant_of-write_message c =
+invariant_of-write_message g c =
     let stands : Stands c.args.w.now = record { holds = sym c.stand.ensures ∙ c.if-not-stand.false } in
     record { within = inside 0x03 stands c.requires }
 
 pub returns : goal.returns
 unfolding record_from
-returns c =
+returns g c =
     let stands : Stands c.args.w.now = record { holds = sym c.stand.ensures ∙ c.if-not-stand.false } in
-    standing (sym c.stand.ensures ∙ c.if-not-stand.false) (sym (is_type 0x03 stands c.requires refl)) c.write_message.ensures
+    standing _ (sym c.stand.ensures ∙ c.if-not-stand.false) (sym (is_type 0x03 stands c.requires refl)) c.write_message.ensures

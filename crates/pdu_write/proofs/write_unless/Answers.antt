@@ -8,8 +8,4 @@ use Rattle.pdu_write.proofs.write_unless.Goals as goal
 
 pub returns-in_default : goal.returns-in_default
 unfolding stand known
-returns-in_default c = let none : stand c.args.w.now ≡ false = grind (arith, common_steps) in no_record c.args.further none
-
-pub returns-in_default-2 : goal.returns-in_default-2
-unfolding stand known
-returns-in_default-2 c = let none : stand c.args.w.now ≡ false = grind (arith, common_steps) in no_record c.args.further none
+returns-in_default g c = let none : stand c.args.w.now ≡ false = grind (arith, common_steps) in no_record _ c.args.further c.from.ensures none
