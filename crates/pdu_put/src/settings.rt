@@ -11,6 +11,8 @@ use crate::numbers::lies_in;
 use crate::shapes::{put_byte, put_four};
 use crate::strings::put_high_contrast;
 use pdu::{HighContrast, Message, SystemParameters};
+use pdu_from_words::FromWords;
+use pdu_words_rule::Words;
 
 // The words of system parameters.
 #[derive(Clone, Copy, Debug)]
@@ -27,6 +29,21 @@ impl Message for SettingWords {
     ghost message = { λ s. P.SystemParameters (system_parameters_from s.words) };
 
     ghost is_of_its_type = { λ s. K.system_parameters (system_parameters_from s.words) };
+}
+
+impl Words for SettingWords {
+    #[inline(always)]
+    fn stand(w: &[u32; 12]) -> bool {
+        SystemParameters::stand(w)
+    }
+}
+
+impl FromWords for SettingWords {
+    #[inline(always)]
+    #[tactic(auto, unfolding(pdu_words::specs::FromWords::record_from))]
+    fn from_words(w: &[u32; 12]) -> SettingWords {
+        SettingWords { words: *w }
+    }
 }
 
 #[tactic(auto, unfolding(pdu::specs::Rules::allowed, pdu::specs::Records::spans_of, pdu::specs::Records::size_of, pdu::specs::Settings::data_of, pdu::specs::Settings::data_allowed, pdu::specs::Settings::data_spans, pdu::specs::Settings::data_size))]
