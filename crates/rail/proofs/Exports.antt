@@ -6,8 +6,8 @@ use native.Mathlib.Omega.{arith}
 use lib.ListN.{get_or}
 use Rattle.std.specs.Prelude.{Result, Ok, Err}
 use Rattle.protocol.specs.declared.Refusal.{Refusal}
-use Rattle.protocol.specs.declared.Refusal.TheVariants.{UnfitMemory, TooShort, LengthDiffers, UnknownType, UnknownFlag, FlagsClash, NotFilled, OutsideSet, WrongId, TableFull, NoCell, HistoryFull, TooManySteps, OutputTooSmall, ChunkTooShort, BadChunk, NoPlace, RecordCut, RecordDiffers, WrongEnd, NotPermitted}
 use Rattle.protocol.specs.Refusals.{number_of, says}
+use Rattle.pdu_read.proofs.Answers.{refusal_small}
 use Rattle.pdu_put.specs.WordsWritten.{WordsOutcome}
 use Rattle.pdu_put.proofs.Ways.{bytes_small}
 use Rattle.profile.specs.Counter.{CounterOutcome}
@@ -17,27 +17,7 @@ use Rattle.rail.specs.Exports.{written_reply, Packable, WriteExport}
 
 -- the number of a refusal is one of a byte
 pub number_small : (e : Refusal) → number_of e < 256
-number_small UnfitMemory = omega arith
-number_small TooShort = omega arith
-number_small LengthDiffers = omega arith
-number_small UnknownType = omega arith
-number_small UnknownFlag = omega arith
-number_small FlagsClash = omega arith
-number_small NotFilled = omega arith
-number_small OutsideSet = omega arith
-number_small WrongId = omega arith
-number_small TableFull = omega arith
-number_small NoCell = omega arith
-number_small HistoryFull = omega arith
-number_small TooManySteps = omega arith
-number_small OutputTooSmall = omega arith
-number_small ChunkTooShort = omega arith
-number_small BadChunk = omega arith
-number_small NoPlace = omega arith
-number_small RecordCut = omega arith
-number_small RecordDiffers = omega arith
-number_small WrongEnd = omega arith
-number_small NotPermitted = omega arith
+number_small e = refusal_small e
 
 pub packed_bytes : {a : Result ℕ Refusal} {n : ℕ} → n < 65536 → a ≡ Ok n → n * 65536 ≡ packed_of (written_reply a)
 unfolding packed_of written_reply
