@@ -47,7 +47,7 @@ fewest n r w = in_fewest (suc n) n r (omega arith) w
 
 -- ---- text laid in turns
 
-hex_snoc : (s : List ℕ) (b : ℕ) → hex_text (s ++ (b ∷ [])) ≡ hex_text s ++ (hex_digit (b / 16) ∷ hex_digit (b % 16) ∷ [])
+pub hex_snoc : (s : List ℕ) (b : ℕ) → hex_text (s ++ (b ∷ [])) ≡ hex_text s ++ (hex_digit (b / 16) ∷ hex_digit (b % 16) ∷ [])
 unfolding hex_text
 hex_snoc [] b = refl
 hex_snoc (x ∷ s) b = ap (λ (t : List ℕ). hex_digit (x / 16) ∷ hex_digit (x % 16) ∷ t) (hex_snoc s b)

@@ -12,6 +12,9 @@ ghost use Rattle.print.specs.Texts.{hex_digit, hex_text, decimal_text, signed_te
 use std::io::Write;
 
 pub mod fill;
+mod printed;
+
+pub use printed::{Hex, Parting, Rectangles};
 
 // The lesser of two.
 pub fn least(a: usize, b: usize) -> usize
