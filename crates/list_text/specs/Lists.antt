@@ -1,7 +1,7 @@
 -- The lists of ids as text. Assumes nothing.
 use Rattle.std.specs.Prelude.{ℕ, min, Bool, true, false, List, ◌++◌}
 use Rattle.wire.specs.Tests.{pick}
-use Rattle.print.specs.Texts.{decimal_text, list_text}
+use Rattle.print.specs.Texts.{decimal_text, laid_list_text}
 use Rattle.print.specs.Templates.{ascii}
 use Rattle.ids.specs.declared.NotificationIds.{NotificationIds}
 use Rattle.ids.specs.Typed.{count_in, window_at, notification_at}
@@ -16,7 +16,7 @@ entry_text icons s i = pick icons (pair_text (notification_at s i)) (decimal_tex
 
 -- the first k records of a list, parted by commas
 unfoldable pub entries_text : Bool → List ℕ → ℕ → List ℕ
-entries_text icons s k = list_text 44 (entry_text icons s) k
+entries_text icons s k = laid_list_text 44 (entry_text icons s) k
 
 -- how many a list has, 32 at most
 abbrev pub laid_of : List ℕ → ℕ

@@ -15,7 +15,7 @@ use mathlib.Core.List.{append_assoc}
 use native.Mathlib.Nat.{add-zero}
 use lib.Dec.{eqb}
 use Rattle.wire.specs.Tests.{pick}
-use Rattle.print.specs.Texts.{hex_text, decimal_in, decimal_text, signed_text, parting_text, list_text, numbers_text, rectangle_text, rectangle_at, rectangles_text, printed_list, printed_rectangles}
+use Rattle.print.specs.Texts.{hex_text, decimal_in, decimal_text, signed_text, parting_text, laid_list_text, numbers_text, rectangle_text, rectangle_at, laid_rectangles_text, list_text, rectangles_text}
 use Rattle.print.proofs.Texts.{hex_snoc}
 
 -- ---- decimals: what std prints is the text without zeros in front
@@ -50,8 +50,8 @@ hex_none = refl
 
 -- ---- lists, and rectangles
 
-pub rectangles_none : (ns : List ℕ) → printed_rectangles ns 0 ≡ []
-unfolding printed_rectangles printed_list
+pub rectangles_none : (ns : List ℕ) → rectangles_text ns 0 ≡ []
+unfolding rectangles_text list_text
 rectangles_none ns = refl
 
 pub parting_is : (part k : ℕ) → part < 128 → parting_text part k ≡ pick (eqb k 0) [] (part ∷ [])
@@ -62,28 +62,28 @@ in_turn a b c d = append_assoc (a ++ b) c d ∙ append_assoc a b (c ++ d)
 
 -- four numbers as std prints them
 pub four_is : (ns : List ℕ) (from : ℕ) → ((i : ℕ) → get_or ns i 0 < 2 ^ 64) → numbers_text 44 ns from 4 ≡ rectangle_at ns from
-unfolding numbers_text list_text rectangle_text
+unfolding numbers_text laid_list_text rectangle_text
 four_is ns from small =
     rw (add-zero from, decimal_is (get_or ns from 0) (small from), decimal_is (get_or ns (from + 1) 0) (small (from + 1)), decimal_is (get_or ns (from + 2) 0) (small (from + 2)), decimal_is (get_or ns (from + 3) 0) (small (from + 3)))
     (in_turn (decimal (get_or ns from 0)) (44 ∷ decimal (get_or ns (from + 1) 0)) (44 ∷ decimal (get_or ns (from + 2) 0)) (44 ∷ decimal (get_or ns (from + 3) 0)))
 
-pub list_more : (part : ℕ) (f : ℕ → List ℕ) (k : ℕ) → printed_list part f k ++ (parting_text part k ++ f k) ≡ printed_list part f (k + 1)
-unfolding printed_list
+pub list_more : (part : ℕ) (f : ℕ → List ℕ) (k : ℕ) → list_text part f k ++ (parting_text part k ++ f k) ≡ list_text part f (k + 1)
+unfolding list_text
 list_more part f k = rw (add-one k) refl
 
-pub rectangles_more : (ns : List ℕ) (k : ℕ) → printed_rectangles ns k ++ (parting_text 59 k ++ rectangle_at ns (4 * k)) ≡ printed_rectangles ns (k + 1)
-unfolding printed_rectangles
+pub rectangles_more : (ns : List ℕ) (k : ℕ) → rectangles_text ns k ++ (parting_text 59 k ++ rectangle_at ns (4 * k)) ≡ rectangles_text ns (k + 1)
+unfolding rectangles_text
 rectangles_more ns k = list_more 59 (λ i. rectangle_at ns (4 * i)) k
 
 -- what is printed is what is laid
-pub printed_is : (part : ℕ) (f g : ℕ → List ℕ) (k : ℕ) → part < 128 → ((i : ℕ) → f i ≡ g i) → printed_list part f k ≡ list_text part g k
-unfolding printed_list list_text
-printed_is part f g zero h e = refl
-printed_is part f g (suc k) h e = rw (printed_is part f g k h e, parting_is part k h, e k) refl
+pub list_is : (part : ℕ) (f g : ℕ → List ℕ) (k : ℕ) → part < 128 → ((i : ℕ) → f i ≡ g i) → list_text part f k ≡ laid_list_text part g k
+unfolding list_text laid_list_text
+list_is part f g zero h e = refl
+list_is part f g (suc k) h e = rw (list_is part f g k h e, parting_is part k h, e k) refl
 
-pub rectangles_is : (ns : List ℕ) (k : ℕ) → ((i : ℕ) → get_or ns i 0 < 2 ^ 64) → printed_rectangles ns k ≡ rectangles_text ns k
-unfolding printed_rectangles rectangles_text
-rectangles_is ns k small = printed_is 59 (λ i. rectangle_at ns (4 * i)) (λ i. numbers_text 44 ns (4 * i) 4) k (omega arith) (λ i. sym (four_is ns (4 * i) small))
+pub rectangles_is : (ns : List ℕ) (k : ℕ) → ((i : ℕ) → get_or ns i 0 < 2 ^ 64) → rectangles_text ns k ≡ laid_rectangles_text ns k
+unfolding rectangles_text laid_rectangles_text
+rectangles_is ns k small = list_is 59 (λ i. rectangle_at ns (4 * i)) (λ i. numbers_text 44 ns (4 * i) 4) k (omega arith) (λ i. sym (four_is ns (4 * i) small))
 
 -- the part of a slice that is lent, as far as there is one
 pub part_lent : (s : List ℕ) (from len start end : ℕ) → start ≡ min from (length s) → end ≡ start + min len (length s - start)

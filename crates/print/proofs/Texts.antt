@@ -14,7 +14,7 @@ use Rattle.io.specs.Digits.{last_digits, IsDigitCount, hex_digit_ascii}
 use Rattle.wire.specs.Tests.{pick}
 use Rattle.wire.specs.Parts.{slice}
 use Rattle.print.specs.Laid.{Laid}
-use Rattle.print.specs.Texts.{hex_digit, hex_text, decimal_in, decimal_text, list_text, numbers_text, rectangles_text}
+use Rattle.print.specs.Texts.{hex_digit, hex_text, decimal_in, decimal_text, laid_list_text, numbers_text, laid_rectangles_text}
 use Rattle.print.proofs.Laid.{as_text, then}
 
 glyph_small : (d : ℕ) → d < 10 → hex_digit_ascii d ≡ 48 + d
@@ -60,19 +60,19 @@ module _ {d x y : List ℕ} {at n m : ℕ} where
 
   pub number_next : (part : ℕ) (ns : List ℕ) (from i : ℕ) {v : ℕ} → v ≡ get_or ns (from + i) 0 → Laid d at (numbers_text part ns from i) x n
       → Laid x n (pick (eqb i 0) [] (part ∷ []) ++ decimal_text v) y m → Laid d at (numbers_text part ns from (i + 1)) y m
-  unfolding numbers_text list_text
+  unfolding numbers_text laid_list_text
   number_next part ns from i e l k =
       as_text (rw (add-one i, e)) (then l k)
 
 -- entry i of a list, with the byte that parts it from the one before it
-pub list_next : {d x y z : List ℕ} {at n m k : ℕ} (part : ℕ) (f : ℕ → List ℕ) (i : ℕ) → Laid d at (list_text part f i) x n → Laid x n (pick (eqb i 0) [] (part ∷ [])) y m
-    → Laid y m (f i) z k → Laid d at (list_text part f (i + 1)) z k
-unfolding list_text
+pub list_next : {d x y z : List ℕ} {at n m k : ℕ} (part : ℕ) (f : ℕ → List ℕ) (i : ℕ) → Laid d at (laid_list_text part f i) x n → Laid x n (pick (eqb i 0) [] (part ∷ [])) y m
+    → Laid y m (f i) z k → Laid d at (laid_list_text part f (i + 1)) z k
+unfolding laid_list_text
 list_next part f i l p q = as_text (rw (add-one i)) (then l (then p q))
 
-pub rectangle_next : {d x y z : List ℕ} {at n m k : ℕ} (ns : List ℕ) (i : ℕ) → Laid d at (rectangles_text ns i) x n → Laid x n (pick (eqb i 0) [] (59 ∷ [])) y m
-    → Laid y m (numbers_text 44 ns (4 * i) 4) z k → Laid d at (rectangles_text ns (i + 1)) z k
-unfolding rectangles_text
+pub rectangle_next : {d x y z : List ℕ} {at n m k : ℕ} (ns : List ℕ) (i : ℕ) → Laid d at (laid_rectangles_text ns i) x n → Laid x n (pick (eqb i 0) [] (59 ∷ [])) y m
+    → Laid y m (numbers_text 44 ns (4 * i) 4) z k → Laid d at (laid_rectangles_text ns (i + 1)) z k
+unfolding laid_rectangles_text
 rectangle_next ns i l p q = list_next 59 (λ j. numbers_text 44 ns (4 * j) 4) i l p q
 
 -- ---- a part of a string

@@ -32,17 +32,17 @@ signed_text (pos n) = decimal_text n
 signed_text (negsuc n) = 45 ∷ decimal_text (suc n)
 
 -- the texts of 0, 1 and on, k of them, parted by a byte
-unfoldable pub list_text : ℕ → (ℕ → List ℕ) → ℕ → List ℕ
-list_text part f zero = []
-list_text part f (suc k) = list_text part f k ++ (pick (eqb k 0) [] (part ∷ []) ++ f k)
+unfoldable pub laid_list_text : ℕ → (ℕ → List ℕ) → ℕ → List ℕ
+laid_list_text part f zero = []
+laid_list_text part f (suc k) = laid_list_text part f k ++ (pick (eqb k 0) [] (part ∷ []) ++ f k)
 
 -- k numbers from index from on, parted by a byte: `7,8,9`
 unfoldable pub numbers_text : ℕ → List ℕ → ℕ → ℕ → List ℕ
-numbers_text part ns from k = list_text part (λ i. decimal_text (get_or ns (from + i) 0)) k
+numbers_text part ns from k = laid_list_text part (λ i. decimal_text (get_or ns (from + i) 0)) k
 
 -- k rectangles of four numbers: `1,2,3,4;5,6,7,8`
-unfoldable pub rectangles_text : List ℕ → ℕ → List ℕ
-rectangles_text ns k = list_text 59 (λ i. numbers_text 44 ns (4 * i) 4) k
+unfoldable pub laid_rectangles_text : List ℕ → ℕ → List ℕ
+laid_rectangles_text ns k = laid_list_text 59 (λ i. numbers_text 44 ns (4 * i) 4) k
 
 -- ---- the same as std prints it
 
@@ -60,10 +60,10 @@ abbrev pub rectangle_at : List ℕ → ℕ → List ℕ
 rectangle_at ns from = rectangle_text (get_or ns from 0) (get_or ns (from + 1) 0) (get_or ns (from + 2) 0) (get_or ns (from + 3) 0)
 
 -- the texts of items 0, 1 and on, k of them, each but the first after what parts it from the one before
-unfoldable pub printed_list : ℕ → (ℕ → List ℕ) → ℕ → List ℕ
-printed_list part f zero = []
-printed_list part f (suc k) = printed_list part f k ++ (parting_text part k ++ f k)
+unfoldable pub list_text : ℕ → (ℕ → List ℕ) → ℕ → List ℕ
+list_text part f zero = []
+list_text part f (suc k) = list_text part f k ++ (parting_text part k ++ f k)
 
 -- the first k rectangles of four numbers each: `1,2,30,40;5,6,70,80`
-unfoldable pub printed_rectangles : List ℕ → ℕ → List ℕ
-printed_rectangles ns k = printed_list 59 (λ i. rectangle_at ns (4 * i)) k
+unfoldable pub rectangles_text : List ℕ → ℕ → List ℕ
+rectangles_text ns k = list_text 59 (λ i. rectangle_at ns (4 * i)) k

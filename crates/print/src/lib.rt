@@ -7,7 +7,7 @@ ghost use Rattle.std.specs.Io.KnownBytes.{Appends};
 ghost use Rattle.wire.specs.Parts.{slice};
 ghost use Rattle.wire.specs.Tests.{pick};
 ghost use Rattle.print.specs.Laid.{Laid, laid, after};
-ghost use Rattle.print.specs.Texts.{hex_digit, hex_text, decimal_text, signed_text, numbers_text, rectangles_text};
+ghost use Rattle.print.specs.Texts.{hex_digit, hex_text, decimal_text, signed_text, numbers_text, laid_rectangles_text};
 
 use std::io::Write;
 
@@ -189,7 +189,7 @@ fn rectangle(out: &mut [u8], at: usize, ns: &[u16], from: usize) -> usize
 
 // Rectangles, four numbers each.
 pub fn rectangles(out: &mut [u8], at: usize, ns: &[u16]) -> usize
-    ensures { Laid out.old at (rectangles_text ns.now (length ns.now / 4)) out.new result }
+    ensures { Laid out.old at (laid_rectangles_text ns.now (length ns.now / 4)) out.new result }
 {
     let mut n = at;
     let mut i = 0;

@@ -1,7 +1,7 @@
 // Some of the texts as types whose Display prints them to any writer, with no memory lent.
 ghost use Rattle.std.specs.Prelude.{◌≡◌, Some, ◌/◌, length, take};
 ghost use Rattle.wire.specs.Parts.{slice};
-ghost use Rattle.print.specs.Texts.{hex_text, parting_text, rectangle_text, printed_rectangles};
+ghost use Rattle.print.specs.Texts.{hex_text, parting_text, rectangle_text, rectangles_text};
 
 use std::fmt;
 
@@ -85,7 +85,7 @@ impl<'a> Rectangles<'a> {
 }
 
 impl fmt::Display for Rectangles<'_> {
-    ghost output = { λ r. Some (printed_rectangles r.0.now (length r.0.now / 4)) };
+    ghost output = { λ r. Some (rectangles_text r.0.now (length r.0.now / 4)) };
 
     #[tactic(auto, using(crate::proofs::Steps::rectangles_none, crate::proofs::Steps::rectangles_more))]
     fn fmt<W: fmt::Write>(&self, f: &mut fmt::Formatter<W>) -> fmt::Result {

@@ -4,7 +4,7 @@ use mathlib.Core.Bool.{false}
 use mathlib.Core.List.{[], ◌∷◌}
 use lib.IntN.{pos, negsuc}
 use Rattle.wire.specs.Parts.{slice}
-use Rattle.print.specs.Texts.{hex_text, decimal_in, decimal_text, signed_text, list_text, numbers_text, rectangles_text}
+use Rattle.print.specs.Texts.{hex_text, decimal_in, decimal_text, signed_text, laid_list_text, numbers_text, laid_rectangles_text}
 use Rattle.print.specs.Templates.{ascii, ascii_from, stands_for, next_after, fill_from, fill_text}
 use Rattle.view.specs.declared.Point.{Point}
 use Rattle.view.specs.declared.Pair.{Pair}
@@ -69,5 +69,5 @@ window =
     }
 
 a_window : fields_text (window_id 65624) window ≡ ascii " id=65624 owner=0 style=0 ext=0 show=5 title=4100 client=0,0 client_size=0,0 margin_x=3,4 margin_y=5,6 rp=0 root=0 offset=-100,0 delta=0,0 size=980,700 rects=1,2,30,40 visible=0,0 vis_rects= overlay_text= taskbar=0 server_z=0 app_bar=0 edge=0"
-unfolding fields_text titled_text inner_text outer_text areas_text newest_text looks_text client_text margins_text root_text places_text visible_text bars_text string_text sides_text rectangles_field slice hex_text decimal_text decimal_in signed_text list_text numbers_text rectangles_text ascii ascii_from stands_for next_after fill_from fill_text
+unfolding fields_text titled_text inner_text outer_text areas_text newest_text looks_text client_text margins_text root_text places_text visible_text bars_text string_text sides_text rectangles_field slice hex_text decimal_text decimal_in signed_text laid_list_text numbers_text laid_rectangles_text ascii ascii_from stands_for next_after fill_from fill_text
 a_window = refl
